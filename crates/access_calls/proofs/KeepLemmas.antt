@@ -1,11 +1,13 @@
 -- What each call keeps is kept by calls in a row.
-use Rattle.std.proofs.Common.{◌≡◌, ◌∙◌, ℕ, ◌≤◌, Option, Some, None, refl, sym, ap, subst, arith}
+use Rattle.std.proofs.Common.{◌≡◌, ◌∙◌, ℕ, ◌≤◌, cond, [], ◌∷◌, ◌++◌, Option, Some, None, refl, sym, ap, subst, arith}
+use Rattle.std.specs.Prelude.{is_some}
 use Rattle.dap_base.specs.Causes.{Rose}
-use Rattle.probe_core.proofs.RunLemmas.{keeps_own_runs, keeps_runs_on}
 use Rattle.probe_core.specs.Bench.{BenchState}
 use Rattle.probe_core.specs.Runs.{KeepsRuns}
+use Rattle.probe_core.proofs.StateSteps.{runs_self, runs_then}
 use Rattle.target_calls.specs.NeedPoints.{Asks}
 use Rattle.target_calls.specs.World.{AtLeast}
+use Rattle.target_calls.specs.declared.calls.Ask.{Ask}
 use Rattle.access_calls.specs.Causes.{EndedBy}
 use Rattle.access_calls.specs.GoesOn.{GoesOn, IsSameButAsks, StaysEnded}
 use Rattle.access_calls.specs.Keeps.{Keeps}
@@ -29,7 +31,7 @@ goes_same a = record {
   limits = refl;
   faults = omega arith;
   exchanges = omega arith;
-  runs = keeps_own_runs a.state;
+  runs = runs_self a.state;
   known = omega arith;
   left = λ n left. left;
   ended = stays_same a.end a refl;
@@ -78,7 +80,7 @@ goes_trans a b c first second = record {
   limits = second.limits ∙ first.limits;
   faults = let f = first.faults in let g = second.faults in omega (arith, f, g);
   exchanges = let f = first.exchanges in let g = second.exchanges in omega (arith, f, g);
-  runs = keeps_runs_on a.state b.state c.state first.runs second.runs;
+  runs = runs_then a.state b.state c.state first.runs second.runs;
   known = let f = first.known in let g = second.known in omega (arith, f, g);
   left = λ n left. first.left n (second.left n left);
   ended = stays_then a.end b.end a b c refl refl first.exchanges first.ended second.ended;
@@ -136,3 +138,7 @@ goes_by_fault a b issued confirmed none end limits faults rose exchanges runs kn
     fewer : (n : Option ℕ) → AtLeast b.came n → AtLeast a.came n
     fewer None enough = tt
     fewer (Some n) enough = omega (arith, came, enough)
+
+-- a call that is asked while none has ended is the last of those asked
+pub all_asked : (a b : AccessView) (ask : Ask) → a.end ≡ None → b.asks.calls ≡ cond (is_some a.end) a.asks.calls (a.asks.calls ++ ask ∷ []) → b.asks.calls ≡ a.asks.calls ++ ask ∷ []
+all_asked a b ask none calls = calls ∙ ap (λ (e : Option Stop). cond (is_some e) a.asks.calls (a.asks.calls ++ ask ∷ [])) none

@@ -1,4 +1,5 @@
 pub mod Answers
+pub mod Asking
 pub mod Bounds
 pub mod Causes
 pub mod Copy

@@ -9,7 +9,8 @@ ghost use Rattle.target_calls.specs.Journal.{Entry};
 ghost use Rattle.target_calls.specs.NeedPoints.{Costs, asked, finished, needed, used};
 ghost use Rattle.target_calls.specs.World.{results, small_now, stop};
 ghost use Rattle.target_calls.specs.declared.calls.Ask.{Ask};
-ghost use Rattle.access_calls.specs.Answers.{HasSlot, IsEnd, IsSmallOnly, IsSmallWhere, NoMemory, StopsCalls, StopsSettling, UnchangedByMemory, calls_after, calls_finished};
+ghost use Rattle.access_calls.specs.Answers.{HasSlot, IsEnd, IsSmallOnly, IsSmallWhere, NoMemory, StopsCalls, StopsSettling};
+ghost use Rattle.access_calls.specs.Answers.{UnchangedByMemory, calls_after, calls_finished};
 ghost use Rattle.access_calls.specs.Bounds.{KeepsBoundsIf};
 ghost use Rattle.access_calls.specs.Causes.{KeepsReplyAt};
 ghost use Rattle.access_calls.specs.GoesOn.{GoesOn};
@@ -63,7 +64,8 @@ pub trait Access {
         ensures wide { IfOk result (IsSmallOnly (is_wide unit)) }
         ensures calls { (reported self.new).asks.calls ≡ calls_after (reported self.old) (unit_ask unit forgive) result }
         ensures needs { (m : BenchState) (answered : Option ℕ) → begun self.old m → IsLeft (reported self.new) answered
-            → OnOk result ((reported self.new).asks ≡ asked (cost (target_of m.probe) (reported self.old).asks.calls (unit_ask unit forgive)) (unit_ask unit forgive) (reported self.old).asks) }
+            → OnOk result ((reported self.new).asks
+            ≡ asked (cost (target_of m.probe) (reported self.old).asks.calls (unit_ask unit forgive)) (unit_ask unit forgive) (reported self.old).asks) }
         ensures small { (m : BenchState) (answered : Option ℕ) → begun self.old m → IsLeft (reported self.new) answered
             → IfOk result (IsSmallWhere (small_now (world_from m answered) (reported self.old).asks.calls (unit_ask unit forgive))) }
         ensures stops { (m : BenchState) (answered : Option ℕ) → begun self.old m → IsLeft (reported self.new) answered → (reported self.old).end ≡ None
@@ -85,9 +87,11 @@ pub trait Access {
         ensures bound { IfOk result (λ n. n < 2 ^ 32) }
         ensures calls { (reported self.new).asks.calls ≡ calls_after (reported self.old) (probe_ask call) result }
         ensures needs { (m : BenchState) (answered : Option ℕ) → begun self.old m → IsLeft (reported self.new) answered
-            → OnOk result ((reported self.new).asks ≡ asked (cost (target_of m.probe) (reported self.old).asks.calls (probe_ask call)) (probe_ask call) (reported self.old).asks) }
+            → OnOk result ((reported self.new).asks
+            ≡ asked (cost (target_of m.probe) (reported self.old).asks.calls (probe_ask call)) (probe_ask call) (reported self.old).asks) }
         ensures value { (m : BenchState) (answered : Option ℕ) → begun self.old m → IsLeft (reported self.new) answered
-            → IfOk result (λ n. n ≡ slice_index (results (world_from m answered) ((reported self.old).asks.calls ++ probe_ask call ∷ [])) (length (reported self.old).asks.calls)) }
+            → IfOk result (λ n. n ≡ slice_index (results (world_from m answered) ((reported self.old).asks.calls ++ probe_ask call ∷ []))
+            (length (reported self.old).asks.calls)) }
         ensures whole { (m : BenchState) (answered : Option ℕ) → begun self.old m → IsLeft (reported self.new) answered
             → OnOk result (stop (world_from m answered) ((reported self.old).asks.calls ++ probe_ask call ∷ []) ≡ None) }
         ensures stops { (m : BenchState) (answered : Option ℕ) → begun self.old m → IsLeft (reported self.new) answered → (reported self.old).end ≡ None

@@ -1,7 +1,8 @@
 -- The laws of the journal.
 use Rattle.std.proofs.Common.{◌≡◌, ◌∙◌, ℕ, ◌<◌, ◌⊎◌, inl, inr, Bool, true, false, cond, ◌&&◌, List, [], ◌∷◌, None, refl, sym, ap, subst, arith, length, replicate, get_or, zero, suc, ◌≤◌}
 use Rattle.std.proofs.lemmas.List.{get_or-replicate, length-replicate}
-use Rattle.std.proofs.lemmas.Bool.{cases_lt}
+use Rattle.std.proofs.lemmas.Bool.{cases_lt, and_parts}
+use Rattle.std.proofs.Math.Bool.{and-false}
 use Rattle.target_machine.specs.Plain.{call_done, may_forgive}
 use Rattle.target_machine.specs.Sound.{IsSoundCall}
 use Rattle.target_machine.specs.State.{TargetState}
@@ -41,18 +42,10 @@ alone_course k large t u f forgive (unit.Ap read n addr value) range may =
 alone_course k large t u f forgive (unit.Dp read addr value) range may = absurd (cc)
 alone_course k large t u f forgive (unit.Poll mask value turns) range may = absurd (cc)
 
-pub both_true : (x y : Bool) → (x && y) ≡ true → (x ≡ true) × (y ≡ true)
-both_true true y e = (refl, e)
-both_true false y e = absurd (cc)
-
-both_false : (x : Bool) → (x && false) ≡ false
-both_false true = refl
-both_false false = refl
-
 -- a unit that is not made alone forgives nothing
-strict_unless : (p : Planner) (forgive may : Bool) → (is_alone p forgive && may) ≡ false → (forgive && may) ≡ false
+pub strict_unless : (p : Planner) (forgive may : Bool) → (is_alone p forgive && may) ≡ false → (forgive && may) ≡ false
 strict_unless Managed forgive may e = e
-strict_unless Plain forgive may e = ap (λ (b : Bool). forgive && b) e ∙ both_false forgive
+strict_unless Plain forgive may e = ap (λ (b : Bool). forgive && b) e ∙ and-false forgive
 
 -- Each call goes as it goes alone.
 pub call_course : (p : Planner) (k : Kept) (large : List ℕ) (t u : TargetState) → Follows k large t u → (c : Ask) → IsAskable c → Course (issue_of p u k c) (alone t large c) c.call u
@@ -66,7 +59,7 @@ call_course p k large t u f c ok = by_call c.call ok.sound ok.range
         by_case : (b : Bool) → (is_alone p c.forgive && may_forgive (Access asked)) ≡ b →
             Course (cond b (after_settling u k (alone_at c.forgive asked)) (planned u k asked)) (call_done t large c.forgive (Access asked)) (Access asked) u
         by_case false e = strict_course k large t u f c.forgive asked (strict_unless p c.forgive (may_forgive (Access asked)) e) sound range
-        by_case true e = alone_course k large t u f c.forgive asked range (both_true (is_alone p c.forgive) (may_forgive (Access asked)) e).1
+        by_case true e = alone_course k large t u f c.forgive asked range (and_parts (is_alone p c.forgive) (may_forgive (Access asked)) e).1
 
     by_call : (call : Call) → IsSoundCall call → IsCallInRange call → Course (issue p u k c.forgive call) (call_done t large c.forgive call) call u
     by_call (Access asked) sound range = by_mark asked (is_alone p c.forgive && may_forgive (Access asked)) refl sound range

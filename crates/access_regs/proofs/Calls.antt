@@ -1,5 +1,6 @@
 -- Each call by what is issued for it, against the call alone and at once.
 use Rattle.std.proofs.Common.{◌≡◌, ◌∙◌, ℕ, ◌<◌, ◌⊎◌, inl, inr, Bool, true, false, cond, eqb, not, ◌&&◌, ◌||◌, nat_lt, List, Option, Some, None, refl, sym, ap, subst, arith, is_some}
+use Rattle.std.proofs.lemmas.Bool.{or_parts, not-false}
 use Rattle.target_machine.specs.Plain.{Action, call_done, needs_cfg, may_forgive, CallDone}
 use Rattle.target_machine.specs.Sound.{IsSound}
 use Rattle.target_machine.specs.State.{TargetState}
@@ -63,14 +64,6 @@ module _ (k : Kept) (large : List ℕ) (t u : TargetState) (f : Follows k large 
           subst (λ (b : Bool). Course (cond b first (by_csw u k asked)) (call_done t large false (Access asked)) (Access asked) u) (sym e)
           (narrow_course large size read n address value lt sound.sized sound.aligned k t u f (needs_is ∙ e) (same e))
 
-or_parts : (x y : Bool) → (x || y) ≡ false → (x ≡ false) × (y ≡ false)
-or_parts false y e = (refl, e)
-or_parts true y e = absurd (cc)
-
-not_parts : (x : Bool) → not x ≡ false → x ≡ true
-not_parts true e = refl
-not_parts false e = absurd (cc)
-
 module _ (k : Kept) (large : List ℕ) (t u : TargetState) (f : Follows k large t u) where
   module _ (size : ℕ) (read : Bool) (n address value : ℕ) (sound : IsSound (unit.Memory size read n address value)) (lt : n < 256) where
     abbrev asked : AccessUnit
@@ -84,7 +77,7 @@ module _ (k : Kept) (large : List ℕ) (t u : TargetState) (f : Follows k large 
         let stored : (plans.needs_cfg k asked || not (is_known k.select (select_value n 0))) ≡ false =
         sym (ap (λ (o : Option Unsettled). is_some o && (plans.needs_cfg k asked || not (is_known k.select (select_value n 0)))) some) ∙ e in
         let parts = or_parts (plans.needs_cfg k asked) (not (is_known k.select (select_value n 0))) stored in
-        let known_select : k.select ≡ Some (select_value n 0) = is_known_some k.select (select_value n 0) (not_parts (is_known k.select (select_value n 0)) parts.1) in
+        let known_select : k.select ≡ Some (select_value n 0) = is_known_some k.select (select_value n 0) (not-false (is_known k.select (select_value n 0)) parts.1) in
         let b = f.unsettled s some in
         let both : ◌≡◌ {A = Option ℕ} (Some (select_value s.ap 0)) (Some (select_value n 0)) = sym b.0 ∙ known_select in
         let same : select_value s.ap 0 ≡ select_value n 0 = cc in

@@ -1,6 +1,5 @@
 -- One more call.
 use Rattle.std.proofs.Common.{◌≡◌, ◌∙◌, ℕ, suc, ◌+◌, Bool, true, false, not, ◌&&◌, List, [], ◌∷◌, ◌++◌, length, None, refl, sym, ap, arith, append-nil, append_assoc, length-append}
-use Rattle.std.proofs.lemmas.List.{map-append}
 use Rattle.access_regs.proofs.AllCalls.{call_course, journal_follows}
 use Rattle.access_regs.proofs.Joins.{journal_joins, kept_joins}
 use Rattle.access_regs.proofs.Seams.{after_split}
@@ -19,9 +18,10 @@ use Rattle.target_calls.specs.declared.journal.Part.TheVariants.{Ends, Settles}
 use Rattle.target_machine.proofs.ActionLists.{pass_after}
 use Rattle.target_machine.specs.Lists.{after}
 use Rattle.target_machine.specs.State.{TargetState}
-use Rattle.target_machine.specs.Plain.{Action, acted, given, result_of, Answered, CallEnd, CallDone, Skipped, Faulted, Small}
+use Rattle.target_machine.specs.Plain.{acted, given, result_of, Answered, CallEnd, CallDone, Skipped, Faulted, Small}
 use Rattle.target_machine.specs.declared.access.RegAccess.{RegAccess}
 use Rattle.access_regs.specs.declared.planner.Planner.{Planner}
+use Rattle.access_regs.proofs.Lists.{actions_numbered, numbered_append}
 
 issued_after : (p : Planner) (t : TargetState) (xs ys : List Ask) → issued p t (xs ++ ys) ≡ issued p t xs ++ issued_from p (length xs) (kept_from p nothing_kept t xs) (after t (actions_in (issued p t xs))) ys
 issued_after p t xs ys =
@@ -104,13 +104,6 @@ pub askable_here : (xs : List Ask) (ask : Ask) (ys : List Ask) → AreAskable ((
 askable_here [] ask ys h = h.0
 askable_here (x ∷ xs) ask ys h = askable_here xs ask ys h.1
 
-numbered_both : (n : ℕ) (b : Bool) (xs ys : List Step) → numbered n b (xs ++ ys) ≡ numbered n b xs ++ numbered n b ys
-numbered_both n b xs ys = map-append _ xs ys
-
-pub numbered_actions : (n : ℕ) (b : Bool) (steps : List Step) → actions_in (numbered n b steps) ≡ actions_of steps
-numbered_actions n b [] = refl
-numbered_actions n b (s ∷ steps) = ap (λ (l : List Action). s.action ∷ l) (numbered_actions n b steps)
-
 pub call_answers : CallAnswers
 call_answers p t asks ask more v fresh ok none end =
     let k : Kept = kept_by p t asks in
@@ -122,7 +115,7 @@ call_answers p t asks ask more v fresh ok none end =
     let last : Step = record { part = Ends; action = a.action } in
     let n : ℕ = length asks in
     let leads : List Entry = numbered n (is_forgiving c) a.leads in
-    let own : numbered n (is_forgiving c) (issue_of p u k c).steps ≡ leads ++ numbered n (is_forgiving c) (last ∷ []) = ap (numbered n (is_forgiving c)) a.steps ∙ numbered_both n (is_forgiving c) a.leads (last ∷ []) in
+    let own : numbered n (is_forgiving c) (issue_of p u k c).steps ≡ leads ++ numbered n (is_forgiving c) (last ∷ []) = ap (numbered n (is_forgiving c)) a.steps ∙ numbered_append n (is_forgiving c) a.leads (last ∷ []) in
     let fin : List Entry = numbered (n + 1) false (finish_of p u k c).steps in
     let rest : List Entry = issued_from p (n + 1) (finish_of p u k c).kept (after u (actions_of (steps_at p u k c))) more in
     let before : List Entry = issued p t asks in
@@ -142,7 +135,7 @@ call_answers p t asks ask more v fresh ok none end =
       at = (let x = length-append before leads in let y = numbered_length n (is_forgiving c) a.leads in omega (arith, x, y, steps));
       gives_it =
           ap (λ (s : TargetState). result_of c.call (given (acted s a.action).outcome))
-          (after_split t before leads ∙ ap (after u) (numbered_actions n (is_forgiving c) a.leads) ∙ pass_after u a.at (actions_of a.leads) a.pass)
+          (after_split t before leads ∙ ap (after u) (actions_numbered n (is_forgiving c) a.leads) ∙ pass_after u a.at (actions_of a.leads) a.pass)
           ∙ same;
     }
   where

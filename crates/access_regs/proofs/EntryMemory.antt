@@ -8,6 +8,7 @@ use Rattle.target_calls.specs.Asks.{AreAskable, IsAskable, is_forgiving}
 use Rattle.target_calls.specs.Journal.{Entry, Passes, is_unforgiven, lines_before, target_after}
 use Rattle.target_calls.specs.World.{is_faulted}
 use Rattle.target_calls.specs.declared.calls.Ask.{Ask}
+use Rattle.target_calls.proofs.EntryLemmas.{pass_front}
 use Rattle.access_regs.specs.Alone.{alone, alone_after}
 use Rattle.access_regs.specs.Closed.{HasMade, MemoryAtEntry, closed_after, closed_by, closes}
 use Rattle.access_regs.specs.Follows.{Follows}
@@ -19,7 +20,7 @@ use Rattle.access_regs.proofs.Joins.{later_entries}
 use Rattle.access_regs.proofs.Lists.{Stops, actions_entries, actions_numbered, course_follows, faulted_strict, list_stops, step_follows}
 use Rattle.access_regs.proofs.MemoryPoints.{AllAre, Cut, EntriesKeep, Open, all_numbered, closed_append, cut, entries_keep, faulted_open, finish_keeps, issue_keeps, keep_numbered, kept_at, none_left, open_, same_words, settling_keep, shut, still, strict_one}
 use Rattle.access_regs.proofs.OneEnd.{IsNoEnd, IsSettling, finish_settles, never}
-use Rattle.access_regs.proofs.Seams.{Breaks, InFirst, InSecond, SameFirst, after_split, one_first, passes_both, passes_first, passes_none, passes_second, seam_in}
+use Rattle.access_regs.proofs.Seams.{Breaks, InFirst, InSecond, SameFirst, after_split, one_first, passes_both, passes_none, passes_second, seam_in}
 use Rattle.access_regs.proofs.StopLists.{call_passes, ends_how, lines_own, not_faulted, numbered_unit}
 
 -- The memory that the calls leave which have their lines before an entry; or that of the next call too, whose own access or skip came.
@@ -259,7 +260,7 @@ module _ (p : Planner) (n units : ℕ) (k : Kept) (large : List ℕ) (t u : Targ
 
   at_finish : (front back : List Entry) (e : Entry) (more : List Entry) → Passes u front → front ≡ own ++ back → fin ≡ back ++ e ∷ more → Both front e
   at_finish front back e more pass front_is is =
-      let ne = not_faulted p n k large t u f c cs ok (passes_first u own back (subst (Passes u) front_is pass)) in
+      let ne = not_faulted p n k large t u f c cs ok (pass_front u own back (subst (Passes u) front_is pass)) in
       let lines : lines_before e ≡ n + 1 = lines_own (n + 1) e (numbered_unit (n + 1) false (finish_of p u k c).steps back e more is) in
       let longer : front ++ e ∷ [] ≡ own ++ (back ++ e ∷ []) = ap (λ (l : List Entry). l ++ e ∷ []) front_is ∙ append_assoc own back (e ∷ []) in
       let all : es ≡ front ++ e ∷ more = ap (λ (l : List Entry). own ++ l) is ∙ sym (append_assoc own back (e ∷ more)) ∙ ap (λ (l : List Entry). l ++ e ∷ more) (sym front_is) in
@@ -273,7 +274,7 @@ module _ (p : Planner) (n units : ℕ) (k : Kept) (large : List ℕ) (t u : Targ
   at_later : (front back : List Entry) (e : Entry) (more : List Entry) → Passes u front → front ≡ es ++ back → rest ≡ back ++ e ∷ more → Later → Both front e
   at_later front back e more pass front_is is again =
       let all : Passes u (es ++ back) = subst (Passes u) front_is pass in
-      let ne = not_faulted p n k large t u f c cs ok (passes_first u own fin (passes_first u es back all)) in
+      let ne = not_faulted p n k large t u f c cs ok (pass_front u own fin (pass_front u es back all)) in
       let passed : Passes v back = subst (λ (s : TargetState). Passes s back) whole (passes_second u es back all) in
       let h = again ne back e more passed is in
       let le : n + 1 ≤ lines_before e = all_at (λ (x : Entry). n + 1 ≤ lines_before x) back e more (subst (AllByRecursion (λ (x : Entry). n + 1 ≤ lines_before x)) is (later_entries p (n + 1) (finish_of p u k c).kept v cs)) in

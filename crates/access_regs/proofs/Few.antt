@@ -3,6 +3,7 @@ use Rattle.std.proofs.Common.{◌≡◌, ◌≢◌, ◌∙◌, ℕ, ◌+◌, ◌
 use Rattle.std.proofs.lemmas.List.{length-append}
 use Rattle.std.proofs.Math.Nat.{mul-suc}
 use Rattle.std.proofs.lemmas.Bool.{eq-eqb, ne_eqb, le-ltb}
+use Rattle.std.proofs.Math.Bool.{and-false}
 use Rattle.target_machine.specs.Plain.{Makes, drw_of, ap_access_of, select_of}
 use Rattle.target_machine.specs.State.{TargetState}
 use Rattle.target_machine.specs.declared.access.RegAccess.{RegAccess}
@@ -188,10 +189,6 @@ pub record Ready (size m address : ℕ) (k : Kept) : Type 0 where
   pub tar : is_known (known k m).tar (address % 2 ^ 32) ≡ true
   pub narrow : (nat_lt 0xFFFF_FFFF address && not (known k m).large) ≡ false
 
-and_false : (b : Bool) → (b && false) ≡ false
-and_false true = refl
-and_false false = refl
-
 low_next : (address size : ℕ) → address % 1024 + size < 1024 → (address + size) % 2 ^ 32 ≡ address % 2 ^ 32 + size
 low_next address size fits = omega arith
 
@@ -208,7 +205,7 @@ module _ (size m address : ℕ) (read : Bool) (value : ℕ) where
   ready_settle : (k : Kept) → Ready size m address k → needs_settle k unit_here ≡ false
   ready_settle k r =
       ap (λ (b : Bool). is_some k.unsettled && (b || not (is_known k.select (select_value m 0)))) r.narrow
-      ∙ ap (λ (b : Bool). is_some k.unsettled && not b) r.select ∙ and_false (is_some k.unsettled)
+      ∙ ap (λ (b : Bool). is_some k.unsettled && not b) r.select ∙ and-false (is_some k.unsettled)
 
   pub ready_plan : (t : TargetState) (k : Kept) → Ready size m address k → planned t k unit_here ≡ by_plan k unit_here
   ready_plan t k r =
@@ -235,7 +232,7 @@ module _ (size m address : ℕ) (read : Bool) (value : ℕ) where
   made_high false o h e = refl
 
   made_narrow : (l : Bool) → (l ≡ true) ⊎ (address + size < 2 ^ 32) → (nat_lt 0xFFFF_FFFF (address + size) && not l) ≡ false
-  made_narrow l (inl e) = ap (λ (b : Bool). nat_lt 0xFFFF_FFFF (address + size) && not b) e ∙ and_false (nat_lt 0xFFFF_FFFF (address + size))
+  made_narrow l (inl e) = ap (λ (b : Bool). nat_lt 0xFFFF_FFFF (address + size) && not b) e ∙ and-false (nat_lt 0xFFFF_FFFF (address + size))
   made_narrow l (inr less) = ap (λ (b : Bool). b && not l) (le-ltb 0xFFFF_FFFF (address + size) (omega arith))
 
   pub made_ready : (k : Kept) → m < length k.ports → 0 < size → address % 1024 + size < 1024 → ((known k m).large ≡ true) ⊎ (address + size < 2 ^ 32) → Ready size m (address + size) (made k unit_here)
@@ -308,7 +305,7 @@ some_size size (inr (inl e)) = omega arith
 some_size size (inr (inr e)) = omega arith
 
 pub start_narrow : (l : Bool) (address : ℕ) → (l ≡ true) ⊎ (address < 2 ^ 32) → (nat_lt 0xFFFF_FFFF address && not l) ≡ false
-start_narrow l address (inl e) = ap (λ (b : Bool). nat_lt 0xFFFF_FFFF address && not b) e ∙ and_false (nat_lt 0xFFFF_FFFF address)
+start_narrow l address (inl e) = ap (λ (b : Bool). nat_lt 0xFFFF_FFFF address && not b) e ∙ and-false (nat_lt 0xFFFF_FFFF address)
 start_narrow l address (inr less) = ap (λ (b : Bool). b && not l) (le-ltb 0xFFFF_FFFF address (omega arith))
 
 pub start_where : (l : Bool) (address size n : ℕ) → (l ≡ true) ⊎ (address < 2 ^ 32) → address % 1024 + size * n ≤ 1024 → (l ≡ true) ⊎ (address + size * n ≤ 2 ^ 32)

@@ -1,6 +1,7 @@
 -- A unit made alone, where nothing is unsettled: it is made by the accesses of the plain unit.
 use Rattle.std.proofs.Common.{◌≡◌, ◌≢◌, ◌∙◌, ℕ, ◌/◌, ◌%◌, ◌^◌, ◌<◌, ◌⊎◌, inl, inr, Bool, true, false, cond, not, ◌&&◌, ◌||◌, nat_lt, List, [], ◌∷◌, ◌++◌, Option, None, refl, sym, ap, subst, arith, length, append_assoc}
-use Rattle.std.proofs.lemmas.Bool.{eq-eqb, cases_eq}
+use Rattle.std.proofs.lemmas.Bool.{eq-eqb, cases_eq, both_ways}
+use Rattle.std.proofs.Math.Bool.{and-false}
 use Rattle.target_machine.specs.Attempt.{Attempt, attempt, done, is_free}
 use Rattle.target_machine.specs.Laws.{Alike}
 use Rattle.target_machine.specs.Plain.{Action, Makes, Polls, Commands, acted, in_order, is_fault, given, issued, contains, select_of, ap_access_of, drw_of, needs_cfg, has_large, unit_actions, call_done, ended, result_of, large_after, is_small, commanded, forgives, CallDone, Answered, Faulted, Skipped}
@@ -24,11 +25,11 @@ use Rattle.access_regs.proofs.FollowsFacts.{planned_clear}
 use Rattle.access_regs.proofs.Agreeing.{follows_facts, forgotten_true, whole_from}
 use Rattle.access_regs.proofs.Wide.{contains_last, contains_other}
 use Rattle.target_machine.proofs.ActionAgreement.{in_order_alike}
-use Rattle.target_machine.proofs.ActionLists.{order_fault, order_from, pass_last, after_append, after_issued, issued_pass}
+use Rattle.target_machine.proofs.ActionLists.{order_fault, order_from, pass_last, after_append, after_issued, issued_pass, order_next}
 use Rattle.target_machine.specs.Lists.{after, PassTo, SpareRdbuff}
 use Rattle.target_calls.specs.Journal.{settles}
 use Rattle.target_calls.specs.declared.journal.Part.TheVariants.{Settles, Leads, Ends, Skips}
-use Rattle.access_regs.proofs.Runs.{Left, Step', order_step, run_left}
+use Rattle.access_regs.proofs.Runs.{Left, Step', run_left}
 use Rattle.access_regs.proofs.MemoryShape.{csw_at, left_shape, memory_shape, quiet_shape, shape, shape_front, shape_last, shape_same}
 
 -- ---- any unit that may be forgiven
@@ -50,7 +51,7 @@ pub parts_append : (early : Bool) (asked : AccessUnit) (xs ys : List Action) →
 parts_append early asked [] ys = refl
 parts_append early asked (x ∷ xs) ys = ap (λ (l : List Step). record { part = part_of early asked x; action = x } ∷ l) (parts_append early asked xs ys)
 
-never_settles : (early : Bool) (asked : AccessUnit) (x : Action) → settles (part_of early asked x) ≡ false
+pub never_settles : (early : Bool) (asked : AccessUnit) (x : Action) → settles (part_of early asked x) ≡ false
 never_settles early asked (Makes a) = by_last (is_last asked a)
   where
     by_last : (b : Bool) → settles (cond b Ends Leads) ≡ false
@@ -59,14 +60,10 @@ never_settles early asked (Makes a) = by_last (is_last asked a)
 never_settles early asked (Polls m w n) = refl
 never_settles early asked (Commands c) = refl
 
-and_false : (b : Bool) → (b && false) ≡ false
-and_false true = refl
-and_false false = refl
-
 all_pass : (early : Bool) (asked : AccessUnit) (u : TargetState) (xs : List Action) → IsPassing u (parts_of early asked xs)
 all_pass early asked u [] = tt
 all_pass early asked u (x ∷ xs) =
-    (ap (λ (b : Bool). is_fault (acted u x).outcome && b) (never_settles early asked x) ∙ and_false (is_fault (acted u x).outcome), all_pass early asked (acted u x).next xs)
+    (ap (λ (b : Bool). is_fault (acted u x).outcome && b) (never_settles early asked x) ∙ and-false (is_fault (acted u x).outcome), all_pass early asked (acted u x).next xs)
 
 pub select_append : (written : Option ℕ) (xs ys : List Action) → select_after written (xs ++ ys) ≡ select_after (select_after written xs) ys
 select_append written [] ys = refl
@@ -82,10 +79,6 @@ split_pass : (t : TargetState) (xs : List Action) (a : Action) (v : TargetState)
 split_pass t [] a v h = record { at = t; pass = refl; good = h.0; is = h.1 }
 split_pass t (x ∷ xs) a v h = let s = split_pass (acted t x).next xs a v h.1 in record { at = s.at; pass = (h.0, s.pass); good = s.good; is = s.is }
 
-both_ways : (b : Bool) → b ≡ true → b ≡ false → ⊥
-both_ways true e h = cc
-both_ways false e h = cc
-
 -- actions of which one faults: those before it pass, and it is the last that is issued
 record Faults (m : Attempt) (xs : List Action) : Type 0 where
   front : List Action
@@ -97,8 +90,8 @@ record Faults (m : Attempt) (xs : List Action) : Type 0 where
   last : order_from m xs ≡ acted at action
 
 faults_from : (xs : List Action) (m : Attempt) → is_fault m.outcome ≡ false → is_fault (order_from m xs).outcome ≡ true → Faults m xs
-faults_from [] m good bad = absurd (both_ways (is_fault m.outcome) bad good)
-faults_from (y ∷ xs) m good bad = by_first (is_fault (acted m.next y).outcome) refl (λ e. faults_from xs (acted m.next y) e (ap (λ (z : Attempt). is_fault z.outcome) (sym (order_step m y xs good)) ∙ bad))
+faults_from [] m good bad = absurd (both_ways (is_fault m.outcome) good bad)
+faults_from (y ∷ xs) m good bad = by_first (is_fault (acted m.next y).outcome) refl (λ e. faults_from xs (acted m.next y) e (ap (λ (z : Attempt). is_fault z.outcome) (sym (order_next m y xs good)) ∙ bad))
   where
     by_first : (b : Bool) → is_fault (acted m.next y).outcome ≡ b → (is_fault (acted m.next y).outcome ≡ false → Faults (acted m.next y) xs) → Faults m (y ∷ xs)
     by_first true e again = record {
@@ -108,7 +101,7 @@ faults_from (y ∷ xs) m good bad = by_first (is_fault (acted m.next y).outcome)
       is = ap (λ (b : Bool). y ∷ cond b [] (issued (acted m.next y).next xs)) e;
       pass = refl;
       bad = e;
-      last = order_step m y xs good ∙ order_fault (acted m.next y) xs e;
+      last = order_next m y xs good ∙ order_fault (acted m.next y) xs e;
     }
     by_first false e again =
         let r = again e in
@@ -119,7 +112,7 @@ faults_from (y ∷ xs) m good bad = by_first (is_fault (acted m.next y).outcome)
           is = ap (λ (b : Bool). y ∷ cond b [] (issued (acted m.next y).next xs)) e ∙ ap (λ (l : List Action). y ∷ l) r.is;
           pass = (e, r.pass);
           bad = r.bad;
-          last = order_step m y xs good ∙ r.last;
+          last = order_next m y xs good ∙ r.last;
         }
 
 -- the last access of a list is the one that the unit is for
@@ -262,7 +255,7 @@ module _ (k : Kept) (large : List ℕ) (t u : TargetState) (f : Follows k large 
       x = faults_from xs (done u) refl bad
 
       own : (early : Bool) → part_of early asked x.action ≢ Settles
-      own early e = let settling : settles (part_of early asked x.action) ≡ true = ap settles e in absurd (both_ways (settles (part_of early asked x.action)) settling (never_settles early asked x.action))
+      own early e = let settling : settles (part_of early asked x.action) ≡ true = ap settles e in absurd (both_ways (settles (part_of early asked x.action)) (never_settles early asked x.action) settling)
 
       abbrev leads : Bool → List Step
       leads early = parts_of early asked x.front

@@ -24,6 +24,7 @@ use Rattle.access_regs.proofs.MemoryShape as memory
 use Rattle.access_regs.proofs.Keeps.{settle_keep}
 use Rattle.access_regs.proofs.FollowsFacts.{planned_clear}
 use Rattle.target_machine.specs.Lists.{after}
+use Rattle.dap_base.proofs.Basics.{first_true}
 
 -- Leads, and then at most the access that the unit is for.
 abbrev Leading : AccessUnit → List Action → Type 0
@@ -159,10 +160,6 @@ parts_ended early asked true false small x next large actions P with_ without = 
 parts_ended early asked false forgive true x next large actions P with_ without = subst P (append-nil (parts_of early asked actions)) without
 parts_ended early asked false forgive false x next large actions P with_ without = subst P (append-nil (parts_of early asked actions)) without
 
-both_first : (x y : Bool) → (x && y) ≡ true → x ≡ true
-both_first true y e = refl
-both_first false y e = absurd (cc)
-
 -- from where it is made, and from any bank without memory
 pub record AloneKeeps (P : Part → Type 0) (v : TargetState) (k : Kept) (forgive : Bool) (asked : AccessUnit) : Type 0 where
   pub one : OneEnd P (alone_at forgive asked v k).steps
@@ -198,7 +195,7 @@ module _ (P : Part → Type 0) (forgive : Bool) (may_skip : forgive ≡ true →
 
       by_end : (Q : List Step → Type 0) → ((ys : List Step) → AreSkips P ys → Q (parts_of early here (issued v (unit_actions v large here)) ++ ys)) → Q (alone_at forgive here v k).steps
       by_end Q each = parts_ended early here (is_fault ran.outcome) (forgive && true) (is_small v large (Access here)) (result_of (Access here) (given ran.outcome)) ran.next (large_after v large (Access here)) (issued v (unit_actions v large here)) Q
-          (λ e. each (skip early ∷ []) (may_skip (both_first forgive true e) early)) (each [] (no_skips P))
+          (λ e. each (skip early ∷ []) (may_skip (first_true forgive true e) early)) (each [] (no_skips P))
 
   port_keeps : (v : TargetState) (k : Kept) (read : Bool) (n addr value : ℕ) → AloneKeeps P v k forgive (unit.Ap read n addr value)
   unfolding call_done
@@ -251,7 +248,7 @@ module _ (P : Part → Type 0) (forgive : Bool) (may_skip : forgive ≡ true →
 
       by_end : (Q : List Step → Type 0) → ((ys : List Step) → AreSkips P ys → Q (parts_of early here (issued v (unit_actions v large here)) ++ ys)) → Q (alone_at forgive here v k).steps
       by_end Q each = parts_ended early here (is_fault ran.outcome) (forgive && true) (is_small v large (Access here)) (result_of (Access here) (given ran.outcome)) ran.next (large_after v large (Access here)) (issued v (unit_actions v large here)) Q
-          (λ e. each (skip early ∷ []) (may_skip (both_first forgive true e) early)) (each [] (no_skips P))
+          (λ e. each (skip early ∷ []) (may_skip (first_true forgive true e) early)) (each [] (no_skips P))
 
   alone_keeps : (v : TargetState) (k : Kept) (asked : AccessUnit) → IsUnitInRange asked → may_forgive (Access asked) ≡ true → AloneKeeps P v k forgive asked
   alone_keeps v k (unit.Memory size read n address value) range may = memory_keeps v k size read n address value range.0

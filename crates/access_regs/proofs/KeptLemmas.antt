@@ -74,7 +74,7 @@ ended_select old true false small x next large actions = refl
 ended_select old false forgive true x next large actions = refl
 ended_select old false forgive false x next large actions = refl
 
-ended_large : (b forgive small : Bool) (x : ℕ) (next : TargetState) (large : List ℕ) (actions : List Action) → (ended b forgive small x next large actions).large ≡ large
+pub ended_large : (b forgive small : Bool) (x : ℕ) (next : TargetState) (large : List ℕ) (actions : List Action) → (ended b forgive small x next large actions).large ≡ large
 ended_large true true small x next large actions = refl
 ended_large true false small x next large actions = refl
 ended_large false forgive true x next large actions = refl

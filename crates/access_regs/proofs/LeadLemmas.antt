@@ -1,5 +1,6 @@
 -- What comes before the access that a forgiving unit is for.
 use Rattle.std.proofs.Common.{◌≡◌, Bool, true, false, List, [], ◌∷◌, refl, sym, ap, subst, arith}
+use Rattle.std.proofs.lemmas.Bool.{both_ways}
 use Rattle.access_regs.proofs.Memory.{csw_reads, no_power}
 use Rattle.access_regs.proofs.Port.{Selects}
 use Rattle.access_regs.proofs.Select.{select_write, selected_is}
@@ -20,10 +21,6 @@ pass_good u v (x ∷ xs) h = (h.0, pass_good (acted u (Makes x)).next v xs h.1)
 pub select_is_good : SelectIsGood
 select_is_good t n bank port banked clear = (ap (λ (x : Attempt). is_fault x.outcome) (select_write n bank port banked t clear), tt)
 
-clash : (b : Bool) → b ≡ true → b ≡ false → ⊥
-clash true e f = cc
-clash false e f = cc
-
 pub leads_are_good : LeadsAreGood
 leads_are_good t n csw address large port clear good =
     let s : attempt t (select_of n 0) ≡ done (record t { select = select_value n 0 }) = select_write n 0 port (omega arith) t clear in
@@ -32,7 +29,7 @@ leads_are_good t n csw address large port clear good =
     (by_power (record t { select = select_value n 0 }) clear refl (subst (λ (v : TargetState). is_fault (attempt v (ap_access_of true 0 0)).outcome ≡ false) at good) (acknowledges (record t { select = select_value n 0 }) 0x1000_0000) refl)
   where
     by_power : (v : TargetState) → v.sticky ≡ false → v.select ≡ select_value n 0 → is_fault (attempt v (ap_access_of true 0 0)).outcome ≡ false → (b : Bool) → acknowledges v 0x1000_0000 ≡ b → NoneFault (attempt v (ap_access_of true 0 0)).next (before_drw csw large address)
-    by_power v clear at good false power = absurd (clash (is_fault (attempt v (ap_access_of true 0 0)).outcome) (ap (λ (x : Attempt). is_fault x.outcome) (no_power v (ap_access_of true 0 0) clear power refl)) good)
+    by_power v clear at good false power = absurd (both_ways (is_fault (attempt v (ap_access_of true 0 0)).outcome) good (ap (λ (x : Attempt). is_fault x.outcome) (no_power v (ap_access_of true 0 0) clear power refl)))
     by_power v clear at good true power =
         let sel : Selects v n = selected_is v n port clear power at in
         let r = csw_reads v n sel in

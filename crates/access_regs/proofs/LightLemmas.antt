@@ -3,7 +3,7 @@ use Rattle.std.proofs.Common.{◌≡◌, ℕ, zero, suc, ◌+◌, ◌*◌, ◌/�
 use Rattle.access_regs.specs.Journal.{Issue, Step, actions_of, after_settling, alone_at, before, by_cfg, by_cfg_read, by_csw, by_plan, done_alone, entries_at, finish, finish_of, gives, is_alone, is_early, issue, issue_of, issued_from, large_of, last_action, making, numbered, parts_of, planned, port_of, steps_at, steps_of}
 use Rattle.access_regs.specs.Kept.{Kept, csw_of, is_known, known, nothing_kept}
 use Rattle.access_regs.specs.Light.{JournalIsLight}
-use Rattle.access_regs.specs.Plan.{cfg_plan, csw_needed, first_plan, high_needed, planned_csw, tar_needed, leads, learned, learned_cfg, needs_cfg, needs_csw, needs_settle, port_writes, select_needed, settle, settled, settling, unless}
+use Rattle.access_regs.specs.Plan.{cfg_plan, csw_needed, first_plan, high_needed, planned_csw, tar_needed, leads, learned, learned_cfg, needs_cfg, needs_csw, needs_settle, port_writes, select_needed, settle, settled, settling}
 use Rattle.access_regs.specs.declared.known.Unsettled.{Unsettled}
 use Rattle.access_regs.specs.declared.planner.Planner.{Planner}
 use Rattle.target_calls.specs.Asks.{AreAskable}
@@ -13,8 +13,10 @@ use Rattle.target_calls.specs.declared.calls.Ask.{Ask}
 use Rattle.target_calls.specs.declared.journal.Part.{Part}
 use Rattle.target_calls.specs.declared.journal.Part.TheVariants.{Ends, Leads, Settles}
 use Rattle.access_regs.proofs.Lists.{actions_entries}
+use Rattle.access_regs.proofs.Few.{few_unless}
 use Rattle.target_calls.proofs.EntryLemmas.{delay_few, weight_append}
 use Rattle.dap_base.specs.Bits.{has_bit}
+use Rattle.dap_base.proofs.Basics.{second_true}
 use Rattle.target_machine.specs.Attempt.{attempt}
 use Rattle.target_machine.specs.Lists.{after}
 use Rattle.target_machine.specs.Plain.{Action, Makes, Polls, Commands, Polled, acted, is_fault, looked, polled, dp_read_of, issued as made_of, call_done, ended, forgives, cfg_actions, memory_actions, after_cfg, unit_actions, has_large, needs_cfg as wants_cfg, contains, may_forgive, in_order, ap_access_of}
@@ -36,7 +38,7 @@ most (Makes a) = 1
 most (Polls mask requested turns) = turns
 most (Commands c) = commands_for c
 
-looked_few : (o : Outcome) (t : TargetState) (mask requested n : ℕ) (rest : Polled) → rest.reads ≤ n → (looked o t mask requested rest).reads ≤ suc n
+pub looked_few : (o : Outcome) (t : TargetState) (mask requested n : ℕ) (rest : Polled) → rest.reads ≤ n → (looked o t mask requested rest).reads ≤ suc n
 looked_few (Value v) t mask requested n rest le = one (eqb (bit_and v mask) requested)
   where
     one : (b : Bool) → (cond b (record { outcome = Value 1; reads = 1; next = t }) (record rest { reads = rest.reads + 1 })).reads ≤ suc n
@@ -45,7 +47,7 @@ looked_few (Value v) t mask requested n rest le = one (eqb (bit_and v mask) requ
 looked_few Done t mask requested n rest le = omega (arith, le)
 looked_few Fault t mask requested n rest le = omega arith
 
-polled_few : (turns mask requested : ℕ) (t : TargetState) → (polled turns mask requested t).reads ≤ turns
+pub polled_few : (turns mask requested : ℕ) (t : TargetState) → (polled turns mask requested t).reads ≤ turns
 unfolding polled
 polled_few zero mask requested t = omega arith
 polled_few (suc turns) mask requested t =
@@ -88,11 +90,7 @@ parts_most early asked (x ∷ xs) = let e = parts_most early asked xs in omega (
 
 -- ---- what a unit issues
 
-unless_short : (b : Bool) (a : RegAccess) → length (unless b a) ≤ 1
-unless_short true a = omega arith
-unless_short false a = omega arith
-
-settle_short : (k : Kept) → length (settle k) ≤ 2
+pub settle_short : (k : Kept) → length (settle k) ≤ 2
 settle_short k = by_unsettled k.unsettled
   where
     by_unsettled : (o : Option Unsettled) → length (settling k o) ≤ 2
@@ -102,7 +100,7 @@ settle_short k = by_unsettled k.unsettled
 then_one : (xs : List RegAccess) (a : RegAccess) (n : ℕ) → length xs ≤ n → length (xs ++ a ∷ []) ≤ n + 1
 then_one xs a n le = let e = length-append xs (a ∷ []) in omega (arith, e, le)
 
-leads_short : (k : Kept) (asked : AccessUnit) → length (leads k asked) ≤ 4
+pub leads_short : (k : Kept) (asked : AccessUnit) → length (leads k asked) ≤ 4
 leads_short k (unit.Memory size read n address value) =
     let s : List RegAccess = select_needed k n 0 in
     let c = length-append s (port_writes (known k n) size address) in
@@ -111,7 +109,7 @@ leads_short k (unit.Memory size read n address value) =
     omega (arith, a, b, c)
   where
     short_select : (k : Kept) (n bank : ℕ) → length (select_needed k n bank) ≤ 1
-    short_select k n bank = unless_short _ _
+    short_select k n bank = few_unless _ _
 
     three : (x y z : List RegAccess) → length x ≤ 1 → length y ≤ 1 → length z ≤ 1 → length (x ++ (y ++ z)) ≤ 3
     three x y z a b c = let e = length-append x (y ++ z) in let f = length-append y z in omega (arith, a, b, c, e, f)
@@ -120,10 +118,10 @@ leads_short k (unit.Memory size read n address value) =
     short_writes k n size address =
         let n' = known k n in
         three (csw_needed n' size) (high_needed n' address) (tar_needed n' address)
-        (unless_short (is_known n'.csw (planned_csw (csw_of n') size)) (ap_access_of false 0 (planned_csw (csw_of n') size)))
-        (unless_short (not n'.large || is_known n'.high (address / 2 ^ 32)) (ap_access_of false 8 (address / 2 ^ 32)))
-        (unless_short (is_known n'.tar (address % 2 ^ 32)) (ap_access_of false 4 (address % 2 ^ 32)))
-leads_short k (unit.Ap read n addr value) = let s : length (select_needed k n (addr / 16)) ≤ 1 = unless_short _ _ in omega (arith, s)
+        (few_unless (is_known n'.csw (planned_csw (csw_of n') size)) (ap_access_of false 0 (planned_csw (csw_of n') size)))
+        (few_unless (not n'.large || is_known n'.high (address / 2 ^ 32)) (ap_access_of false 8 (address / 2 ^ 32)))
+        (few_unless (is_known n'.tar (address % 2 ^ 32)) (ap_access_of false 4 (address % 2 ^ 32)))
+leads_short k (unit.Ap read n addr value) = let s : length (select_needed k n (addr / 16)) ≤ 1 = few_unless _ _ in omega (arith, s)
 leads_short k (unit.Dp read addr value) = omega arith
 leads_short k (unit.Poll mask value turns) = omega arith
 
@@ -145,7 +143,7 @@ csw_light : (t : TargetState) (k : Kept) (asked : AccessUnit) → most_of (by_cs
 csw_light t k asked =
     let l : Kept = learned k (port_of asked) (gives t (first_plan k (port_of asked))) in
     let x : most_of (before (steps_of Leads (first_plan k (port_of asked))) (by_plan l asked)).steps ≤ 2 + (4 + most (last_action asked)) =
-    before_light (first_plan k (port_of asked)) (by_plan l asked) Leads 2 (4 + most (last_action asked)) (then_one (select_needed k (port_of asked) 0) _ 1 (unless_short _ _)) (plan_light l asked) in
+    before_light (first_plan k (port_of asked)) (by_plan l asked) Leads 2 (4 + most (last_action asked)) (then_one (select_needed k (port_of asked) 0) _ 1 (few_unless _ _)) (plan_light l asked) in
     let y = plan_light k asked in
     either_light (needs_csw k asked) _ (by_plan k asked) (6 + most (last_action asked)) (omega (arith, x)) (omega (arith, y))
 
@@ -158,7 +156,7 @@ cfg_light : (t : TargetState) (k : Kept) (asked : AccessUnit) → most_of (by_cf
 cfg_light t k asked =
     let r : Issue = by_cfg_read (after t (making (cfg_plan k (port_of asked)))) k asked (gives t (cfg_plan k (port_of asked))) in
     let x : most_of (before (steps_of Leads (cfg_plan k (port_of asked))) r).steps ≤ 2 + (6 + most (last_action asked)) =
-    before_light (cfg_plan k (port_of asked)) r Leads 2 (6 + most (last_action asked)) (then_one (select_needed k (port_of asked) 15) _ 1 (unless_short _ _))
+    before_light (cfg_plan k (port_of asked)) r Leads 2 (6 + most (last_action asked)) (then_one (select_needed k (port_of asked) 15) _ 1 (few_unless _ _))
     (read_light (after t (making (cfg_plan k (port_of asked)))) k asked (gives t (cfg_plan k (port_of asked)))) in
     let y = csw_light t k asked in
     either_light (needs_cfg k asked) _ (by_csw t k asked) (8 + most (last_action asked)) (omega (arith, x)) (omega (arith, y))
@@ -223,10 +221,6 @@ alone_light t k forgive asked e =
 
 -- ---- calls
 
-both_true : (x y : Bool) → (x && y) ≡ true → y ≡ true
-both_true true y e = e
-both_true false y e = absurd (cc)
-
 last_light : (asked : AccessUnit) → IsSoundCall (Access asked) → most (last_action asked) ≤ 60000000
 last_light (unit.Memory size read n address value) h = omega arith
 last_light (unit.Ap read n addr value) h = omega arith
@@ -244,7 +238,7 @@ issue_light : (p : Planner) (t : TargetState) (k : Kept) (forgive : Bool) (call 
 issue_light p t k forgive (Access asked) h = by_mark (is_alone p forgive && may_forgive (Access asked)) refl
   where
     by_mark : (b : Bool) → (is_alone p forgive && may_forgive (Access asked)) ≡ b → most_of (cond b (after_settling t k (alone_at forgive asked)) (planned t k asked)).steps ≤ 60000010
-    by_mark true e = (let x = settling_light t k (alone_at forgive asked) 9 (λ u l. alone_light u l forgive asked (both_true (is_alone p forgive) (may_forgive (Access asked)) e)) in omega (arith, x))
+    by_mark true e = (let x = settling_light t k (alone_at forgive asked) 9 (λ u l. alone_light u l forgive asked (second_true (is_alone p forgive) (may_forgive (Access asked)) e)) in omega (arith, x))
     by_mark false e = (let x = planned_light t k asked in let y = last_light asked h in omega (arith, x, y))
 issue_light p t k forgive (Probe c) h = let x = command_light c h in omega (arith, x)
 

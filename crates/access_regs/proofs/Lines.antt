@@ -1,7 +1,7 @@
 -- Accesses of the DP, polls and commands: no access port has a part in them.
 use Rattle.std.proofs.Common.{◌≡◌, ◌∙◌, ℕ, ◌+◌, ◌-◌, ◌^◌, ◌<◌, ◌≤◌, Bool, true, false, cond, eqb, leb, not, ◌&&◌, min, List, Option, Some, None, refl, sym, ap, subst, arith, bit_and, zero, suc}
 use Rattle.std.specs.FinMap as map
-use Rattle.std.proofs.lemmas.Bool.{leb-true, le-leb}
+use Rattle.std.proofs.lemmas.Bool.{leb-true, le-leb, and_parts}
 use Rattle.target_machine.specs.Attempt.{Attempt, attempt, done, answers, acknowledges, bank, ctrl_stat, ctrl_written, is_free, dp_access, ap_access}
 use Rattle.target_machine.specs.Lines.{pins_set, line_shifted, clock_set, delayed}
 use Rattle.target_machine.specs.Plain.{dp_read_of, dp_write_of, is_fault, polled, looked, Polled, commanded}
@@ -107,14 +107,10 @@ stat_beside t =
     beside_either (λ s. eqb (bank s) 0) (λ s. record s { reads = min (s.reads + 1) (2 ^ 32 - 1) }) t (λ r m. refl)
     (record { commutes = λ r m. refl; ports = refl; clear = λ e. e; few = refl })
 
-both_are : (x y : Bool) → (x && y) ≡ true → (x ≡ true) × (y ≡ true)
-both_are true y e = (refl, e)
-both_are false y e = absurd (cc)
-
 -- an acknowledgement stays where CTRL/STAT is read
 pub stat_power : (t : TargetState) → t.power_reads < 2 ^ 32 → acknowledges t 0x1000_0000 ≡ true → acknowledges (stat_read t) 0x1000_0000 ≡ true
 stat_power t few on =
-    let h = both_are (has_bit t.ctrl 0x1000_0000) (leb t.power_reads t.reads) on in
+    let h = and_parts (has_bit t.ctrl 0x1000_0000) (leb t.power_reads t.reads) on in
     let le : t.power_reads ≤ t.reads = leb-true t.power_reads t.reads h.1 in
     let more : leb t.power_reads (min (t.reads + 1) (2 ^ 32 - 1)) ≡ true = le-leb t.power_reads (min (t.reads + 1) (2 ^ 32 - 1)) (omega arith) in
     either (λ s. acknowledges s 0x1000_0000 ≡ true) (eqb (bank t) 0) (record t { reads = min (t.reads + 1) (2 ^ 32 - 1) }) t

@@ -1,6 +1,6 @@
 -- Lists of calls, by their journal.
 use Rattle.std.proofs.Common.{◌≡◌, ◌≢◌, ◌∙◌, ℕ, ◌+◌, Bool, true, false, cond, not, ◌&&◌, List, [], ◌∷◌, ◌++◌, append_assoc, refl, sym, ap, subst, arith, length}
-use Rattle.target_machine.specs.Plain.{Action, acted, is_fault, given, result_of, call_done, ended, CallDone, CallEnd, Answered, Skipped, Faulted, Small}
+use Rattle.target_machine.specs.Plain.{Action, acted, is_fault, given, result_of, call_done, CallDone, CallEnd, Answered, Skipped, Faulted, Small}
 use Rattle.target_machine.specs.State.{TargetState}
 use Rattle.target_machine.specs.declared.unit.Call.{Call}
 use Rattle.access_regs.specs.Kept.{Kept}
@@ -18,8 +18,10 @@ use Rattle.target_calls.specs.declared.journal.Part.TheVariants.{Settles, Leads,
 use Rattle.target_calls.specs.declared.journal.Part.{Part}
 use Rattle.target_calls.specs.declared.calls.Ask.{Ask}
 use Rattle.target_calls.specs.Journal.{Entry, settles, actions_in, Passes}
+use Rattle.target_calls.proofs.EndLemmas.{end_faulted, end_skipped}
 use Rattle.access_regs.proofs.Settle.{settled_calm, follows_agree}
 use Rattle.access_regs.specs.declared.planner.Planner.{Planner}
+use Rattle.access_regs.proofs.Seams.{passes_both}
 
 -- ---- entries and steps
 
@@ -91,10 +93,6 @@ module _ (p : Planner) (Ok : Ask → Type 0) (each : (k : Kept) (large : List �
 
 -- ---- entries that pass
 
-passes_append : (u : TargetState) (xs ys : List Entry) → Passes u xs → Passes (after u (actions_in xs)) ys → Passes u (xs ++ ys)
-passes_append u [] ys h k = k
-passes_append u (x ∷ xs) ys h k = (h.0, passes_append (acted u x.action).next xs ys h.1 k)
-
 passes_numbered : (n : ℕ) (forgiving : Bool) (u v : TargetState) (steps : List Step) → PassTo u (actions_of steps) v → Passes u (numbered n forgiving steps)
 passes_numbered n forgiving u v [] h = tt
 passes_numbered n forgiving u v (s ∷ steps) h =
@@ -108,16 +106,9 @@ passes_forgiving : (n : ℕ) (u : TargetState) (steps : List Step) → IsPassing
 passes_forgiving n u [] h = tt
 passes_forgiving n u (s ∷ steps) h = (not_not (is_fault (acted u s.action).outcome) (settles s.part) h.0, passes_forgiving n (acted u s.action).next steps h.1)
 
--- only a forgiving call is skipped
-ended_forgiving : (b forgive s : Bool) (v : ℕ) (t : TargetState) (l : List ℕ) (xs : List Action) → (ended b forgive s v t l xs).end ≡ Skipped → forgive ≡ true
-ended_forgiving true true s v t l xs e = refl
-ended_forgiving true false s v t l xs e = absurd (cc)
-ended_forgiving false forgive true v t l xs e = absurd (cc)
-ended_forgiving false forgive false v t l xs e = absurd (cc)
-
 skipped_forgiving : (t : TargetState) (large : List ℕ) (c : Ask) → (alone t large c).end ≡ Skipped → is_forgiving c ≡ true
 unfolding call_done
-skipped_forgiving t large c e = ended_forgiving _ (is_forgiving c) _ _ _ _ _ e
+skipped_forgiving t large c e = end_skipped _ (is_forgiving c) _ _ _ _ _ e
 
 course_passes : (n : ℕ) (u t : TargetState) (large : List ℕ) (i : Issue) (c : Ask) → Course i (alone t large c) c.call u → (alone t large c).end ≢ Faulted → Passes u (numbered n (is_forgiving c) i.steps)
 course_passes n u t large i c (answered a) ne =
@@ -144,7 +135,7 @@ module _ (p : Planner) (Ok : Ask → Type 0) (each : (k : Kept) (large : List �
       let course : Course (issue_of p u k c) d c.call u = each k large t u f c ok in
       let g = course_follows (issue_of p u k c) d c.call u course ne in
       let v : TargetState = after u (actions_of (issue_of p u k c).steps) in
-      passes_append u (numbered n (is_forgiving c) (issue_of p u k c).steps) (numbered (n + 1) false (finish_of p u k c).steps)
+      passes_both u (numbered n (is_forgiving c) (issue_of p u k c).steps) (numbered (n + 1) false (finish_of p u k c).steps)
       (course_passes n u t large (issue_of p u k c) c course ne)
       (subst (λ (l : List Action). Passes (after u l) (numbered (n + 1) false (finish_of p u k c).steps)) (sym (actions_numbered n (is_forgiving c) (issue_of p u k c).steps))
       (finish_passes (n + 1) c.settled (issue_of p u k c).kept d.large d.next v g))
@@ -156,7 +147,7 @@ module _ (p : Planner) (Ok : Ask → Type 0) (each : (k : Kept) (large : List �
       let d : CallDone = alone t large c in
       let v : TargetState = after u (actions_of (steps_at p u k c)) in
       let rest : List Entry = issued_from p (n + 1) (finish_of p u k c).kept v cs in
-      passes_append u (entries_at p n u k c) rest (step_passes n k large t u f c ok.0 none.0)
+      passes_both u (entries_at p n u k c) rest (step_passes n k large t u f c ok.0 none.0)
       (subst (λ (l : List Action). Passes (after u l) rest) (sym (actions_entries p n u k c))
       (list_passes (n + 1) (finish_of p u k c).kept d.large d.next v (step_follows p Ok each k large t u f c ok.0 none.0) cs ok.1 none.1))
 
@@ -171,25 +162,19 @@ pub record Stops (p : Planner) (n units : ℕ) (k : Kept) (u : TargetState) (cs 
   -- the memory is the one that the calls leave
   pub words : (acted (after u (actions_in front)) entry.action).next.words ≡ left.words
 
-numbered_append : (n : ℕ) (b : Bool) (xs ys : List Step) → numbered n b (xs ++ ys) ≡ numbered n b xs ++ numbered n b ys
+pub numbered_append : (n : ℕ) (b : Bool) (xs ys : List Step) → numbered n b (xs ++ ys) ≡ numbered n b xs ++ numbered n b ys
 numbered_append n b [] ys = refl
 numbered_append n b (x ∷ xs) ys = ap (λ (l : List Entry). record { unit = cond (settles x.part) n (n + 1); part = x.part; forgiving = b && not (settles x.part); action = x.action } ∷ l) (numbered_append n b xs ys)
 
-not_settling : (p : Part) → p ≢ Settles → settles p ≡ false
+pub not_settling : (p : Part) → p ≢ Settles → settles p ≡ false
 not_settling Settles ne = absurd (ne refl)
 not_settling Leads ne = refl
 not_settling Ends ne = refl
 not_settling (Skips attempted) ne = refl
 
-ended_strict : (b forgive s : Bool) (v : ℕ) (t : TargetState) (l : List ℕ) (xs : List Action) → (ended b forgive s v t l xs).end ≡ Faulted → forgive ≡ false
-ended_strict true true s v t l xs e = absurd (cc)
-ended_strict true false s v t l xs e = refl
-ended_strict false forgive true v t l xs e = absurd (cc)
-ended_strict false forgive false v t l xs e = absurd (cc)
-
 pub faulted_strict : (t : TargetState) (large : List ℕ) (c : Ask) → (alone t large c).end ≡ Faulted → is_forgiving c ≡ false
 unfolding call_done
-faulted_strict t large c e = ended_strict _ (is_forgiving c) _ _ _ _ _ e
+faulted_strict t large c e = end_faulted _ (is_forgiving c) _ _ _ _ _ e
 
 is_stopped : (i : Issue) (d : CallDone) (call : Call) (u : TargetState) → Course i d call u → d.end ≡ Faulted → IsStopped i d u
 is_stopped i d call u (answered a) e = let x : ◌≡◌ {A = CallEnd} _ Faulted = sym a.end ∙ e in absurd (cc)
@@ -254,7 +239,7 @@ module _ (p : Planner) (Ok : Ask → Type 0) (each : (k : Kept) (large : List �
         stops = record {
           more = s.more;
           is = ap (λ (l : List Entry). entries_at p n u k b ++ l) s.is ∙ sym (append_assoc (entries_at p n u k b) g.front (g.entry ∷ s.more));
-          passes = passes_append u (entries_at p n u k b) g.front (step_passes p Ok each n k large t u f b ok.0 none.0)
+          passes = passes_both u (entries_at p n u k b) g.front (step_passes p Ok each n k large t u f b ok.0 none.0)
               (subst (λ (l : List Action). Passes (after u l) g.front) (sym (actions_entries p n u k b)) s.passes);
           faults = ap (λ (x : TargetState). is_fault (acted x g.entry.action).outcome) at ∙ s.faults;
           strict = s.strict;

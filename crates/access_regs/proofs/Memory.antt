@@ -72,7 +72,7 @@ csw_reads t n at = by_port (finite.get t.aps n) refl
       shows = λ p is. (let e : ◌≡◌ {A = Option ApState} (Some q) (Some p) = sym some ∙ is in let same : q ≡ p = cc in ap (λ (x : ApState). bit_or x.csw 0x40) same);
     }
 
-transfer_is : (l : Bool) (size : ℕ) (read : Bool) (address value csw : ℕ) →
+pub transfer_is : (l : Bool) (size : ℕ) (read : Bool) (address value csw : ℕ) →
     transfer_actions l size read address value csw ≡ making (plain_writes (csw_for csw size) l address) ++ Makes (drw_of read address value) ∷ []
 transfer_is true size read address value csw = refl
 transfer_is false size read address value csw = refl

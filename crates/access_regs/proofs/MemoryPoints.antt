@@ -1,5 +1,6 @@
 -- The memory after the first entries of a journal.
 use Rattle.std.proofs.Common.{◌≡◌, ◌≢◌, ◌∙◌, ◌⊎◌, inl, inr, ℕ, ◌+◌, ◌-◌, ◌≤◌, Bool, true, false, cond, ◌&&◌, List, [], ◌∷◌, ◌++◌, append-nil, append_assoc, Option, Some, None, refl, sym, ap, subst, arith, zero, suc, take}
+use Rattle.std.proofs.lemmas.Bool.{and_parts}
 use Rattle.target_machine.specs.Lists.{after}
 use Rattle.target_machine.specs.Plain.{acted, may_forgive, Faulted, CallDone}
 use Rattle.target_machine.specs.State.{TargetState}
@@ -12,6 +13,7 @@ use Rattle.target_calls.specs.World.{is_faulted}
 use Rattle.target_calls.specs.declared.calls.Ask.{Ask}
 use Rattle.target_calls.specs.declared.journal.Part.{Part}
 use Rattle.target_calls.specs.declared.journal.Part.TheVariants.{Settles, Leads, Ends, Skips}
+use Rattle.target_calls.proofs.EntryLemmas.{pass_front}
 use Rattle.access_regs.specs.Alone.{KeepsMemory, alone, alone_after}
 use Rattle.access_regs.specs.Closed.{MemoryFollowsCalls, closed_after, closed_by, closes}
 use Rattle.access_regs.specs.Follows.{Follows}
@@ -19,12 +21,12 @@ use Rattle.access_regs.specs.Journal.{Step, steps_of, actions_of, issue, issue_o
 use Rattle.access_regs.specs.Kept.{Kept, nothing_kept}
 use Rattle.access_regs.specs.Plan.{settle, settling}
 use Rattle.access_regs.specs.declared.known.Unsettled.{Unsettled}
-use Rattle.access_regs.proofs.AllCalls.{both_true, call_course, fresh_follows}
+use Rattle.access_regs.proofs.AllCalls.{call_course, fresh_follows}
 use Rattle.access_regs.proofs.ForgivingMemory.{Keeps, settled_keeps, skips}
 use Rattle.access_regs.proofs.Keeps.{planned_keep, settle_keep}
 use Rattle.access_regs.proofs.Lists.{actions_entries, course_follows, faulted_strict, step_follows}
 use Rattle.access_regs.proofs.OneEnd.{AllParts, IsNoEnd, IsSettling, OneEnd, planned_one, finish_settles, never}
-use Rattle.access_regs.proofs.Seams.{InFirst, InSecond, after_split, passes_first, passes_none, passes_second, seam_in}
+use Rattle.access_regs.proofs.Seams.{InFirst, InSecond, after_split, passes_none, passes_second, seam_in}
 use Rattle.access_regs.proofs.StopLists.{FirstBreak, ends_how, first_break}
 use Rattle.access_regs.specs.declared.planner.Planner.{Planner}
 
@@ -36,7 +38,7 @@ issue_keeps p k large t u f c ok = by_call c.call ok.range
     by_mark : (asked : AccessUnit) (b : Bool) → (is_alone p c.forgive && may_forgive (Access asked)) ≡ b → IsCallInRange (Access asked) →
         Keeps IsNoEnd u (cond b (after_settling u k (alone_at c.forgive asked)) (planned u k asked)).steps
     by_mark asked false e range = record { memory = planned_keep k large t u f asked range; one = planned_one IsNoEnd u k asked }
-    by_mark asked true e range = settled_keeps IsNoEnd c.forgive (λ h early. skips early) k large t u f asked range (both_true (is_alone p c.forgive) (may_forgive (Access asked)) e).1
+    by_mark asked true e range = settled_keeps IsNoEnd c.forgive (λ h early. skips early) k large t u f asked range (and_parts (is_alone p c.forgive) (may_forgive (Access asked)) e).1
 
     by_call : (call : Call) → IsCallInRange call → Keeps IsNoEnd u (issue p u k c.forgive call).steps
     by_call (Access asked) range = by_mark asked (is_alone p c.forgive && may_forgive (Access asked)) refl range
@@ -180,7 +182,7 @@ strict_one p k large t u f c ok strict = by_call c.call ok.range strict
         OneEnd IsSettling (cond b (after_settling u k (alone_at c.forgive asked)) (planned u k asked)).steps
     by_mark asked false e range mild = planned_one IsSettling u k asked
     by_mark asked true e range mild =
-        let may = (both_true (is_alone p c.forgive) (may_forgive (Access asked)) e).1 in
+        let may = (and_parts (is_alone p c.forgive) (may_forgive (Access asked)) e).1 in
         let kept = settled_keeps IsSettling c.forgive (λ h early. never (c.forgive && may_forgive (Access asked)) mild (ap (λ (x : Bool). x && may_forgive (Access asked)) h ∙ may)) k large t u f asked range may in
         kept.one
 
@@ -255,7 +257,7 @@ faulted_open p n units k large t u f c ok bad front more rest pass is =
     by_seam : Seam own (numbered (n + 1) false (finish_of p u k c).steps ++ rest) front more → Open units u front
     by_seam (first back split) = before back split (seam_in front back b.front b.entry b.more (sym split ∙ broken))
     by_seam (second back split tail) =
-        absurd (passes_none u own b.front b.entry b.more (passes_first u own back (subst (Passes u) split pass)) broken b.bad)
+        absurd (passes_none u own b.front b.entry b.more (pass_front u own back (subst (Passes u) split pass)) broken b.bad)
 
 -- ---- lists of calls
 

@@ -1,6 +1,6 @@
 -- Actions of which none faults, and what follows them.
-use Rattle.std.proofs.Common.{◌≡◌, ◌∙◌, Bool, false, cond, List, [], ◌∷◌, ◌++◌, sym, refl, ap}
-use Rattle.target_machine.proofs.ActionLists.{order_from}
+use Rattle.std.proofs.Common.{◌≡◌, ◌∙◌, false, List, [], ◌∷◌, ◌++◌, sym, refl, ap}
+use Rattle.target_machine.proofs.ActionLists.{order_from, order_next}
 use Rattle.target_machine.specs.Attempt.{Attempt, done}
 use Rattle.target_machine.specs.Lists.{PassTo}
 use Rattle.target_machine.specs.Plain.{Action, acted, in_order, is_fault}
@@ -9,9 +9,6 @@ use Rattle.target_machine.specs.State.{TargetState}
 -- one action
 pub pass_one : (t : TargetState) (a : Action) (x : Attempt) → acted t a ≡ x → is_fault x.outcome ≡ false → PassTo t (a ∷ []) x.next
 pass_one t a x e good = (ap (λ (y : Attempt). is_fault y.outcome) e ∙ good, ap (λ (y : Attempt). y.next) (sym e))
-
-order_next : (m : Attempt) (a : Action) (ys : List Action) → is_fault m.outcome ≡ false → order_from m (a ∷ ys) ≡ order_from (acted m.next a) ys
-order_next m a ys good = ap (λ (b : Bool). order_from (cond b m (acted m.next a)) ys) good
 
 order_pass : (m : Attempt) (t u : TargetState) (xs : List Action) (a : Action) (ys : List Action) → is_fault m.outcome ≡ false → m.next ≡ t → PassTo t xs u →
     order_from m (xs ++ a ∷ ys) ≡ order_from (acted u a) ys

@@ -2,6 +2,7 @@
 use Rattle.std.proofs.Common.{◌≡◌, ◌≢◌, ◌∙◌, ℕ, ◌+◌, ◌<◌, ◌⊎◌, inl, inr, Bool, true, false, cond, eqb, not, ◌&&◌, nat_lt, List, [], ◌∷◌, ◌++◌, length, Option, None, refl, sym, ap, subst, arith, append-nil, is_some}
 use Rattle.std.proofs.lemmas.Bool.{cases_eq}
 use Rattle.std.proofs.lemmas.List.{length-replicate}
+use Rattle.std.proofs.Math.Bool.{and-false}
 use Rattle.access_regs.proofs.AllCalls.{known_nothing}
 use Rattle.access_regs.proofs.EntryLemmas.{settle_none}
 use Rattle.access_regs.proofs.Forgiving.{actions_parts, contains_one, joined_other, joined_same, memory_done, port_done}
@@ -16,6 +17,7 @@ use Rattle.access_regs.specs.Plan.{made, must_follow_settling, settled_at, settl
 use Rattle.access_regs.specs.declared.known.Known.{Known}
 use Rattle.access_regs.specs.declared.known.Unsettled.{Unsettled}
 use Rattle.access_regs.specs.declared.planner.Planner.TheVariants.{Plain}
+use Rattle.access_regs.proofs.KeptLemmas.{ended_large}
 use Rattle.target_calls.specs.Asks.{AreAskable, IsAskable, IsCallInRange}
 use Rattle.target_calls.specs.Journal.{actions_in}
 use Rattle.target_calls.specs.declared.calls.Ask.{Ask}
@@ -49,12 +51,6 @@ ended_other true false s v t l m xs = refl
 ended_other false f true v t l m xs = refl
 ended_other false f false v t l m xs = refl
 
-ended_list : (b f s : Bool) (v : ℕ) (t : TargetState) (l : List ℕ) (xs : List Action) → (ended b f s v t l xs).large ≡ l
-ended_list true true s v t l xs = refl
-ended_list true false s v t l xs = refl
-ended_list false f true v t l xs = refl
-ended_list false f false v t l xs = refl
-
 -- two lists that say the same of the unit's AP
 record SameDone (n : ℕ) (large : List ℕ) (x y : CallDone) : Type 0 where
   actions : x.actions ≡ y.actions
@@ -66,9 +62,9 @@ ended_pair : (b f s : Bool) (v : ℕ) (t : TargetState) (xs : List Action) (n : 
 ended_pair b f s v t xs n l m joins same = record {
   actions = ended_other b f s v t (cond joins (l ++ n ∷ []) l) (cond joins (m ++ n ∷ []) m) xs;
   here =
-      ap (λ (x : List ℕ). contains x n) (ended_list b f s v t (cond joins (l ++ n ∷ []) l) xs) ∙ joined_same l m n joins same
-      ∙ sym (ap (λ (x : List ℕ). contains x n) (ended_list b f s v t (cond joins (m ++ n ∷ []) m) xs));
-  others = λ q ne. ap (λ (x : List ℕ). contains x q) (ended_list b f s v t (cond joins (m ++ n ∷ []) m) xs) ∙ joined_other m n q joins ne;
+      ap (λ (x : List ℕ). contains x n) (ended_large b f s v t (cond joins (l ++ n ∷ []) l) xs) ∙ joined_same l m n joins same
+      ∙ sym (ap (λ (x : List ℕ). contains x n) (ended_large b f s v t (cond joins (m ++ n ∷ []) m) xs));
+  others = λ q ne. ap (λ (x : List ℕ). contains x q) (ended_large b f s v t (cond joins (m ++ n ∷ []) m) xs) ∙ joined_other m n q joins ne;
 }
 
 module _ (t : TargetState) (forgive : Bool) (size : ℕ) (read : Bool) (n address value : ℕ) where
@@ -121,10 +117,6 @@ ended_strict true false s v t l xs e = refl
 ended_strict false f true v t l xs e = refl
 ended_strict false f false v t l xs e = refl
 
-never_both : (b : Bool) → (b && false) ≡ false
-never_both true = refl
-never_both false = refl
-
 -- a DP unit, a poll or a command of the probe
 record IsSingle (call : Call) (x : Action) : Type 0 where
   strict : may_forgive call ≡ false
@@ -134,12 +126,12 @@ record IsSingle (call : Call) (x : Action) : Type 0 where
 single_actions : (t : TargetState) (large : List ℕ) (forgive : Bool) (call : Call) (x : Action) → IsSingle call x → (call_done t large forgive call).actions ≡ x ∷ []
 unfolding call_done
 single_actions t large forgive call x s =
-    ended_strict _ _ _ _ _ _ (issued t (call_actions t large call)) (ap (λ (b : Bool). forgive && b) s.strict ∙ never_both forgive)
+    ended_strict _ _ _ _ _ _ (issued t (call_actions t large call)) (ap (λ (b : Bool). forgive && b) s.strict ∙ and-false forgive)
     ∙ ap (issued t) (s.acts t large) ∙ one_action t x
 
 single_large : (t : TargetState) (large : List ℕ) (forgive : Bool) (call : Call) (x : Action) → IsSingle call x → (call_done t large forgive call).large ≡ large
 unfolding call_done
-single_large t large forgive call x s = ended_list _ _ _ _ _ _ _ ∙ s.list t large
+single_large t large forgive call x s = ended_large _ _ _ _ _ _ _ ∙ s.list t large
 
 -- ---- what is kept
 

@@ -8,7 +8,7 @@ use Rattle.target_machine.specs.declared.access.RegAccess.{RegAccess}
 use Rattle.access_regs.specs.Plan.{select_value}
 use Rattle.access_regs.specs.Journal.{select_written, select_after}
 use Rattle.access_regs.proofs.Select.{select_write, select_kept, selects_port}
-use Rattle.target_machine.proofs.ActionLists.{order_from, order_fault}
+use Rattle.target_machine.proofs.ActionLists.{order_from, order_fault, order_next}
 use Rattle.target_machine.proofs.AccessLaws.{attempt_keeps}
 use Rattle.target_machine.proofs.OneAp.{one_ap_changed, csw_stays_stored}
 use Rattle.target_machine.specs.Fresh.{HaveStoredCsw}
@@ -17,11 +17,6 @@ use Rattle.target_machine.specs.Lists.{SpareRdbuff}
 pub spare_append : (xs ys : List Action) → SpareRdbuff xs → SpareRdbuff ys → SpareRdbuff (xs ++ ys)
 spare_append [] ys h k = k
 spare_append (x ∷ xs) ys h k = (h.0, spare_append xs ys h.1 k)
-
--- ---- what is issued, one action after the other
-
-pub order_step : (m : Attempt) (x : Action) (xs : List Action) → is_fault m.outcome ≡ false → order_from m (x ∷ xs) ≡ order_from (acted m.next x) xs
-order_step m x xs good = ap (λ (b : Bool). order_from (cond b m (acted m.next x)) xs) good
 
 -- ---- accesses of one AP
 
@@ -92,10 +87,10 @@ module _ (n : ℕ) (lt : n < 256) (u : TargetState) where
       (is_fault (acted m.next x).outcome ≡ false → Step' n u (select_after (select_written written x) (issued (acted m.next x).next xs)) (order_from (acted m.next x) xs)) →
       (b : Bool) → is_fault (acted m.next x).outcome ≡ b → Step' n u (select_after written (issued m.next (x ∷ xs))) (order_from m (x ∷ xs))
   all_by m x xs written good first more true e =
-      subst (λ (y : Attempt). Step' n u (select_after written (issued m.next (x ∷ xs))) y) (sym (order_step m x xs good ∙ order_fault (acted m.next x) xs e))
+      subst (λ (y : Attempt). Step' n u (select_after written (issued m.next (x ∷ xs))) y) (sym (order_next m x xs good ∙ order_fault (acted m.next x) xs e))
       (subst (λ (b : Bool). Step' n u (select_after written (x ∷ cond b [] (issued (acted m.next x).next xs))) (acted m.next x)) (sym e) first)
   all_by m x xs written good first more false e =
-      subst (λ (y : Attempt). Step' n u (select_after written (issued m.next (x ∷ xs))) y) (sym (order_step m x xs good))
+      subst (λ (y : Attempt). Step' n u (select_after written (issued m.next (x ∷ xs))) y) (sym (order_next m x xs good))
       (subst (λ (b : Bool). Step' n u (select_after written (x ∷ cond b [] (issued (acted m.next x).next xs))) (order_from (acted m.next x) xs)) (sym e) (more e))
 
   -- accesses of the AP, once it is selected

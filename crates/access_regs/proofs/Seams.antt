@@ -31,10 +31,6 @@ seam_in (x ∷ xs) ys (y ∷ front) e more is =
 
 -- ---- entries that pass
 
-pub passes_first : (u : TargetState) (xs ys : List Entry) → Passes u (xs ++ ys) → Passes u xs
-passes_first u [] ys h = tt
-passes_first u (x ∷ xs) ys h = (h.0, passes_first (acted u x.action).next xs ys h.1)
-
 pub passes_second : (u : TargetState) (xs ys : List Entry) → Passes u (xs ++ ys) → Passes (after u (actions_in xs)) ys
 passes_second u [] ys h = h
 passes_second u (x ∷ xs) ys h = passes_second (acted u x.action).next xs ys h.1

@@ -1,5 +1,6 @@
 -- Which forgiving calls are skipped.
-use Rattle.std.proofs.Common.{◌≡◌, ◌≢◌, ◌∙◌, Bool, true, false, List, [], ◌∷◌, ◌++◌, refl, sym, ap, subst}
+use Rattle.std.proofs.Common.{◌≡◌, ◌≢◌, ◌∙◌, true, List, [], ◌∷◌, ◌++◌, refl, sym, ap, subst}
+use Rattle.std.proofs.lemmas.Bool.{both_ways}
 use Rattle.access_regs.proofs.AllCalls.{call_course, journal_follows}
 use Rattle.access_regs.proofs.Course.{actions_append}
 use Rattle.access_regs.proofs.EntryLemmas.{askable_first, askable_here}
@@ -19,13 +20,9 @@ use Rattle.target_machine.specs.Lists.{PassTo}
 use Rattle.target_machine.specs.Plain.{Action, CallDone, CallEnd, Faulted, Skipped, Answered, Small, acted, is_fault}
 use Rattle.target_machine.specs.State.{TargetState}
 
-clash : (b : Bool) → b ≡ true → b ≡ false → ⊥
-clash true e f = cc
-clash false e f = cc
-
 -- among steps that pass none faults
 none_fails : (u at v : TargetState) (xs : List Action) (a : Action) (ys : List Action) → PassTo u (xs ++ a ∷ ys) v → PassTo u xs at → is_fault (acted at a).outcome ≡ true → ⊥
-none_fails u at v [] a ys all front bad = clash (is_fault (acted u a).outcome) (subst (λ (s : TargetState). is_fault (acted s a).outcome ≡ true) front bad) all.0
+none_fails u at v [] a ys all front bad = both_ways (is_fault (acted u a).outcome) all.0 (subst (λ (s : TargetState). is_fault (acted s a).outcome ≡ true) front bad)
 none_fails u at v (x ∷ xs) a ys all front bad = none_fails (acted u x).next at v xs a ys all.1 front.1 bad
 
 steps_fail : (u at v : TargetState) (steps leads : List Step) (step : Step) (more : List Step) → steps ≡ leads ++ step ∷ more → PassTo u (actions_of steps) v → PassTo u (actions_of leads) at →
@@ -64,7 +61,7 @@ fault_skips p t asks ask leads step more at fresh ok none forgives is pass bad =
     let plain : TargetState = alone_after t [] asks in
     let follows : Follows k large plain u = journal_follows p t asks fresh (askable_first asks (ask ∷ []) ok) none in
     faults_skip (issue_of p u k ask) (alone plain large ask) ask u (call_course p k large plain u follows ask (askable_here asks ask [] ok))
-    (λ e. clash (is_forgiving ask) forgives (faulted_strict plain large ask e)) leads step more at is pass bad
+    (λ e. both_ways (is_forgiving ask) (faulted_strict plain large ask e) forgives) leads step more at is pass bad
 
 pub passing_is_made : PassingIsMade
 passing_is_made p t asks ask at fresh ok none pass =

@@ -1,8 +1,9 @@
 -- Where calls stop, by the entries that they issue: inductions over calls.
 use Rattle.std.proofs.Common.{◌≡◌, ◌≢◌, ◌⊎◌, inl, inr, ◌∙◌, ℕ, zero, suc, ◌+◌, ◌-◌, Bool, true, false, cond, not, ◌&&◌, ◌||◌, List, [], ◌∷◌, ◌++◌, length, Option, Some, None, refl, sym, ap, subst, arith, append-nil, append_assoc}
+use Rattle.std.proofs.Math.Bool.{or-true}
 use Rattle.access_regs.proofs.AllCalls.{call_course, fresh_follows}
 use Rattle.access_regs.proofs.Lists.{Stops, actions_entries, list_passes, list_stops, step_follows}
-use Rattle.access_regs.proofs.Seams.{Breaks, InFirst, InSecond, SameFirst, after_split, one_first, passes_first, passes_none, passes_second, seam_in}
+use Rattle.access_regs.proofs.Seams.{Breaks, InFirst, InSecond, SameFirst, after_split, one_first, passes_none, passes_second, seam_in}
 use Rattle.access_regs.specs.Alone.{alone}
 use Rattle.access_regs.specs.Follows.{Follows}
 use Rattle.access_regs.specs.Journal.{Step, actions_of, entries_at, finish, finish_of, issue_of, issued_from, numbered, steps_at, steps_of}
@@ -15,6 +16,7 @@ use Rattle.target_calls.specs.World.{AtLeast, World, is_faulted, is_over, later_
 use Rattle.target_calls.specs.declared.calls.Ask.{Ask}
 use Rattle.target_calls.specs.declared.journal.Part.{Part}
 use Rattle.target_calls.specs.declared.journal.Part.TheVariants.{Ends, Leads, Settles, Skips}
+use Rattle.target_calls.proofs.EntryLemmas.{pass_front}
 use Rattle.target_machine.specs.Lists.{after}
 use Rattle.target_machine.specs.State.{TargetState}
 use Rattle.target_machine.specs.Plain.{Makes, CallDone, CallEnd, Answered, Skipped, Faulted, Small}
@@ -69,14 +71,10 @@ pub stop_goes : (t : TargetState) (large : List ℕ) (n : Option ℕ) (ask : Ask
     stop (world_at t large n) (ask ∷ asks) ≡ later_by 1 (stop (world_at (alone t large ask).next (alone t large ask).large (one_fewer n)) asks)
 stop_goes t large n ask asks live good = rw (live, good) refl
 
-or_true : (b : Bool) → (b || true) ≡ true
-or_true true = refl
-or_true false = refl
-
 stop_here : (t : TargetState) (large : List ℕ) (n : Option ℕ) (ask : Ask) (asks : List Ask) → (alone t large ask).end ≡ Faulted → stop (world_at t large n) (ask ∷ asks) ≡ Some 1
 stop_here t large n ask asks bad =
     let w : World = world_at t large n in
-    let here : stops_here w ask ≡ true = ap (λ (x : CallEnd). is_over n || is_faulted x) bad ∙ or_true (is_over n) in
+    let here : stops_here w ask ≡ true = ap (λ (x : CallEnd). is_over n || is_faulted x) bad ∙ or-true (is_over n) in
     ap (λ (b : Bool). cond b (Some 1) (later_by 1 (stop (next_world w ask) asks))) here
 
 pub live_more : (n : Option ℕ) (j : ℕ) → AtLeast (suc j) n → (is_over n ≡ false) × AtLeast j (one_fewer n)
@@ -208,7 +206,7 @@ module _ (p : Planner) (base : ℕ) (k : Kept) (large : List ℕ) (t u : TargetS
           by_seam b (inr i) = b.own (settles_is b.entry.part (finish_settles (base + 1) ask.settled (issue_of p u k ask).kept i.back b.entry b.more i.is))
 
   none_first : Passes u (first ++ rest) → d.end ≢ Faulted
-  none_first pass = not_faulted (passes_first u (numbered base (is_forgiving ask) (issue_of p u k ask).steps) (numbered (base + 1) false (finish_of p u k ask).steps) (passes_first u first rest pass))
+  none_first pass = not_faulted (pass_front u (numbered base (is_forgiving ask) (issue_of p u k ask).steps) (numbered (base + 1) false (finish_of p u k ask).steps) (pass_front u first rest pass))
 
   none_more : (d.end ≢ Faulted) → NoneStops d.next d.large asks → NoneStops t large (ask ∷ asks)
   none_more ne s = record {
@@ -229,7 +227,7 @@ module _ (p : Planner) (base : ℕ) (k : Kept) (large : List ℕ) (t u : TargetS
 
   stays_finish : (front back more : List Entry) (e : Entry) → Passes u front → front ≡ numbered base (is_forgiving ask) (issue_of p u k ask).steps ++ back → numbered (base + 1) false (finish_of p u k ask).steps ≡ back ++ e ∷ more → StaysThere base t large (ask ∷ asks) e
   stays_finish front back more e pass front_is is =
-      let ne : d.end ≢ Faulted = not_faulted (passes_first u (numbered base (is_forgiving ask) (issue_of p u k ask).steps) back (subst (Passes u) front_is pass)) in
+      let ne : d.end ≢ Faulted = not_faulted (pass_front u (numbered base (is_forgiving ask) (issue_of p u k ask).steps) back (subst (Passes u) front_is pass)) in
       let mark : settles e.part ≡ true = finish_settles (base + 1) ask.settled (issue_of p u k ask).kept back e more is in
       let number : e.unit ≡ cond (settles e.part) (base + 1) (base + 1 + 1) = numbered_unit (base + 1) false (finish_of p u k ask).steps back e more is in
       record {
@@ -269,11 +267,11 @@ module _ (p : Planner) (base : ℕ) (k : Kept) (large : List ℕ) (t u : TargetS
       by_seam (inl i) = by_half i.more (seam_in (numbered base (is_forgiving ask) (issue_of p u k ask).steps) (numbered (base + 1) false (finish_of p u k ask).steps) front e i.more i.is)
       by_seam (inr i) =
           let both : Passes u (first ++ i.back) = subst (Passes u) i.front_is pass in
-          let ne : d.end ≢ Faulted = none_first_of (passes_first u first i.back both) in
+          let ne : d.end ≢ Faulted = none_first_of (pass_front u first i.back both) in
           stays_later e i.back more i.is ne (again ne i.back i.is (passed_after i.back both))
         where
           none_first_of : Passes u first → d.end ≢ Faulted
-          none_first_of pass = not_faulted (passes_first u (numbered base (is_forgiving ask) (issue_of p u k ask).steps) (numbered (base + 1) false (finish_of p u k ask).steps) pass)
+          none_first_of pass = not_faulted (pass_front u (numbered base (is_forgiving ask) (issue_of p u k ask).steps) (numbered (base + 1) false (finish_of p u k ask).steps) pass)
 
 -- ---- lists
 

@@ -3,7 +3,7 @@ use Rattle.std.proofs.Common.{◌≡◌, ◌⊎◌, inl, inr, ◌∙◌, ℕ, su
 use Rattle.access_regs.proofs.Seams.{InFirst, InSecond, seam_in}
 use Rattle.access_regs.proofs.StopLists.{finish_settles, numbered_unit}
 use Rattle.access_regs.specs.Entries.{UnitsInRange}
-use Rattle.access_regs.specs.Journal.{Issue, Step, actions_of, after_settling, before, by_cfg, by_cfg_read, by_csw, by_plan, entries_at, finish_of, alone_at, done_alone, gives, is_alone, is_early, is_last, issue, issue_of, issued_from, last_action, making, numbered, part_of, parts_of, planned, port_of, steps_at, steps_of}
+use Rattle.access_regs.specs.Journal.{Issue, Step, actions_of, after_settling, before, by_cfg, by_cfg_read, by_csw, by_plan, entries_at, finish_of, alone_at, done_alone, gives, is_alone, is_early, issue, issue_of, issued_from, last_action, making, numbered, parts_of, planned, port_of, steps_at, steps_of}
 use Rattle.access_regs.specs.Kept.{Kept, nothing_kept}
 use Rattle.access_regs.specs.Plan.{cfg_plan, first_plan, leads, learned, learned_cfg, needs_cfg, needs_csw}
 use Rattle.target_calls.specs.Asks.{is_forgiving}
@@ -13,12 +13,13 @@ use Rattle.target_calls.specs.declared.journal.Part.TheVariants.{Ends, Leads}
 use Rattle.dap_base.specs.Bits.{has_bit}
 use Rattle.target_machine.specs.Lists.{after}
 use Rattle.target_machine.specs.State.{TargetState}
-use Rattle.target_machine.specs.Plain.{Action, Makes, Polls, Commands, may_forgive}
+use Rattle.target_machine.specs.Plain.{Action, may_forgive}
 use Rattle.target_machine.specs.declared.access.RegAccess.{RegAccess}
 use Rattle.target_machine.specs.declared.unit.Call.{Call}
 use Rattle.target_machine.specs.declared.unit.Call.TheVariants.{Access, Probe}
 use Rattle.target_machine.specs.declared.unit.Unit.{Unit as AccessUnit}
 use Rattle.access_regs.specs.declared.planner.Planner.{Planner}
+use Rattle.access_regs.proofs.Forgiving.{never_settles}
 
 NoneSettles : List Step → Type 0
 NoneSettles [] = Unit {0}
@@ -63,15 +64,10 @@ part_either : (b : Bool) → settles (cond b Ends Leads) ≡ false
 part_either true = refl
 part_either false = refl
 
-none_part : (early : Bool) (asked : AccessUnit) (a : Action) → settles (part_of early asked a) ≡ false
-none_part early asked (Makes a) = part_either (is_last asked a)
-none_part early asked (Polls mask value turns) = refl
-none_part early asked (Commands c) = refl
-
 none_map : (early : Bool) (asked : AccessUnit) (xs : List Action) → NoneSettles (parts_of early asked xs)
 unfolding NoneSettles
 none_map early asked [] = tt
-none_map early asked (x ∷ xs) = (none_part early asked x, none_map early asked xs)
+none_map early asked (x ∷ xs) = (never_settles early asked x, none_map early asked xs)
 
 -- before anything is unsettled
 none_first : (p : Planner) (t : TargetState) (c : Ask) → NoneSettles (issue_of p t nothing_kept c).steps

@@ -10,6 +10,7 @@ use Rattle.target_calls.specs.declared.calls.Ask.{Ask}
 use Rattle.target_calls.specs.declared.journal.Part.{Part}
 use Rattle.target_calls.specs.declared.journal.Part.TheVariants.{Ends, Leads, Settles}
 use Rattle.dap_base.specs.Bits.{has_bit}
+use Rattle.dap_base.proofs.Basics.{second_true}
 use Rattle.target_machine.specs.Lists.{after}
 use Rattle.target_machine.specs.State.{TargetState}
 use Rattle.target_machine.specs.Plain.{Action, Makes, Commands, acted, is_fault, issued as made_of, call_done, ended, forgives, cfg_actions, memory_actions, after_cfg, unit_actions, has_large, needs_cfg as wants_cfg, contains, may_forgive, in_order, drw_of, ap_access_of}
@@ -133,16 +134,12 @@ map_weighs early asked (x ∷ xs) h = (h.0, map_weighs early asked xs h.1)
 
 -- ---- calls
 
-both_true : (x y : Bool) → (x && y) ≡ true → y ≡ true
-both_true true y e = e
-both_true false y e = absurd (cc)
-
 issue_weighs : (p : Planner) (t : TargetState) (k : Kept) (forgive : Bool) (call : Call) → IsSoundCall call → Weighs (issue p t k forgive call).steps
 unfolding Weighs
 issue_weighs p t k forgive (Access asked) h = by_mark (is_alone p forgive && may_forgive (Access asked)) refl
   where
     by_mark : (b : Bool) → (is_alone p forgive && may_forgive (Access asked)) ≡ b → Weighs (cond b (after_settling t k (alone_at forgive asked)) (planned t k asked)).steps
-    by_mark true e = settling_weighs t k (alone_at forgive asked) (λ u l. map_weighs (is_early asked (done_alone u l forgive asked).actions) asked (done_alone u l forgive asked).actions (done_weighs u (large_of l asked) forgive asked (both_true (is_alone p forgive) (may_forgive (Access asked)) e)))
+    by_mark true e = settling_weighs t k (alone_at forgive asked) (λ u l. map_weighs (is_early asked (done_alone u l forgive asked).actions) asked (done_alone u l forgive asked).actions (done_weighs u (large_of l asked) forgive asked (second_true (is_alone p forgive) (may_forgive (Access asked)) e)))
     by_mark false e = planned_weighs t k asked h
 issue_weighs p t k forgive (Probe asked) h = (tt, tt)
 

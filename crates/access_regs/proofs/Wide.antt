@@ -5,6 +5,7 @@ use Rattle.std.specs.FinMap as map
 use Rattle.std.proofs.lemmas.Bool.{cases_eq, eq-eqb, ne_eqb}
 use Rattle.std.proofs.lemmas.Nat.{and_block}
 use Rattle.std.specs.Int.Bits.{and_zero_r}
+use Rattle.std.proofs.Math.Bool.{and-false, or-true, or-false}
 use Rattle.target_machine.proofs.Agreement.{attempt_agrees}
 use Rattle.access_regs.proofs.Settle.{follows_agree}
 use Rattle.target_machine.specs.Attempt.{Attempt, attempt, posted, bus_error, acknowledges, register_value}
@@ -47,19 +48,11 @@ contains_more (x ∷ xs) n q = ap (λ (b : Bool). nat_eq q x || b) (contains_mor
     or_or true b c = refl
     or_or false b c = refl
 
-or_true : (b : Bool) → (b || true) ≡ true
-or_true true = refl
-or_true false = refl
-
-or_false : (b : Bool) → (b || false) ≡ b
-or_false true = refl
-or_false false = refl
-
 pub contains_last : (xs : List ℕ) (n : ℕ) → contains (xs ++ n ∷ []) n ≡ true
-contains_last xs n = contains_more xs n n ∙ ap (λ (b : Bool). contains xs n || (b || false)) (eq-eqb n n refl) ∙ or_true (contains xs n)
+contains_last xs n = contains_more xs n n ∙ ap (λ (b : Bool). contains xs n || (b || false)) (eq-eqb n n refl) ∙ or-true (contains xs n)
 
 pub contains_other : (xs : List ℕ) (n q : ℕ) → q ≢ n → contains (xs ++ n ∷ []) q ≡ contains xs q
-contains_other xs n q ne = contains_more xs n q ∙ ap (λ (b : Bool). contains xs q || (b || false)) (ne_eqb q n ne) ∙ or_false (contains xs q)
+contains_other xs n q ne = contains_more xs n q ∙ ap (λ (b : Bool). contains xs q || (b || false)) (ne_eqb q n ne) ∙ or-false (contains xs q)
 
 -- ---- a read of CFG
 
@@ -90,14 +83,10 @@ cfg_reads t n lt clear power at = by_port (map.get t.aps (t.select / 2 ^ 24)) re
     by_port None none = record { cfg = 0; is = cfg_none t clear power none }
     by_port (Some p) some = record { cfg = register_value p 0xF4; is = cfg_some t p clear power some (ap (λ (x : ℕ). bit_and x 0xF0) at ∙ cfg_bits n) }
 
-and_not : (x y : Bool) → (x && not y) ≡ true → y ≡ false
+pub and_not : (x y : Bool) → (x && not y) ≡ true → y ≡ false
 and_not true true e = absurd (cc)
 and_not true false e = refl
 and_not false y e = absurd (cc)
-
-and_false : (x : Bool) → (x && false) ≡ false
-and_false true = refl
-and_false false = refl
 
 port_large : (a : Known) (unsettled : Option ℕ) (l : Bool) (x y : Option ApState) → FollowsPort a unsettled x y → FollowsPort (record a { large = l }) unsettled x y
 port_large a unsettled l None None h = tt
@@ -257,7 +246,7 @@ module _ (large : List ℕ) (size : ℕ) (read : Bool) (n address value : ℕ) (
       small_course none =
           let e : d ≡ short_done (posted rt.cfg ts) = short_is (posted rt.cfg ts) rt.is (ap (λ (x : ℕ). has_bit x 2) (sym same_cfg) ∙ none) in
           let g : Follows (learned_cfg k n ru.cfg) large ts us =
-          follows_known k1 large ts us f1 n (a ru.cfg) lt (ap (λ (b : Bool). (known k n).large || b) none ∙ or_false (known k n).large) (port ru.cfg) in
+          follows_known k1 large ts us f1 n (a ru.cfg) lt (ap (λ (b : Bool). (known k n).large || b) none ∙ or-false (known k n).large) (port ru.cfg) in
           let h : Follows (learned_cfg k n ru.cfg) large t2 u2 = follows_rdbuff (learned_cfg k n ru.cfg) large ts us g rt.cfg ru.cfg in
           let nothing : Issue = record { steps = steps_of Leads (cfg_plan k n) ++ []; kept = learned_cfg k n ru.cfg } in
           let c : Course nothing d call u = small (record {
@@ -284,7 +273,7 @@ module _ (large : List ℕ) (size : ℕ) (read : Bool) (n address value : ℕ) (
 
       large_at : has_bit ru.cfg 2 ≡ true → (q : ℕ) → q < 256 → (q ≡ n) ⊎ (q ≢ n) → (known k2 q).large ≡ contains large' q
       large_at big q less (inl same) =
-          ap (λ (i : ℕ). (known k2 i).large) same ∙ ap (λ (x : Known). x.large) here ∙ ap (λ (b : Bool). (known k n).large || b) big ∙ or_true (known k n).large
+          ap (λ (i : ℕ). (known k2 i).large) same ∙ ap (λ (x : Known). x.large) here ∙ ap (λ (b : Bool). (known k n).large || b) big ∙ or-true (known k n).large
           ∙ sym (ap (contains large') same ∙ contains_last large n)
       large_at big q less (inr ne) = ap (λ (x : Known). x.large) (known_other k n q (a ru.cfg) ne) ∙ f.larges q less ∙ sym (contains_other large n q ne)
 
@@ -328,7 +317,7 @@ module _ (large : List ℕ) (size : ℕ) (read : Bool) (n address value : ℕ) (
           ∙ ap (of (issued t (cfg_actions n ++ memory_actions (in_order t (cfg_actions n)).next true size read n address value))) whole_order
 
       narrow : needs_cfg large' n address ≡ false
-      narrow = ap (λ (b : Bool). nat_lt 0xFFFF_FFFF address && not b) (contains_last large n) ∙ and_false (nat_lt 0xFFFF_FFFF address)
+      narrow = ap (λ (b : Bool). nat_lt 0xFFFF_FFFF address && not b) (contains_last large n) ∙ and-false (nat_lt 0xFFFF_FFFF address)
 
       d2_is : d2 ≡ of (issued t2 (M (contains large' n))) (in_order t2 (M true))
       d2_is =

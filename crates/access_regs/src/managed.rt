@@ -59,7 +59,7 @@ impl Managed {
     }
 
     // What is known of this access port.
-    fn known(&self, ap: u8) -> Known
+    fn known_port(&self, ap: u8) -> Known
         ensures { result ≡ known self.now ap }
     {
         self.ports[usize::from(ap)]
@@ -78,7 +78,7 @@ impl Managed {
         ensures { result ≡ needs_csw self.now unit.now }
     {
         match *unit {
-            Unit::Memory { ap, .. } => self.known(ap).csw.is_none(),
+            Unit::Memory { ap, .. } => self.known_port(ap).csw.is_none(),
             _ => false,
         }
     }
@@ -89,7 +89,7 @@ impl Managed {
         ensures { result ≡ needs_cfg self.now unit.now }
     {
         match *unit {
-            Unit::Memory { ap, address, .. } => 0xFFFF_FFFF < address && !self.known(ap).large,
+            Unit::Memory { ap, address, .. } => 0xFFFF_FFFF < address && !self.known_port(ap).large,
             _ => false,
         }
     }
@@ -123,7 +123,7 @@ impl Managed {
     }
 
     /// SELECT was written with this value outside the plans. No access port is unsettled.
-    pub fn selected(&mut self, select: u32)
+    pub fn note_select(&mut self, select: u32)
         requires { self.old.unsettled ≡ None }
         ensures { self.new ≡ selected self.old select }
     {
@@ -150,7 +150,7 @@ impl Managed {
     fn forget_port(&mut self, ap: u8)
         ensures { self.new ≡ forget self.old ap }
     {
-        let known = self.known(ap);
+        let known = self.known_port(ap);
         let forgotten = Known {
             csw: None,
             tar: None,

@@ -22,7 +22,7 @@ const NOTHING: RegAccess = RegAccess {
 
 impl Plan {
     // No access.
-    pub(crate) fn empty() -> Plan
+    pub(crate) fn new() -> Plan
         ensures is { accesses_of result ≡ [] }
         ensures count { result.count ≡ 0 }
     {

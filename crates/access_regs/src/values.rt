@@ -41,7 +41,7 @@ pub(crate) fn planned_csw(csw: u32, size: u8) -> u32
 }
 
 // What TAR is after an access by DRW; where that is a multiple of 1,024 it is not known.
-pub(crate) fn predicted(tar: u32, size: u8) -> Option<u32>
+pub(crate) fn predict_tar(tar: u32, size: u8) -> Option<u32>
     requires sized { (size ≡ 1) ⊎ ((size ≡ 2) ⊎ (size ≡ 4)) }
     requires aligned { tar % size ≡ 0 }
     ensures { result ≡ plans.predicted tar size }

@@ -1,6 +1,7 @@
 -- Polls and commands of the probe as actions.
 use Rattle.std.proofs.Common.{◌≡◌, ℕ, zero, suc, ◌+◌, eqb, Bool, true, false, cond, refl, ap, sym, ◌∙◌}
 use Rattle.std.specs.Prelude.{bit_and}
+use Rattle.std.proofs.lemmas.Bool.{false_from_ne_true}
 use Rattle.target_machine.proofs.AccessLaws.{attempt_keeps, setting_faults}
 use Rattle.target_machine.specs.Attempt.{Attempt, attempt}
 use Rattle.target_machine.specs.Plain.{Polled, dp_read_of, is_fault, looked, polled}
@@ -10,14 +11,10 @@ use Rattle.target_machine.specs.declared.access.Outcome.TheVariants.{Value, Done
 
 -- ---- what the reads of a poll leave
 
-clear_not : (b : Bool) → (b ≡ true → ⊥) → b ≡ false
-clear_not true h = absurd (h refl)
-clear_not false h = refl
-
 -- an access that does not fault leaves STICKYERR clear
 stays_clear : (t : TargetState) → t.sticky ≡ false → is_fault (attempt t (dp_read_of 4)).outcome ≡ false → (attempt t (dp_read_of 4)).next.sticky ≡ false
 stays_clear t clear passes =
-    clear_not (attempt t (dp_read_of 4)).next.sticky (λ set. not_both (sym passes ∙ ap is_fault (setting_faults t (dp_read_of 4) clear set)))
+    false_from_ne_true (attempt t (dp_read_of 4)).next.sticky (λ set. not_both (sym passes ∙ ap is_fault (setting_faults t (dp_read_of 4) clear set)))
   where
     not_both : false ≡ true → ⊥
     not_both e = cc

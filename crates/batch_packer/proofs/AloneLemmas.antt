@@ -5,11 +5,10 @@ use Rattle.target_machine.specs.State.{TargetState}
 use Rattle.target_machine.specs.declared.access.RegAccess.{RegAccess}
 use Rattle.dap_replies.proofs.ReplyAgain.{reply_complete}
 use Rattle.dap_messages.specs.declared.command.PacketKind.TheVariants.{Plain}
-use Rattle.dap_messages.specs.declared.request.Response.{Response}
-use Rattle.dap_messages.specs.declared.request.Response.TheVariants.{Good, Wait, Fault, Mismatch}
 use Rattle.dap_messages.specs.Commands.{IsCommand, command_bytes}
 use Rattle.dap_messages.specs.Replies.{Answers, ReplyValue, reply_bytes}
 use Rattle.dap_replies.specs.ReplyViews.{shown}
+use Rattle.dap_replies.proofs.ReplyLaws.{response-code}
 use Rattle.dap_messages.specs.Responses.{code_of, response_of}
 use Rattle.dap_transfer.specs.Block.{blocked}
 use Rattle.dap_transfer.specs.State.{TransferState, Transferred}
@@ -62,22 +61,16 @@ pub record DoesOne (b : Bool) (p : TransferState) (accesses : List RegAccess) : 
   pub mask : (one_done b p accesses).next.mask ≡ p.mask
   pub once : OnceBy (one_form b) accesses (one_part b (one_done b p accesses) accesses) p (one_done b p accesses).next
 
-pub response_known : (x : Response) → response_of (code_of x) ≡ Some x
-response_known Good = refl
-response_known Wait = refl
-response_known Fault = refl
-response_known Mismatch = refl
-
-less_none : (n : ℕ) → n - 0 ≡ n
+pub less_none : (n : ℕ) → n - 0 ≡ n
 less_none n = omega arith
 
 -- what the reply shows is that part
 shows_part : (b : Bool) (d : Transferred) (accesses : List RegAccess) → part_as 0 (requests_for false accesses) (shown (one_answer b d)) (response_of (code_of d.response)) ≡ Some (one_part b d accesses)
 shows_part true d accesses =
-    ap (part_as 0 (requests_for false accesses) (shown (block_answer d))) (response_known d.response)
+    ap (part_as 0 (requests_for false accesses) (shown (block_answer d))) (response-code d.response)
     ∙ ap (λ n. Some (part_of (take n (requests_for false accesses)) d.response [])) (less_none d.executed)
 shows_part false d accesses =
-    ap (part_as 0 (requests_for false accesses) (shown (transfer_answer d))) (response_known d.response)
+    ap (part_as 0 (requests_for false accesses) (shown (transfer_answer d))) (response-code d.response)
     ∙ ap (λ n. Some (part_of (take n (requests_for false accesses)) d.response d.words)) (less_none d.executed)
 
 code_shown : (b : Bool) (d : Transferred) → (shown (one_answer b d)).response ≡ code_of d.response

@@ -17,6 +17,7 @@ use Rattle.dap_messages.specs.Commands.{IsCommand}
 use Rattle.target_calls.specs.Weights.{delay_commands}
 use Rattle.dap_transfer.specs.Lines as transfers
 use Rattle.dap_transfer.specs.State.{TransferState, grown}
+use Rattle.dap_transfer.proofs.Blocks.{grown_twice}
 use Rattle.probe_core.specs.Bench.{BenchState}
 use Rattle.probe_core.specs.Commands as bench
 use Rattle.probe_core.specs.Probe.{ExecutorState}
@@ -169,9 +170,6 @@ abort_clears value p q set acts =
 
 -- ---- a delay of several commands
 
-grown_both : (w n k : ℕ) → grown (grown w n) k ≡ grown w (n + k)
-grown_both w n k = omega arith
-
 later_both : (d a b : ℕ) → lines.grown (lines.grown d a) b ≡ lines.grown d (a + b)
 later_both d a b = omega arith
 
@@ -181,7 +179,7 @@ waited p micros work = record p { line = record p.line { target = lines.delayed 
 
 waits_on : (p : TransferState) (count micros all : ℕ) → 65535 * count + micros ≡ all → transfers.delayed (delayed_by p count) micros ≡ waited p all (grown p.work (count + 1))
 waits_on p count micros all e =
-    λ i. waited_at p ((later_both p.line.target.lines.delay (65535 * count) micros ∙ ap (lines.grown p.line.target.lines.delay) e) i) (grown_both p.work count 1 i)
+    λ i. waited_at p ((later_both p.line.target.lines.delay (65535 * count) micros ∙ ap (lines.grown p.line.target.lines.delay) e) i) (grown_twice p.work count 1 i)
   where
     waited_at : TransferState → ℕ → ℕ → TransferState
     waited_at r delay work = record r { line = record r.line { target = record r.line.target { lines = record r.line.target.lines { delay = delay } } }; work = work }
@@ -204,7 +202,7 @@ none_delayed p h =
 pub next_delayed : (p : TransferState) (count : ℕ) → transfers.delayed (delayed_by p count) 65535 ≡ delayed_by p (count + 1)
 next_delayed p count = waits_on p count 65535 (65535 * (count + 1)) (omega arith)
 
-many_commands : (count rest : ℕ) → rest ≤ 65535 → (0 < count → 0 < rest) → delay_commands (65535 * count + rest) ≡ count + 1
+pub many_commands : (count rest : ℕ) → rest ≤ 65535 → (0 < count → 0 < rest) → delay_commands (65535 * count + rest) ≡ count + 1
 many_commands zero rest few some = omega arith
 many_commands (suc count) rest few some = let h = some (omega arith) in omega arith
 

@@ -21,7 +21,7 @@ use Rattle.flight_forms.specs.Packets.{FitChain, FitsPacket, chain_kind, chain_p
 use Rattle.flight_forms.specs.Packing.{AreWords}
 use Rattle.flight_forms.specs.declared.form.Form.TheVariants.{Chain}
 use Rattle.batch_packer.proofs.AloneLemmas.{after_in_range, flown_by}
-use Rattle.batch_packer.proofs.ChainLemmas.{chain_flown, chain_ran, chain_taken, served_probe, whole_chain_shows}
+use Rattle.batch_packer.proofs.ChainLemmas.{chain_flown, chain_ran, chain_taken, served_probe, whole_chain_shows, chain_kinds}
 use Rattle.batch_packer.proofs.PacketLemmas.{fits_more}
 use Rattle.probe_core.proofs.StateSteps.{steps_map, steps_then}
 use Rattle.batch_packer.specs.ChainReadings.{readings_after}
@@ -42,7 +42,7 @@ pub packet_count : (parts : List (List RegAccess)) → length (chain_packets par
 packet_count [] = refl
 packet_count (accesses ∷ parts) = ap suc (packet_count parts)
 
-some_is : (x y : List ℕ) → Some x ≡ Some y → y ≡ x
+pub some_is : (x y : List ℕ) → Some x ≡ Some y → y ≡ x
 some_is x y e = cc
 
 kind_long : (k : PacketKind) (accesses : List RegAccess) (size : ℕ) → (k ≡ Execute) ⊎ (k ≡ Queue) → FitsPacket size 2 (guarded_command accesses) → length (bytes_of_kind k (guarded_command accesses ∷ [])) ≤ size
@@ -53,20 +53,16 @@ kind_some : (k : PacketKind) (accesses : List RegAccess) → (k ≡ Execute) ⊎
 kind_some k accesses (inl is) = let b = ap (λ j. length (bytes_of_kind j (guarded_command accesses ∷ []))) is in omega arith
 kind_some k accesses (inr is) = let b = ap (λ j. length (bytes_of_kind j (guarded_command accesses ∷ []))) is in omega arith
 
-kinds : (parts : List (List RegAccess)) → (chain_kind parts ≡ Execute) ⊎ (chain_kind parts ≡ Queue)
-kinds [] = inl refl
-kinds (accesses ∷ parts) = inr refl
-
 some_packet : (parts : List (List RegAccess)) (i : ℕ) (packet : List ℕ) → slice_get (chain_packets parts) i ≡ Some packet → 0 < length packet
 some_packet [] i packet at = absurd (cc)
 some_packet (accesses ∷ parts) zero packet at =
-    let is = ap length (some_is (bytes_of_kind (chain_kind parts) (guarded_command accesses ∷ [])) packet at) in let s = kind_some (chain_kind parts) accesses (kinds parts) in omega arith
+    let is = ap length (some_is (bytes_of_kind (chain_kind parts) (guarded_command accesses ∷ [])) packet at) in let s = kind_some (chain_kind parts) accesses (chain_kinds parts) in omega arith
 some_packet (accesses ∷ parts) (suc i) packet at = some_packet parts i packet at
 
 short_packet : (size : ℕ) (parts : List (List RegAccess)) (i : ℕ) (packet : List ℕ) → FitChain size parts → slice_get (chain_packets parts) i ≡ Some packet → length packet ≤ size
 short_packet size [] i packet fits at = absurd (cc)
 short_packet size (accesses ∷ parts) zero packet fits at =
-    let is = ap length (some_is (bytes_of_kind (chain_kind parts) (guarded_command accesses ∷ [])) packet at) in let s = kind_long (chain_kind parts) accesses size (kinds parts) fits.0 in omega arith
+    let is = ap length (some_is (bytes_of_kind (chain_kind parts) (guarded_command accesses ∷ [])) packet at) in let s = kind_long (chain_kind parts) accesses size (chain_kinds parts) fits.0 in omega arith
 short_packet size (accesses ∷ parts) (suc i) packet fits at = short_packet size parts i packet fits.1 at
 
 held_packet : (parts : List (List RegAccess)) (i : ℕ) (packet : List ℕ) → slice_get (chain_packets parts) i ≡ Some packet → i + 1 < length (chain_packets parts) → is_queued packet ≡ true

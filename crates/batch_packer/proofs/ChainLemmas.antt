@@ -10,6 +10,7 @@ use Rattle.dap_messages.specs.declared.request.Response.TheVariants.{Good, Wait,
 use Rattle.dap_messages.specs.Commands.{IsCommand, bytes_of_kind}
 use Rattle.dap_messages.specs.Replies.{Answers, reply_bytes}
 use Rattle.dap_replies.specs.ReplyViews.{shown}
+use Rattle.dap_replies.proofs.ReplyLaws.{response-code}
 use Rattle.dap_transfer.specs.State.{TransferState, Transferred, is_good}
 use Rattle.dap_transfer.specs.Transfer.{transferred}
 use Rattle.probe_core.specs.Bench.{BenchState, counted, handed, served}
@@ -20,7 +21,6 @@ use Rattle.flight_forms.specs.Chains.{CutAs, IsCutOnce, IsShut, chain_after, cha
 use Rattle.flight_forms.specs.Flights.{Part}
 use Rattle.flight_forms.specs.Packets.{AnswerChain, FitChain, FitsPacket, chain_kind, chain_packets, guarded_command, transfer_answer}
 use Rattle.flight_forms.specs.Packing.{guarded_requests, payload}
-use Rattle.batch_packer.proofs.AloneLemmas.{response_known}
 use Rattle.batch_packer.proofs.PacketLemmas.{answered_one}
 use Rattle.batch_packer.specs.ChainReadings.{guarded_reading, is_mismatch, joined_if, readings_after, then_reading}
 use Rattle.batch_packer.specs.Queues.{HandedSome}
@@ -46,7 +46,7 @@ queue_answered k e accesses size fits (inr is) =
     ∙ answered_one e Queue (guarded_command accesses) (bytes_of_kind Queue (guarded_command accesses ∷ [])) size fits refl
     ∙ ap (λ bytes. record { reply = 0x7F ∷ 1 ∷ bytes; next = with_transfers e d.next }) (append-nil (reply_bytes (transfer_answer d)))
 
-chain_kinds : (parts : List (List RegAccess)) → (chain_kind parts ≡ Execute) ⊎ (chain_kind parts ≡ Queue)
+pub chain_kinds : (parts : List (List RegAccess)) → (chain_kind parts ≡ Execute) ⊎ (chain_kind parts ≡ Queue)
 chain_kinds [] = inl refl
 chain_kinds (accesses ∷ parts) = inr refl
 
@@ -96,7 +96,7 @@ pub served_probe : (m : BenchState) (packets : List (List ℕ)) → (fold served
 served_probe m [] = refl
 served_probe m (x ∷ packets) = served_probe (served m x) packets
 
-drop_twice : (n : ℕ) (xs : List (List ℕ)) → drop n (drop 1 xs) ≡ drop (suc n) xs
+pub drop_twice : (n : ℕ) (xs : List (List ℕ)) → drop n (drop 1 xs) ≡ drop (suc n) xs
 drop_twice zero [] = refl
 drop_twice (suc n) [] = refl
 drop_twice n (y ∷ xs) = refl
@@ -159,7 +159,7 @@ pub reads_guarded : (accesses : List RegAccess) (d : Transferred) → IsCommand 
     guarded_reading accesses (guarded_reply d) ≡ Some (guarded_part accesses d)
 reads_guarded accesses d command may =
     ap (λ x. part_in 2 (payload accesses) (shown_in x)) (reply_complete (guarded_command accesses) (transfer_answer d) command may)
-    ∙ ap (part_as 2 (payload accesses) (shown (transfer_answer d))) (response_known d.response)
+    ∙ ap (part_as 2 (payload accesses) (shown (transfer_answer d))) (response-code d.response)
 
 joined_after : (a b c : Part) → joined_as Good (joined_as Good a b) c ≡ joined_as Good a (joined_as Good b c)
 joined_after a b c =

@@ -3,8 +3,10 @@ use Rattle.std.proofs.Common.{◌≡◌, inl, inr, ℕ, List, [], ◌∷◌, fal
 use Rattle.probe_core.specs.Bench.{BenchState, StepsTo, served, HandsOut, counted}
 use Rattle.probe_core.specs.Packet.{answered, accepted}
 use Rattle.probe_core.specs.Probe.{ProbeState, is_queued}
-use Rattle.probe_core.proofs.StateSteps.{steps_map, steps_same, steps_then}
+use Rattle.probe_core.proofs.StateSteps.{runs_then, steps_map, steps_same, steps_then}
+use Rattle.batch_packer.proofs.GoingOn.{goes_failed, goes_sent, goes_stays, stays_failed, stays_received}
 use Rattle.batch_packer.specs.Exchanges.{IsIdle, HasAnswered, MayHaveRun}
+use Rattle.batch_packer.proofs.ChainBench.{some_is}
 
 -- an idle probe executes a packet that is not held at once
 accepted_alone : (p : ProbeState) (packet : List ℕ) → p.held ≡ [] → p.waiting ≡ [] → is_queued packet ≡ false → accepted p packet ≡ record { executor = (answered p.executor packet).next; held = []; waiting = (answered p.executor packet).reply ∷ [] }
@@ -12,9 +14,6 @@ accepted_alone p packet held waiting plain = rw (plain, held, waiting) refl
 
 abbrev Waits : List ℕ → ProbeState → Type 0
 Waits reply p = slice_get p.waiting 0 ≡ Some reply
-
-some_same : (x y : List ℕ) → Some x ≡ Some y → y ≡ x
-some_same x y e = cc
 
 -- the reply to a packet that an idle bench took, handed out
 pub answers_one : (packet reply : List ℕ) (m n o : BenchState) → is_queued packet ≡ false → IsIdle m → n ≡ served m packet → HandsOut reply n o → HasAnswered packet reply m o
@@ -25,7 +24,7 @@ answers_one packet reply m n o plain idle sent out =
     let all : o.probe ≡ record { executor = (answered m.probe.executor packet).next; held = []; waiting = [] } =
     next ∙ ap (λ (p : ProbeState). record p { waiting = drop 1 p.waiting }) ran in
     record {
-      answer = some_same _ reply (subst (Waits reply) ran out.oldest);
+      answer = some_is _ reply (subst (Waits reply) ran out.oldest);
       executor = ap (λ (p : ProbeState). p.executor) all;
       idle = record { held = ap (λ (p : ProbeState). p.held) all; waiting = ap (λ (p : ProbeState). p.waiting) all };
       starting = ap (λ (b : BenchState). b.starting) out.next ∙ ap (λ (b : BenchState). b.starting) sent ∙ ap (λ q. cond q m.starting (counted m.starting)) plain;
@@ -49,3 +48,5 @@ taken packet a b c plain first same =
 -- a packet that was not taken
 pub not_taken : (packet : List ℕ) (a b : Option BenchState) → b ≡ a → StepsTo (λ m o. IsIdle m → MayHaveRun packet m o) a b
 not_taken packet a b same = steps_same (λ m o. IsIdle m → MayHaveRun packet m o) (λ m idle. inl refl) a b same
+
+pub ruleset exchanging = (answers, taken, not_taken, runs_then, goes_failed, goes_sent, goes_stays, stays_received, stays_failed)

@@ -20,9 +20,7 @@ use Rattle.batch_packer.proofs.PacketLemmas.{fits_packet}
 use Rattle.batch_packer.specs.Alone.{IsBlock, one_command, one_reading}
 use Rattle.batch_packer.specs.Readings.{IsPacketOf, IsSeen, IsShown, reading}
 use Rattle.batch_packer.specs.declared.part.Progress.{Progress}
-
-some_is : (x y : List ℕ) → Some x ≡ Some y → y ≡ x
-some_is x y e = cc
+use Rattle.batch_packer.proofs.ChainBench.{some_is}
 
 -- the one packet that was kept
 pub one_kept : (old new : List (List ℕ)) (x : List ℕ) → old ≡ [] → new ≡ old ++ x ∷ [] → new ≡ x ∷ []

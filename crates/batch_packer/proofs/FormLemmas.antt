@@ -1,7 +1,7 @@
 -- A flight in the form that holds it.
 use Rattle.std.proofs.Common.{◌≡◌, inl, inr, ℕ, ◌<◌, ◌≤◌, Bool, true, false, cond, List, [], ◌∷◌, length, Option, Some, None, refl, ap, sym, subst, arith}
-use Rattle.std.specs.Prelude.{◌&&◌, nat_le}
-use Rattle.std.proofs.lemmas.Bool.Decides.{nat_tests}
+use Rattle.std.specs.Prelude.{nat_le}
+use Rattle.std.proofs.lemmas.Bool.{leb-true}
 use Rattle.target_machine.specs.declared.access.RegAccess.{RegAccess}
 use Rattle.dap_messages.specs.declared.request.Response.{Response}
 use Rattle.dap_messages.specs.declared.request.Response.TheVariants.{Good, Wait, Fault, Mismatch}
@@ -28,6 +28,7 @@ use Rattle.batch_packer.specs.Readings.{IsSeen, part_with}
 use Rattle.batch_packer.specs.declared.ends.FlightEnd.{FlightEnd}
 use Rattle.batch_packer.specs.declared.ends.FlightEnd.TheVariants as ends
 use Rattle.batch_packer.specs.declared.part.Progress.{Progress}
+use Rattle.dap_base.proofs.Basics.{second_true}
 
 -- ---- what a form holds
 
@@ -67,18 +68,10 @@ transfer_sent limits given (a ∷ rest) some within words is =
     (transfer_fits limits.packet_size a rest words
     (is_transfer (fits_block limits.packet_size (a ∷ rest)) (fits_transfer limits.packet_size (a ∷ rest)) (fits_chain limits.packet_size limits.packet_count (a ∷ rest)) is))
 
-both_true : (x y : Bool) → (x && y) ≡ true → y ≡ true
-both_true true true e = refl
-both_true true false e = absurd (cc)
-both_true false y e = absurd (cc)
-
-least : (a b : ℕ) → nat_le a b ≡ true → a ≤ b
-least a b e = grind (arith, nat_tests)
-
 pub few_parts : (limits : Limits) (accesses : List RegAccess) → form_of limits.packet_size limits.packet_count accesses ≡ Some Chain → length (parts_of limits.packet_size accesses) ≤ limits.packet_count
 few_parts limits accesses is =
-    least (length (parts_of limits.packet_size accesses)) limits.packet_count
-    (both_true (nat_le 2 limits.packet_count) (nat_le (length (parts_of limits.packet_size accesses)) limits.packet_count)
+    leb-true (length (parts_of limits.packet_size accesses)) limits.packet_count
+    (second_true (nat_le 2 limits.packet_count) (nat_le (length (parts_of limits.packet_size accesses)) limits.packet_count)
     (is_chain (fits_block limits.packet_size accesses) (fits_transfer limits.packet_size accesses) (fits_chain limits.packet_size limits.packet_count accesses) is))
 
 pub chain_sent : (limits given : Limits) (accesses : List RegAccess) → 0 < length accesses → AreLimits limits → IsWithin limits given → AreWords accesses →

@@ -2,7 +2,9 @@
 use Rattle.std.proofs.Common.{◌≡◌, ◌⊎◌, inl, inr, ℕ, zero, suc, ◌+◌, ◌≤◌, eqb, Bool, true, false, cond, List, Option, refl, ap, sym, subst, ◌∙◌, arith}
 use Rattle.std.proofs.lemmas.Bool.{ne_eqb}
 use Rattle.probe_core.specs.Bench.{BenchState, HasReceived, IsAsBefore, Reported, counted, received, sent}
-use Rattle.batch_packer.specs.Exchanges.{GoesOn, StaysAt}
+use Rattle.probe_core.specs.Runs.{KeepsRuns}
+use Rattle.probe_core.proofs.StateSteps.{runs_then}
+use Rattle.batch_packer.specs.Exchanges.{GoesOn, GoesOnOver, StaysAt}
 use Rattle.batch_packer.specs.FlightEnds.{HasEndCause, got_replies}
 use Rattle.batch_packer.specs.declared.ends.FlightEnd.{FlightEnd}
 
@@ -46,6 +48,15 @@ pub goes_failed : (packet : List ℕ) (t u : Reported) (a b : Option BenchState)
     IsAsBefore (record { reported = t; state = a }) (record { reported = u; state = b }) ⊎ HasReceived packet (record { reported = t; state = a }) (record { reported = u; state = b }) → GoesOn t u
 goes_failed packet t u a b (inl same) = stays_goes t u (stays_failed t u a b same)
 goes_failed packet t u a b (inr received) = same_goes packet t u received.reported
+
+-- after a call that counts no exchange
+pub goes_on_after : {B : Type 0} (reported : B → Reported) (state : B → Option BenchState) (identity : B → ℕ) (a b c : B) → GoesOnOver reported state identity a b →
+    StaysAt (reported b) (reported c) → KeepsRuns (state b) (state c) → identity c ≡ identity b → GoesOnOver reported state identity a c
+goes_on_after reported state identity a b c on stays runs same = record {
+  goes = goes_stays (reported a) (reported b) (reported c) on.goes stays;
+  runs = runs_then (state a) (state b) (state c) on.runs runs;
+  same_bench = same ∙ on.same_bench;
+}
 
 -- ---- an end that is no fault of the bench
 

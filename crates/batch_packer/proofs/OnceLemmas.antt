@@ -1,9 +1,8 @@
 -- One read of CTRL/STAT in one Transfer.
-use Rattle.std.proofs.Common.{◌≡◌, ◌∙◌, ℕ, Bool, true, false, cond, eqb, List, [], ◌∷◌, length, take, refl, sym, ap, subst}
+use Rattle.std.proofs.Common.{◌≡◌, ◌∙◌, false, cond, eqb, List, [], ◌∷◌, take, refl, sym, ap, subst}
 use Rattle.std.specs.Prelude.{nat_lt, slice_index}
 use Rattle.target_machine.specs.Attempt.{bank, is_free}
 use Rattle.target_machine.specs.Plain.{dp_read_of}
-use Rattle.target_machine.specs.State.{TargetState}
 use Rattle.target_machine.specs.declared.access.RegAccess.{RegAccess}
 use Rattle.dap_messages.specs.declared.request.Response.{Response}
 use Rattle.dap_messages.specs.declared.request.Response.TheVariants.{Good, Wait, Fault, Mismatch}
@@ -12,16 +11,13 @@ use Rattle.dap_transfer.specs.Transfer.{transferred}
 use Rattle.dap_messages.specs.Requests.{read_request}
 use Rattle.dap_transfer.specs.WireTransfer.{ends, wire_ending_as}
 use Rattle.dap_transfer.specs.Wires.{access_of}
-use Rattle.flight_forms.specs.Flights.{Part, part_of}
+use Rattle.dap_transfer.proofs.Polls.{first_good}
+use Rattle.flight_forms.specs.Flights.{part_of}
 use Rattle.flight_forms.specs.Packing.{requests_for}
 use Rattle.batch_packer.specs.Flying.{ReadsOnce}
 
 abbrev one : List RegAccess
 one = dp_read_of 0x4 ∷ []
-
-first_good : (f : Bool) (x : Response) → f ≡ true → cond f Good x ≡ Good
-first_good true x e = refl
-first_good false x e = absurd (cc)
 
 -- where DPBANKSEL is 0 it never waits
 ends_free : (s : Setting) (l : WireState) → bank l.target ≡ 0 → ends s l (dp_read_of 0x4) ≡ Good

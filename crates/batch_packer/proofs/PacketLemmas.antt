@@ -1,5 +1,5 @@
 -- Packets of one command: how they are read, and what a probe answers to them.
-use Rattle.std.proofs.Common.{◌≡◌, ℕ, ◌+◌, ◌≤◌, cond, List, [], ◌∷◌, length, refl, ap, subst, ◌∙◌, arith, append-nil, Option, take, zero, suc}
+use Rattle.std.proofs.Common.{◌≡◌, ℕ, ◌+◌, ◌≤◌, cond, List, [], ◌∷◌, length, refl, ap, subst, ◌∙◌, arith, append-nil, Option}
 use Rattle.std.specs.Prelude.{Result, Ok, Err, slice_get}
 use Rattle.std.proofs.lemmas.Bool.{le-leb, le-ltb}
 use Rattle.std.proofs.lemmas.List.Sums.{sum_by-cons}
@@ -7,11 +7,9 @@ use Rattle.dap_messages.specs.declared.command.PacketKind.{PacketKind}
 use Rattle.dap_messages.specs.declared.command.PacketKind.TheVariants.{Plain, Execute, Queue}
 use Rattle.dap_messages.specs.declared.command_value.CommandValue.{CommandValue}
 use Rattle.dap_messages.specs.declared.error.MessageError.{MessageError}
-use Rattle.dap_messages.specs.declared.request.Request.{Request}
 use Rattle.dap_messages.specs.Commands.{IsCount, Packet, bytes_of_kind, command_bytes, longest_packet_reply, longest_reply}
 use Rattle.dap_messages.specs.PacketReading.{packet_at, packet_read, too_long}
 use Rattle.dap_messages.proofs.PacketLaws.{packet_complete}
-use Rattle.dap_transfer.specs.Laws.{AreNormal}
 use Rattle.probe_core.specs.Packet.{answered, answered_as, nothing_done, packet_done}
 use Rattle.probe_core.specs.Probe.{ExecutorState}
 use Rattle.flight_forms.specs.Packets.{FitsPacket}
@@ -96,8 +94,3 @@ fits_more size more before c h fits = record {
   bytes = (let a = fits.bytes in omega arith);
   reply = (let a = fits.reply in omega arith);
 }
-
-pub taken_normal : (n : ℕ) (rs : List Request) → AreNormal rs → AreNormal (take n rs)
-taken_normal zero rs h = tt
-taken_normal (suc n) [] h = tt
-taken_normal (suc n) (r ∷ rs) h = (h.0, taken_normal n rs h.1)

@@ -15,6 +15,7 @@ use Rattle.dap_messages.specs.declared.request.Response.TheVariants.{Good, Misma
 use Rattle.dap_messages.specs.Commands.{IsCommand, packet_bytes}
 use Rattle.dap_messages.specs.Replies.{Answers, ReplyValue, Status, reply_bytes}
 use Rattle.dap_replies.specs.ReplyReading.{reply_read}
+use Rattle.dap_replies.proofs.ReplyLaws.{response-code}
 use Rattle.dap_messages.specs.Responses.{code_of}
 use Rattle.dap_transfer.specs.State.{TransferState, Transferred}
 use Rattle.probe_core.specs.Bench.{BenchState, StepsTo}
@@ -28,7 +29,6 @@ use Rattle.flight_forms.specs.Packets.{transfer_answer}
 use Rattle.flight_forms.specs.Polls.{IsPollPacket, clear_mask, poll_after, poll_cleared, poll_commands, poll_matched, poll_requests}
 use Rattle.dap_transfer.specs.ValueMatch.{has_matched}
 use Rattle.batch_packer.proofs.ActionLemmas.{poll_clear}
-use Rattle.batch_packer.proofs.AloneLemmas.{response_known}
 use Rattle.batch_packer.proofs.PacketLemmas.{answered_is}
 use Rattle.probe_core.proofs.StateSteps.{steps_map}
 use Rattle.batch_packer.specs.Actions.{Acts}
@@ -138,7 +138,7 @@ reads_poll p config ask is e =
     let value : match_by (shown_in (reply_read (Transfer (poll_requests ask.mask ask.value)) (5 ∷ d.executed ∷ code_of d.response ∷ []))) ≡ Ok m =
     ap (λ (xs : List ℕ). match_by (shown_in (reply_read (Transfer (poll_requests ask.mask ask.value)) xs))) (λ i. reply_bytes (transfer_answer (record { executed = d.executed; response = d.response; words = sym does.words i; next = d.next })))
     ∙ ap (λ x. match_by (shown_in x)) (reply_complete (Transfer (poll_requests ask.mask ask.value)) (transfer_answer d) commands.1.0 does.answers)
-    ∙ ap match_end (response_known d.response)
+    ∙ ap match_end (response-code d.response)
     ∙ ap (λ (x : Response). match_end (Some x)) does.response
     ∙ is_matched m in
     ap (matched_in config ask) short

@@ -1,16 +1,17 @@
 -- Packets sent and replies taken, one after the other.
 use Rattle.std.proofs.Common.{◌≡◌, ℕ, zero, suc, ◌+◌, ◌<◌, ◌⊎◌, inl, inr, arith, take, drop, length, length-append, Option, Some, None, List, [], ◌∷◌, ◌++◌, fold, refl, ap, sym, ◌∙◌, subst}
 use Rattle.std.specs.Prelude.{slice_get}
+use Rattle.std.proofs.lemmas.Option.{same_Some}
 use Rattle.probe_core.specs.Bench.{BenchState, HasReceived, HandsOut, IsAsBefore, Reported, StepsTo, handed, received, sent, served}
-use Rattle.probe_core.proofs.LogLemmas.{some_is}
-use Rattle.probe_core.proofs.StateSteps.{steps_map, steps_then}
+use Rattle.probe_core.proofs.StateSteps.{runs_self, runs_then, steps_map, steps_then}
 use Rattle.batch_packer.specs.Queues.{HandedSome, ServedSome}
+use Rattle.batch_packer.proofs.ChainLemmas.{drop_twice}
 
 -- ---- packet after packet
 
 take_next : (i : ℕ) (xs : List (List ℕ)) (x : List ℕ) → slice_get xs i ≡ Some x → take (i + 1) xs ≡ take i xs ++ x ∷ []
 take_next zero [] x e = absurd (cc)
-take_next zero (y ∷ xs) x e = let same : y ≡ x = some_is y x e in ap (λ z. z ∷ []) same
+take_next zero (y ∷ xs) x e = let same : y ≡ x = same_Some y x e in ap (λ z. z ∷ []) same
 take_next (suc i) [] x e = absurd (cc)
 take_next (suc i) (y ∷ xs) x e = let n : suc i + 1 ≡ suc (i + 1) = omega arith in ap (λ k. take k (y ∷ xs)) n ∙ ap (λ zs. y ∷ zs) (take_next i xs x e)
 
@@ -50,11 +51,6 @@ received_last : (t : Reported) (xs : List (List ℕ)) (x : List ℕ) → fold re
 received_last t [] x = refl
 received_last t (y ∷ xs) x = received_last (received t y) xs x
 
-drop_twice : (n : ℕ) (xs : List (List ℕ)) → drop n (drop 1 xs) ≡ drop (suc n) xs
-drop_twice zero [] = refl
-drop_twice (suc n) [] = refl
-drop_twice n (y ∷ xs) = refl
-
 left_waiting : (m : BenchState) (xs : List (List ℕ)) → (fold handed m xs).probe.waiting ≡ drop (length xs) m.probe.waiting
 left_waiting m [] = refl
 left_waiting m (y ∷ xs) = left_waiting (handed m y) xs ∙ drop_twice (length xs) m.probe.waiting
@@ -92,3 +88,5 @@ one_fewer t u v x k n h e below = let w = ap (λ (y : Reported). y.waiting) h in
 
 pub one_longer : (xs new : List (List ℕ)) (x : List ℕ) (n : ℕ) → new ≡ xs ++ x ∷ [] → length xs ≡ n → length new ≡ n + 1
 one_longer xs new x n is e = let s = ap length is ∙ length-append xs (x ∷ []) in omega arith
+
+pub ruleset handing = (none_handed, handed_same, runs_then, runs_self)

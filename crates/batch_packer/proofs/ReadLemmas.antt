@@ -20,6 +20,7 @@ use Rattle.batch_packer.specs.ChainReadings.{ended_at, guarded_in, guarded_readi
 use Rattle.batch_packer.specs.Queues.{IsPartPacket}
 use Rattle.batch_packer.specs.Readings.{IsPacketOf, IsSeen, IsShown, part_with, reading}
 use Rattle.batch_packer.specs.declared.part.Progress.{Progress}
+use Rattle.dap_base.proofs.Basics.{first_is}
 
 -- ---- the payload between the guard and its end
 
@@ -92,13 +93,6 @@ drop_at (suc i) (y ∷ xs) x e = let n : suc i + 1 ≡ suc (i + 1) = omega arith
 pub rest_some : (size i : ℕ) (packets : List (List ℕ)) (rest : List RegAccess) → drop i packets ≡ chain_packets (parts_of size rest) → i < length packets → 0 < length rest
 rest_some size i packets [] e below = absurd (let f = ap length e in let l = length-drop i packets in omega arith)
 rest_some size i packets (a ∷ rest) e below = omega arith
-
-first_is : (x y : List ℕ) (xs ys : List (List ℕ)) → x ∷ xs ≡ y ∷ ys → (x ≡ y) × (xs ≡ ys)
-first_is x y xs ys e = (ap (head_or x) e, ap (drop 1) e)
-  where
-    head_or : List ℕ → List (List ℕ) → List ℕ
-    head_or d [] = d
-    head_or d (z ∷ zs) = z
 
 kind_fits : (left : List (List RegAccess)) (part : List RegAccess) (packet : List ℕ) → FitsPacket 1024 2 (guarded_command part) → packet ≡ bytes_of_kind (chain_kind left) (guarded_command part ∷ []) →
     IsPartPacket part packet

@@ -18,7 +18,7 @@ use Rattle.flight_forms.specs.Chains.{AllTaken, joined_as}
 use Rattle.flight_forms.specs.Flights.{IsPartOf, Part, part_of}
 use Rattle.flight_forms.specs.Packets.{guarded_command}
 use Rattle.flight_forms.specs.Packing.{AreTaken, payload, requests_for}
-use Rattle.batch_packer.proofs.AloneLemmas.{part_same}
+use Rattle.batch_packer.proofs.AloneLemmas.{part_same, less_none}
 use Rattle.batch_packer.proofs.ReadLemmas.{inner_is, take_bytes}
 use Rattle.batch_packer.specs.Alone.{IsBlock, one_command}
 use Rattle.batch_packer.specs.ChainReadings.{guarded_in, guarded_reading, is_mismatch, is_of_one, joined_if, then_reading}
@@ -44,9 +44,6 @@ read_from command found replied view before requests old new (Some progress) is 
 }
 
 -- ---- what one reply shows
-
-less_none : (n : ℕ) → n - 0 ≡ n
-less_none n = omega arith
 
 -- of a flight in one packet
 one_part_short : (b : Bool) (accesses : List RegAccess) (answer : ReplyValue) (view : Shown) (progress : Progress) (new : List (Option ℕ)) (x : Option Response) → (b ≡ true → IsBlock accesses) → AreTaken accesses →
@@ -177,8 +174,3 @@ pub some_taken : (len : ℕ) (rest : List RegAccess) → 0 < len → len ≤ len
 some_taken zero rest some within = absurd (omega arith)
 some_taken (suc len) [] some within = absurd (omega arith)
 some_taken (suc len) (a ∷ rest) some within = omega arith
-
-pub length_taken : (len : ℕ) (rest : List RegAccess) → len ≤ length rest → length (take len rest) ≡ len
-length_taken zero rest within = refl
-length_taken (suc len) [] within = absurd (omega arith)
-length_taken (suc len) (a ∷ rest) within = ap suc (length_taken len rest (omega arith))

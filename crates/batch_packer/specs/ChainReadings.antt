@@ -4,8 +4,9 @@ use Rattle.target_machine.specs.declared.access.RegAccess.{RegAccess}
 use Rattle.dap_messages.specs.declared.request.Response.{Response}
 use Rattle.dap_messages.specs.declared.request.Response.TheVariants.{Good, Mismatch}
 use Rattle.dap_transfer.specs.State.{is_good}
-use Rattle.flight_forms.specs.Chains.{joined_as}
+use Rattle.flight_forms.specs.Chains.{joined_as, nothing_yet}
 use Rattle.flight_forms.specs.Flights.{Part}
+use Rattle.flight_forms.specs.Forms.{parts_of}
 use Rattle.flight_forms.specs.Packets.{guarded_command}
 use Rattle.flight_forms.specs.Packing.{payload}
 use Rattle.batch_packer.specs.Readings.{reading}
@@ -52,6 +53,10 @@ readings_after (Some sofar) [] [] = Some sofar
 readings_after (Some sofar) (accesses ∷ parts) (reply ∷ replies) = readings_after (then_reading sofar (guarded_reading accesses reply)) parts replies
 readings_after (Some sofar) _ _ = None
 
+-- what the replies to a chain of these accesses show, in packets of this size at most
+abbrev pub chain_reading : ℕ → List RegAccess → List (List ℕ) → Option Part
+chain_reading size accesses replies = readings_after (Some nothing_yet) (parts_of size accesses) replies
+
 -- The number of the reply at which a chain ended, by this reply of this number. It is this number where the reply breaks the rules, and where
 -- all before it were OK.
 abbrev pub noted_at : ℕ → ℕ → Bool → Option Part → ℕ
@@ -66,6 +71,10 @@ ended_at (Some sofar) i at (accesses ∷ parts) (reply ∷ replies) =
     let next : Option Part = then_reading sofar (guarded_reading accesses reply) in
     ended_at next (i + 1) (noted_at i at (is_good sofar.response) next) parts replies
 ended_at (Some sofar) i at _ _ = at
+
+-- that number for a chain of these accesses, in packets of this size at most
+abbrev pub chain_ended_at : ℕ → List RegAccess → List (List ℕ) → ℕ
+chain_ended_at size accesses replies = ended_at (Some nothing_yet) 0 0 (parts_of size accesses) replies
 
 -- the values after a reply: where a value match was not met, none is added
 abbrev pub values_kept : Bool → List (Option ℕ) → List (Option ℕ) → List (Option ℕ)

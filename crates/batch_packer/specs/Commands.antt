@@ -2,6 +2,7 @@
 use Rattle.std.specs.Prelude.{◌≡◌, ◌⊎◌, ℕ, ◌+◌, ◌*◌, ◌==◌, Bool, true, false, if◌then◌else◌, List, [], ◌∷◌, Option, Some, None, Result, Ok, Err, slice_index}
 use Rattle.dap_messages.specs.declared.command_value.CommandValue.{CommandValue}
 use Rattle.dap_messages.specs.declared.command_value.CommandValue.TheVariants as command
+use Rattle.dap_messages.specs.Commands.{IsCommand}
 use Rattle.dap_replies.specs.ReplyViews.{Shown}
 use Rattle.dap_replies.specs.ReplyReading.{reply_read}
 use Rattle.dap_transfer.specs.Lines.{pins_set}
@@ -19,6 +20,11 @@ abbrev pub is_single : CommandValue → Bool
 is_single (command.Transfer requests) = false
 is_single (command.WriteBlock request words) = false
 is_single c = true
+
+-- A command that can be sent alone in a packet: it is no Transfer and no block of writes.
+pub record IsSingle (c : CommandValue) : Type 0 where
+  pub command : IsCommand c
+  pub single : is_single c ≡ true
 
 -- how something ends that answers so; it has no end where it answers a value
 abbrev pub end_in : {A : Type 0} → Result A FlightEnd → Option FlightEnd

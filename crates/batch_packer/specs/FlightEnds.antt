@@ -5,14 +5,13 @@ use Rattle.target_machine.specs.declared.access.RegAccess.{RegAccess}
 use Rattle.dap_messages.specs.declared.request.Response.{Response}
 use Rattle.dap_messages.specs.declared.request.Response.TheVariants.{Good, Mismatch}
 use Rattle.dap_messages.specs.Responses.{code_of, response_of}
-use Rattle.probe_core.specs.Bench.{BenchState}
-use Rattle.flight_forms.specs.Chains.{nothing_yet}
+use Rattle.probe_core.specs.Bench.{BenchState, Reported}
 use Rattle.flight_forms.specs.Flights.{Part}
-use Rattle.flight_forms.specs.Forms.{parts_of}
 use Rattle.flight_forms.specs.declared.form.Form.{Form}
 use Rattle.flight_forms.specs.declared.form.Form.TheVariants.{Block, Transfer, Chain}
 use Rattle.batch_packer.specs.Alone.{one_reading}
-use Rattle.batch_packer.specs.ChainReadings.{is_mismatch, readings_after}
+use Rattle.batch_packer.specs.ChainReadings.{chain_reading, is_mismatch}
+use Rattle.batch_packer.specs.Exchanges.{GoesOnOver}
 use Rattle.batch_packer.specs.Flying.{HasFlown, MayHaveFlown}
 use Rattle.batch_packer.specs.declared.ends.Cut.{Cut}
 use Rattle.batch_packer.specs.declared.ends.FlightEnd.{FlightEnd}
@@ -23,7 +22,7 @@ use Rattle.batch_packer.specs.declared.part.Progress.{Progress}
 abbrev pub form_reading : Form → ℕ → List RegAccess → List (List ℕ) → Option Part
 form_reading Block size accesses replies = one_reading true accesses replies
 form_reading Transfer size accesses replies = one_reading false accesses replies
-form_reading Chain size accesses replies = readings_after (Some nothing_yet) (parts_of size accesses) replies
+form_reading Chain size accesses replies = chain_reading size accesses replies
 
 -- a flight asks for no value match of its own, so that 11 is no response of one
 abbrev pub unless_mismatch : Option Part → Option Part
@@ -88,6 +87,12 @@ pub record HasEndCause (before now : ℕ) (end : Option FlightEnd) : Type 0 wher
   pub later : before ≤ now
   pub failed : end ≡ Some ends.BenchFault → Rose before now
   pub others : got_replies end ≡ true → now ≡ before
+
+-- What each call of a flight keeps of its bench, and its cause where it ends so.
+pub record EndsOver {B : Type 0} (reported : B → Reported) (state : B → Option BenchState) (identity : B → ℕ) (end : Option FlightEnd)
+    (old new : B) : Type 0 where
+  pub on : GoesOnOver reported state identity old new
+  pub cause : HasEndCause (reported old).faults (reported new).faults end
 
 -- numbers of 32 bits
 pub record IsSmall (progress : Progress) : Type 0 where

@@ -1,7 +1,7 @@
 -- The state of a flight, and what its parts keep.
 use Rattle.std.specs.Prelude.{◌≡◌, ◌==◌, ℕ, ◌*◌, ◌<◌, ◌≤◌, true, false, Bool, is_some, List, [], ◌++◌, ◌∷◌, length, slice_get, Option, Some, None}
 use Rattle.target_machine.specs.declared.access.RegAccess.{RegAccess}
-use Rattle.probe_core.specs.Bench.{BenchState}
+use Rattle.probe_core.specs.Bench.{BenchState, Reported}
 use Rattle.probe_core.specs.Packets.{Packets}
 use Rattle.probe_core.specs.Ranges.{AreLimits}
 use Rattle.probe_core.specs.declared.job.Limits.{Limits}
@@ -12,6 +12,7 @@ use Rattle.flight_forms.specs.declared.form.Form.{Form}
 use Rattle.flight_forms.specs.declared.form.Form.TheVariants.{Transfer}
 use Rattle.flight_forms.specs.declared.size.FlightSize.{FlightSize}
 use Rattle.batch_packer.specs.AccessLists.{Accesses}
+use Rattle.batch_packer.specs.Exchanges.{IsOpen}
 use Rattle.batch_packer.specs.FlightEnds.{EndsBy, Flew, flight_reading}
 use Rattle.batch_packer.specs.declared.ends.FlightEnd.{FlightEnd}
 use Rattle.batch_packer.specs.declared.ends.FlightEnd.TheVariants as ends
@@ -74,6 +75,19 @@ SentBy (Some form) accesses end values m n = Flew form accesses end values m n
 abbrev pub ReadBy : Option Form → ℕ → List RegAccess → List (List ℕ) → Option FlightEnd → List (Option ℕ) → Type 0
 ReadBy None size accesses replies end values = (end ≡ None) × (values ≡ [])
 ReadBy (Some form) size accesses replies end values = EndsBy (flight_reading form size accesses replies) end values
+
+-- what was done where a flight was sent that ends so
+abbrev pub FlownBy : FlightState → Option FlightEnd → List (Option ℕ) → BenchState → BenchState → Type 0
+FlownBy flight end values m n = SentBy (sent_form flight.limits flight.accesses) flight.accesses end values m n
+
+-- how a flight ends that was sent, by its replies
+abbrev pub EndedBy : FlightState → List (List ℕ) → Option FlightEnd → List (Option ℕ) → Type 0
+EndedBy flight replies end values = ReadBy (sent_form flight.limits flight.accesses) flight.limits.packet_size flight.accesses replies end values
+
+-- a flight that can be used, over a bench that may be sent a packet
+pub record MaySend (flight : FlightState) (reported : Reported) : Type 0 where
+  pub usable : flight.end ≡ None
+  pub is_open : IsOpen reported
 
 -- whether a flight that was sent in this form can be used again: one Transfer that was answered FAULT
 abbrev pub can_resume : Form → Option FlightEnd → Bool

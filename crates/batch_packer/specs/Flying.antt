@@ -6,15 +6,16 @@ use Rattle.target_machine.specs.Plain.{dp_read_of}
 use Rattle.target_machine.specs.declared.access.RegAccess.{RegAccess}
 use Rattle.dap_messages.specs.declared.request.Response.TheVariants.{Good}
 use Rattle.dap_transfer.specs.State.{TransferState, is_good}
-use Rattle.probe_core.specs.Bench.{BenchState, counted}
+use Rattle.probe_core.specs.Bench.{BenchState, Reported, counted}
 use Rattle.probe_core.specs.Commands.{with_transfers}
 use Rattle.probe_core.specs.Probe.{target_of}
+use Rattle.probe_core.specs.Ranges.{AreLimits}
 use Rattle.probe_core.specs.declared.job.Limits.{Limits}
 use Rattle.flight_forms.specs.Chains.{IsGuardOpen}
 use Rattle.flight_forms.specs.Flights.{DoesPart, Part}
 use Rattle.flight_forms.specs.declared.form.Form.{Form}
 use Rattle.flight_forms.specs.declared.form.Form.TheVariants.{Chain, Transfer}
-use Rattle.batch_packer.specs.Exchanges.{IsIdle}
+use Rattle.batch_packer.specs.Exchanges.{IsIdle, StepsWhere, TakesPackets}
 use Rattle.batch_packer.specs.Readings.{part_with}
 use Rattle.batch_packer.specs.declared.part.Progress.{Progress}
 
@@ -44,6 +45,10 @@ pub record IsReady (given : Limits) (m : BenchState) : Type 0 where
   pub idle : IsIdle m
   pub limits : m.probe.executor.limits ≡ given
   pub flies : CanFly m
+
+-- From an idle bench with the limits that it reports, over which a flight can be sent, this step is made.
+abbrev pub StepsReady : {B : Type 0} → (B → Reported) → (B → Option BenchState) → (BenchState → BenchState → Type 0) → B → B → Type 0
+StepsReady reported state step old new = StepsWhere (IsReady (reported old).limits) step (state old) (state new)
 
 -- whether the match mask may stay set: after a chain that was cut
 abbrev pub may_stay_shut : Form → Bool → Bool
@@ -92,3 +97,9 @@ pub record MayHaveFlown (form : Form) (accesses : List RegAccess) (m n : BenchSt
 pub record IsWithin (limits given : Limits) : Type 0 where
   pub size : limits.packet_size ≤ given.packet_size
   pub count : limits.packet_count ≤ given.packet_count
+
+-- a bench that takes packets of flights with these limits
+pub record TakesFlights (limits : Limits) (reported : Reported) : Type 0 where
+  pub in_range : AreLimits limits
+  pub within : IsWithin limits reported.limits
+  pub takes : TakesPackets reported

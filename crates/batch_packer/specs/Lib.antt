@@ -12,3 +12,4 @@ pub mod Commands
 pub mod Actions
 pub mod Polling
 pub mod Kept
+pub mod Rooms

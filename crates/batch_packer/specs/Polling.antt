@@ -1,6 +1,7 @@
 -- A portion of a poll in one packet: what its reply says, and what it does.
-use Rattle.std.specs.Prelude.{◌≡◌, ◌⊎◌, ℕ, ◌-◌, ◌==◌, ◌&&◌, Bool, true, false, if◌then◌else◌, is_some}
+use Rattle.std.specs.Prelude.{◌≡◌, ◌⊎◌, ℕ, ◌-◌, ◌≤◌, ◌==◌, ◌&&◌, Bool, true, false, if◌then◌else◌, is_some}
 use Rattle.std.specs.Prelude.{List, [], ◌∷◌, length, slice_index, slice_range, Option, Some, None, Result, Ok, Err}
+use Rattle.target_machine.specs.Attempt.{bank}
 use Rattle.target_machine.specs.Plain.{Action, Polls, polled}
 use Rattle.dap_messages.specs.declared.command_value.CommandValue.{CommandValue}
 use Rattle.dap_messages.specs.declared.command_value.CommandValue.TheVariants.{Configure, Transfer}
@@ -12,7 +13,7 @@ use Rattle.dap_replies.specs.ReplyReading.{reply_read}
 use Rattle.dap_messages.specs.Responses.{response_of}
 use Rattle.probe_core.specs.Bench.{BenchState}
 use Rattle.probe_core.specs.Probe.{target_of}
-use Rattle.flight_forms.specs.Polls.{clear_mask, poll_packet, poll_requests}
+use Rattle.flight_forms.specs.Polls.{clear_mask, poll_commands, poll_packet, poll_requests}
 use Rattle.dap_transfer.specs.ValueMatch.{has_matched}
 use Rattle.batch_packer.specs.Actions.{Acts, HasActed}
 use Rattle.batch_packer.specs.Flying.{transfers_of}
@@ -21,6 +22,15 @@ use Rattle.batch_packer.specs.declared.ends.FlightEnd.{FlightEnd}
 use Rattle.batch_packer.specs.declared.ends.FlightEnd.TheVariants as ends
 use Rattle.batch_packer.specs.declared.poll.Config.{Config}
 use Rattle.batch_packer.specs.declared.poll.PollAsk.{PollAsk}
+
+-- The turns of one portion of a poll: DAP_TransferConfigure has 16 bits for the match retry, one less than the turns.
+pub record AreTurns (turns : ℕ) : Type 0 where
+  pub low : 1 ≤ turns
+  pub high : turns ≤ 65536
+
+-- the commands of a poll
+abbrev pub commands_of : Config → PollAsk → List CommandValue
+commands_of config ask = poll_commands config.idle config.retry ask.mask ask.value ask.turns
 
 -- the packet of a poll
 abbrev pub packet_of : Config → PollAsk → Packet
@@ -97,3 +107,7 @@ PolledBy config ask (Ok matched) m n = HasPolled config ask matched m n
 PolledBy config ask (Err ends.BenchFault) m n = MayHavePolled config ask m n
 PolledBy config ask (Err ends.ReplyBad) m n = ⊥
 PolledBy config ask (Err (ends.Cut cut)) m n = ⊥
+
+-- What was done where DPBANKSEL is 0, so that the reads are of CTRL/STAT.
+abbrev pub PollsBy : Config → PollAsk → Result Bool FlightEnd → BenchState → BenchState → Type 0
+PollsBy config ask result m n = bank (target_of m.probe) ≡ 0 → PolledBy config ask result m n

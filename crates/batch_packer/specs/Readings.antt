@@ -1,5 +1,5 @@
 -- What the reply to a packet says of the accesses of its command.
-use Rattle.std.specs.Prelude.{◌≡◌, ℕ, ◌+◌, ◌-◌, ◌≤◌, List, ◌++◌, length, take, Option, Some, None, Result, Ok, Err}
+use Rattle.std.specs.Prelude.{◌≡◌, ℕ, ◌+◌, ◌-◌, ◌≤◌, List, ◌++◌, length, take, Option, Some, None, Result, Ok, Err, IfSome}
 use Rattle.std.specs.List.{AllByRecursion}
 use Rattle.dap_messages.specs.declared.command.PacketKind.{PacketKind}
 use Rattle.dap_messages.specs.declared.command_value.CommandValue.{CommandValue}
@@ -11,6 +11,7 @@ use Rattle.dap_replies.specs.ReplyViews.{IsReplyTo, Shown}
 use Rattle.dap_replies.specs.ReplyReading.{reply_read}
 use Rattle.dap_messages.specs.Responses.{response_of}
 use Rattle.flight_forms.specs.Flights.{Part, part_of}
+use Rattle.batch_packer.specs.SlotList.{SlotList}
 use Rattle.batch_packer.specs.declared.part.Progress.{Progress}
 
 -- The packet is of these commands, run in this way, and is read as such.
@@ -73,6 +74,11 @@ pub record IsFew (progress : Progress) (old new : List (Option ℕ)) : Type 0 wh
   pub performed : progress.performed ≤ 255
   pub confirmed : progress.confirmed ≤ 255
   pub values : length new ≤ length old + 255
+
+-- What was read from one reply has few numbers and values, and the room for values stays.
+pub record ReadsFew (result : Option Progress) (old new : SlotList) : Type 0 where
+  pub few : IfSome result (λ p. IsFew p old.values new.values)
+  pub room : new.room ≡ old.room
 
 -- The numbers have grown by those of one command.
 pub record IsNear (so_far progress : Progress) : Type 0 where

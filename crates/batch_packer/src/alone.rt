@@ -1,19 +1,15 @@
 //! A flight in one packet over a bench: a block of writes, or one Transfer.
-ghost use Rattle.std.specs.Prelude.{◌≡◌, ◌≤◌, [], ◌∷◌, true, length, IfOk, IfSome, OnOk, OnErr};
-ghost use Rattle.dap_base.specs.Causes.{HasCause};
+ghost use Rattle.std.specs.Prelude.{◌≡◌, [], ◌∷◌, true, length, IfOk, IfSome, OnOk, OnErr};
 ghost use Rattle.dap_messages.specs.Commands.{command_bytes};
-ghost use Rattle.probe_core.specs.Bench.{StepsTo, counted};
-ghost use Rattle.probe_core.specs.Ranges.{AreLimits};
-ghost use Rattle.probe_core.specs.Runs.{KeepsRuns};
 ghost use Rattle.flight_forms.specs.Flights.{IsPartOf};
 ghost use Rattle.flight_forms.specs.Packets.{FitsPacket};
-ghost use Rattle.flight_forms.specs.Packing.{AreTaken, AreWords};
+ghost use Rattle.batch_packer.specs.AccessLists.{AreSendable};
 ghost use Rattle.batch_packer.specs.Alone.{IsBlock, one_command, one_form, one_reading};
-ghost use Rattle.batch_packer.specs.Exchanges.{GoesOn, IsOpen};
+ghost use Rattle.batch_packer.specs.Exchanges.{CallsOver, HasExchanged, TakesPackets};
 ghost use Rattle.batch_packer.specs.FlightEnds.{IsSmall};
-ghost use Rattle.batch_packer.specs.Flying.{HasFlownBy, IsReady, MayHaveFlown};
-ghost use Rattle.batch_packer.specs.Queues.{IsFresh};
+ghost use Rattle.batch_packer.specs.Flying.{HasFlownBy, MayHaveFlown, StepsReady};
 ghost use Rattle.batch_packer.specs.Readings.{IsSeen, part_with};
+ghost use Rattle.batch_packer.specs.Rooms.{IsFreshRoom, KeepsRoom};
 
 use crate::exchange::exchange;
 use crate::packing::write_one;
@@ -39,36 +35,21 @@ pub fn fly_alone<B: Bench>(
     slots: &mut Slots,
     bench: &mut B,
 ) -> Result<Option<Progress>, Failed>
-    requires open { IsOpen (B.reported bench.old) }
-    requires limits { AreLimits (B.reported bench.old).limits }
+    requires bench { TakesPackets (B.reported bench.old) }
     requires block { is_block ≡ true → IsBlock accesses.now }
-    requires taken { AreTaken accesses.now }
-    requires words { AreWords accesses.now }
+    requires accesses { AreSendable accesses.now }
     requires fits { FitsPacket (B.reported bench.old).limits.packet_size 0 (one_command is_block accesses.now) }
-    requires requests { length requests.old ≡ 255 }
-    requires bytes { length bytes.old ≡ 1024 }
-    requires packets { IsFresh packets.old 1 }
-    requires replies { IsFresh replies.old 1 }
-    requires slots { slots.old.values ≡ [] }
-    requires room { 255 ≤ slots.old.room }
-    ensures flown { IfOk result (λ progress. StepsTo (λ m n. IsReady (B.reported bench.old).limits m
-        → HasFlownBy (one_form is_block) accesses.now progress slots.new.values m n) (B.state bench.old) (B.state bench.new)) }
-    ensures failed { OnErr result (StepsTo (λ m n. IsReady (B.reported bench.old).limits m → MayHaveFlown (one_form is_block) accesses.now m n) (B.state bench.old) (B.state bench.new)) }
+    requires room { IsFreshRoom 1 packets.old replies.old requests.old bytes.old slots.old }
+    ensures flown { IfOk result (λ progress. StepsReady B.reported B.state
+        (HasFlownBy (one_form is_block) accesses.now progress slots.new.values) bench.old bench.new) }
+    ensures failed { OnErr result (StepsReady B.reported B.state (MayHaveFlown (one_form is_block) accesses.now) bench.old bench.new) }
     ensures read { IfOk result (λ progress. IsSeen (one_reading is_block accesses.now replies.new.items) progress slots.new.values) }
     ensures short { IfOk result (λ progress. IfSome progress (λ p. IsPartOf (length accesses.now) (part_with p slots.new.values))) }
     ensures few { IfOk result (λ progress. IfSome progress IsSmall) }
     ensures packets { OnOk result (packets.new.items ≡ command_bytes (one_command is_block accesses.now) ∷ []) }
-    ensures last { OnOk result ((B.reported bench.new).last ≡ record { packets = packets.new.items; replies = replies.new.items }) }
-    ensures replied { OnOk result (length replies.new.items ≡ length packets.new.items) }
-    ensures exchanges { OnOk result ((B.reported bench.new).exchanges ≡ counted (B.reported bench.old).exchanges) }
-    ensures open { OnOk result (IsOpen (B.reported bench.new)) }
-    ensures packets_room { packets.new.room ≡ packets.old.room }
-    ensures replies_room { replies.new.room ≡ replies.old.room }
-    ensures slots_room { slots.new.room ≡ slots.old.room }
-    ensures keeps { GoesOn (B.reported bench.old) (B.reported bench.new) }
-    ensures runs { KeepsRuns (B.state bench.old) (B.state bench.new) }
-    ensures identity { B.identity bench.new ≡ B.identity bench.old }
-    ensures cause { HasCause (B.reported bench.old).faults (B.reported bench.new).faults result }
+    ensures exchanged { OnOk result (HasExchanged packets.new.items replies.new.items (B.reported bench.old) (B.reported bench.new)) }
+    ensures room { KeepsRoom packets.old packets.new replies.old replies.new slots.old slots.new }
+    ensures keeps { CallsOver B.reported B.state B.identity result bench.old bench.new }
 {
     let count = put_requests(accesses, requests);
     let size = write_one(is_block, accesses, &requests[..count], bytes);

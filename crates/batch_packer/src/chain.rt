@@ -1,22 +1,20 @@
 //! A guarded chain over a bench: its packets, its replies, and what they show.
-ghost use Rattle.std.specs.Prelude.{◌≡◌, ◌+◌, ◌*◌, ◌^◌, ◌≤◌, ◌<◌, ◌++◌, ℕ, List, [], Option, Some, if◌then◌else◌, length, IfSome, IfOk, OnOk, OnErr};
-ghost use Rattle.dap_base.specs.Causes.{HasCause};
+ghost use Rattle.std.specs.Prelude.{◌≡◌, ◌+◌, ◌*◌, ◌^◌, ◌≤◌, ◌<◌, ◌++◌, ℕ, List, [], Option, if◌then◌else◌, length, IfSome, IfOk, OnOk, OnErr};
 ghost use Rattle.dap_transfer.specs.State.{is_good};
-ghost use Rattle.probe_core.specs.Bench.{StepsTo, counted};
-ghost use Rattle.probe_core.specs.Ranges.{AreLimits};
-ghost use Rattle.probe_core.specs.Runs.{KeepsRuns};
-ghost use Rattle.flight_forms.specs.Chains.{AllTaken, nothing_yet};
+ghost use Rattle.flight_forms.specs.Chains.{AllTaken};
 ghost use Rattle.flight_forms.specs.Flights.{IsPartOf};
 ghost use Rattle.flight_forms.specs.Forms.{parts_of};
 ghost use Rattle.flight_forms.specs.Packets.{FitChain, chain_packets};
-ghost use Rattle.flight_forms.specs.Packing.{AreTaken, AreWords};
 ghost use Rattle.flight_forms.specs.declared.form.Form.TheVariants.{Chain};
-ghost use Rattle.batch_packer.specs.ChainReadings.{ended_at, guarded_reading, is_mismatch, is_of_one, joined_if, readings_after, then_reading, values_kept};
-ghost use Rattle.batch_packer.specs.Exchanges.{GoesOn, IsOpen};
+ghost use Rattle.batch_packer.specs.AccessLists.{AreSendable};
+ghost use Rattle.batch_packer.specs.ChainReadings.{chain_ended_at, chain_reading, guarded_reading, is_mismatch};
+ghost use Rattle.batch_packer.specs.ChainReadings.{is_of_one, joined_if, then_reading, values_kept};
+ghost use Rattle.batch_packer.specs.Exchanges.{CallsOver, HasExchanged, TakesPackets};
 ghost use Rattle.batch_packer.specs.FlightEnds.{IsSmall};
-ghost use Rattle.batch_packer.specs.Flying.{HasFlownBy, IsReady, MayHaveFlown};
-ghost use Rattle.batch_packer.specs.Queues.{IsChain, IsFresh, IsPartPacket};
-ghost use Rattle.batch_packer.specs.Readings.{IsFew, IsNear, IsSeen, IsShown, part_with};
+ghost use Rattle.batch_packer.specs.Flying.{HasFlownBy, MayHaveFlown, StepsReady};
+ghost use Rattle.batch_packer.specs.Queues.{IsChain, IsSentPart};
+ghost use Rattle.batch_packer.specs.Readings.{IsNear, IsSeen, IsShown, ReadsFew, part_with};
+ghost use Rattle.batch_packer.specs.Rooms.{IsFreshRoom, KeepsRoom, most_requests};
 
 use crate::packing::put_packets;
 use crate::part::Progress;
@@ -48,15 +46,12 @@ fn read_part(
     requests: &mut [Request],
     slots: &mut Slots,
 ) -> Option<Progress>
-    requires requests { length requests.old ≡ 255 }
-    requires packet { IsPartPacket accesses.now packet.now }
-    requires some { 0 < length accesses.now }
-    requires taken { AreTaken accesses.now }
+    requires requests { length requests.old ≡ most_requests }
+    requires part { IsSentPart accesses.now packet.now }
     requires room { length slots.old.values + 255 ≤ slots.old.room }
     ensures shown { IsShown (guarded_reading accesses.now reply.now) result slots.old.values slots.new.values }
     ensures short { IfSome result (λ _. IfSome (guarded_reading accesses.now reply.now) (IsPartOf (length accesses.now))) }
-    ensures few { IfSome result (λ p. IsFew p slots.old.values slots.new.values) }
-    ensures room { slots.new.room ≡ slots.old.room }
+    ensures few { ReadsFew result slots.old slots.new }
 {
     let count = put_guarded_requests(accesses, requests);
     if reply.len() < 2 || !is_of_one(reply[0], reply[1]) {
@@ -87,12 +82,13 @@ fn is_mismatch(response: Response) -> bool
 
 // How far a chain came, by how far it had come and how far its next command came. `None` where the
 // next makes accesses after one that did not come to its end, or makes none after one that did.
-fn joined(so_far: Progress, next: Progress) -> Option<Progress>
+fn join_progress(so_far: Progress, next: Progress) -> Option<Progress>
     requires performed { so_far.performed < 2 ^ 32 }
     requires confirmed { so_far.confirmed < 2 ^ 32 }
     requires next_performed { next.performed ≤ 255 }
     requires next_confirmed { next.confirmed ≤ 255 }
-    ensures seen { (before values : List (Option ℕ)) → IsSeen (joined_if (is_good so_far.response) (is_mismatch next.response) (part_with so_far before) (part_with next values)) result
+    ensures seen { (before values : List (Option ℕ)) →
+        IsSeen (joined_if (is_good so_far.response) (is_mismatch next.response) (part_with so_far before) (part_with next values)) result
         (values_kept (is_mismatch next.response) before values) }
     ensures few { IfSome result (IsNear so_far) }
 {
@@ -116,7 +112,8 @@ fn joined(so_far: Progress, next: Progress) -> Option<Progress>
 // Forgets the values after the first ones, where a value match was not met.
 fn keep(response: Response, len: usize, slots: &mut Slots)
     requires { len ≤ length slots.old.values }
-    ensures values { (before values : List (Option ℕ)) → length before ≡ len → slots.old.values ≡ before ++ values → slots.new.values ≡ values_kept (is_mismatch response) before values }
+    ensures values { (before values : List (Option ℕ)) → length before ≡ len → slots.old.values ≡ before ++ values
+        → slots.new.values ≡ values_kept (is_mismatch response) before values }
     ensures room { slots.new.room ≡ slots.old.room }
 {
     if is_mismatch(response) {
@@ -134,10 +131,8 @@ fn read_next(
     requests: &mut [Request],
     slots: &mut Slots,
 ) -> Option<Progress>
-    requires requests { length requests.old ≡ 255 }
-    requires packet { IsPartPacket accesses.now packet.now }
-    requires some { 0 < length accesses.now }
-    requires taken { AreTaken accesses.now }
+    requires requests { length requests.old ≡ most_requests }
+    requires part { IsSentPart accesses.now packet.now }
     requires room { length slots.old.values + 255 ≤ slots.old.room }
     requires performed { so_far.performed < 2 ^ 32 }
     requires confirmed { so_far.confirmed < 2 ^ 32 }
@@ -152,7 +147,7 @@ fn read_next(
         None => None,
         Some(next) => {
             keep(next.response, len, slots);
-            joined(so_far, next)
+            join_progress(so_far, next)
         }
     }
 }
@@ -177,7 +172,7 @@ fn read_packets(
     slots: &mut Slots,
     at: &mut usize,
 ) -> Option<Progress>
-    requires requests { length requests.old ≡ 255 }
+    requires requests { length requests.old ≡ most_requests }
     requires few { length accesses.now < 65535 }
     requires taken { AllTaken (parts_of packet_size accesses.now) }
     requires fits { FitChain 1024 (parts_of packet_size accesses.now) }
@@ -187,8 +182,8 @@ fn read_packets(
     requires slots { slots.old.values ≡ [] }
     requires room { 255 * length packets.now.items ≤ slots.old.room }
     requires at { at.old ≡ 0 }
-    ensures at { at.new ≡ ended_at (Some nothing_yet) 0 0 (parts_of packet_size accesses.now) replies.now.items }
-    ensures seen { IsSeen (readings_after (Some nothing_yet) (parts_of packet_size accesses.now) replies.now.items) result slots.new.values }
+    ensures at { at.new ≡ chain_ended_at packet_size accesses.now replies.now.items }
+    ensures seen { IsSeen (chain_reading packet_size accesses.now replies.now.items) result slots.new.values }
     ensures short { IfSome result (λ p. IsPartOf (length accesses.now) (part_with p slots.new.values)) }
     ensures few { IfSome result IsSmall }
     ensures room { slots.new.room ≡ slots.old.room }
@@ -237,37 +232,22 @@ pub fn fly_chain<B: Bench>(
     slots: &mut Slots,
     bench: &mut B,
 ) -> Result<Option<Progress>, Failed>
-    requires open { IsOpen (B.reported bench.old) }
-    requires limits { AreLimits (B.reported bench.old).limits }
+    requires bench { TakesPackets (B.reported bench.old) }
     requires chain { IsChain packet_size (B.reported bench.old).limits accesses.now }
-    requires taken { AreTaken accesses.now }
-    requires words { AreWords accesses.now }
-    requires requests { length requests.old ≡ 255 }
-    requires bytes { length bytes.old ≡ 1024 }
-    requires packets { IsFresh packets.old (length (parts_of packet_size accesses.now)) }
-    requires replies { IsFresh replies.old (length (parts_of packet_size accesses.now)) }
-    requires slots { slots.old.values ≡ [] }
-    requires room { 255 * length (parts_of packet_size accesses.now) ≤ slots.old.room }
+    requires accesses { AreSendable accesses.now }
+    requires room { IsFreshRoom (length (parts_of packet_size accesses.now)) packets.old replies.old requests.old bytes.old slots.old }
     requires at { at.old ≡ 0 }
-    ensures flown { IfOk result (λ progress. StepsTo (λ m n. IsReady (B.reported bench.old).limits m
-        → HasFlownBy Chain accesses.now progress slots.new.values m n) (B.state bench.old) (B.state bench.new)) }
-    ensures failed { OnErr result (StepsTo (λ m n. IsReady (B.reported bench.old).limits m → MayHaveFlown Chain accesses.now m n) (B.state bench.old) (B.state bench.new)) }
-    ensures read { IfOk result (λ progress. IsSeen (readings_after (Some nothing_yet) (parts_of packet_size accesses.now) replies.new.items) progress slots.new.values) }
+    ensures flown { IfOk result (λ progress. StepsReady B.reported B.state
+        (HasFlownBy Chain accesses.now progress slots.new.values) bench.old bench.new) }
+    ensures failed { OnErr result (StepsReady B.reported B.state (MayHaveFlown Chain accesses.now) bench.old bench.new) }
+    ensures read { IfOk result (λ progress. IsSeen (chain_reading packet_size accesses.now replies.new.items) progress slots.new.values) }
     ensures short { IfOk result (λ progress. IfSome progress (λ p. IsPartOf (length accesses.now) (part_with p slots.new.values))) }
     ensures few { IfOk result (λ progress. IfSome progress IsSmall) }
     ensures packets { OnOk result (packets.new.items ≡ chain_packets (parts_of packet_size accesses.now)) }
-    ensures at { OnOk result (at.new ≡ ended_at (Some nothing_yet) 0 0 (parts_of packet_size accesses.now) replies.new.items) }
-    ensures last { OnOk result ((B.reported bench.new).last ≡ record { packets = packets.new.items; replies = replies.new.items }) }
-    ensures replied { OnOk result (length replies.new.items ≡ length packets.new.items) }
-    ensures exchanges { OnOk result ((B.reported bench.new).exchanges ≡ counted (B.reported bench.old).exchanges) }
-    ensures open { OnOk result (IsOpen (B.reported bench.new)) }
-    ensures packets_room { packets.new.room ≡ packets.old.room }
-    ensures replies_room { replies.new.room ≡ replies.old.room }
-    ensures slots_room { slots.new.room ≡ slots.old.room }
-    ensures keeps { GoesOn (B.reported bench.old) (B.reported bench.new) }
-    ensures runs { KeepsRuns (B.state bench.old) (B.state bench.new) }
-    ensures identity { B.identity bench.new ≡ B.identity bench.old }
-    ensures cause { HasCause (B.reported bench.old).faults (B.reported bench.new).faults result }
+    ensures at { OnOk result (at.new ≡ chain_ended_at packet_size accesses.now replies.new.items) }
+    ensures exchanged { OnOk result (HasExchanged packets.new.items replies.new.items (B.reported bench.old) (B.reported bench.new)) }
+    ensures room { KeepsRoom packets.old packets.new replies.old replies.new slots.old slots.new }
+    ensures keeps { CallsOver B.reported B.state B.identity result bench.old bench.new }
 {
     put_packets(packet_size, accesses, packets, requests, bytes);
     match send_all(packets, bench) {

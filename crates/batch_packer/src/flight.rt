@@ -1,14 +1,13 @@
 //! Flights: many accesses in few packets.
 ghost use Rattle.std.specs.Prelude.{◌≡◌, ◌+◌, ◌<◌, ◌≤◌, ◌++◌, ◌∷◌, [], true, false, length, None, Some, IfOk, IfSome, MatchResult};
-ghost use Rattle.probe_core.specs.Bench.{StepsTo};
 ghost use Rattle.probe_core.specs.Ranges.{AreLimits};
-ghost use Rattle.probe_core.specs.Runs.{KeepsRuns};
 ghost use Rattle.flight_forms.specs.Packing.{IsTaken};
-ghost use Rattle.batch_packer.specs.Exchanges.{GoesOn, IsOpen};
-ghost use Rattle.batch_packer.specs.FlightEnds.{HasEndCause, IsShort, got_replies};
-ghost use Rattle.batch_packer.specs.FlightStates.{ReadBy, SentBy, can_resume, can_resume_by, has_room, item_at, items_kept, new_flight, sent_form};
+ghost use Rattle.batch_packer.specs.Exchanges.{GoesOnOver, IsOpen, StepsWhere};
+ghost use Rattle.batch_packer.specs.FlightEnds.{EndsOver, HasEndCause, IsShort, got_replies};
+ghost use Rattle.batch_packer.specs.FlightStates.{EndedBy, FlownBy, MaySend, can_resume, can_resume_by, has_room};
+ghost use Rattle.batch_packer.specs.FlightStates.{item_at, items_kept, new_flight, sent_form};
 ghost use Rattle.batch_packer.specs.Flying.{CanFly, IsWithin};
-ghost use Rattle.batch_packer.specs.Kept.{AreCounted, AreReplied, AreSent, EndedAt};
+ghost use Rattle.batch_packer.specs.Kept.{HasSent};
 ghost use Rattle.batch_packer.specs.SlotList.{slot_room};
 
 use crate::accesses::AccessList;
@@ -77,7 +76,15 @@ impl Model for Flight {
 
     ghost Value = { FlightState };
 
-    ghost view = { λ f. record { limits = f.limits; accesses = f.accesses.items; end = f.end; resumable = f.resumable; packets = f.packets.items; replies = f.replies.items; at = f.at } };
+    ghost view = { λ f. record {
+      limits = f.limits;
+      accesses = f.accesses.items;
+      end = f.end;
+      resumable = f.resumable;
+      packets = f.packets.items;
+      replies = f.replies.items;
+      at = f.at;
+    } };
 
     ghost invariant = { λ f. IsSoundFlight f.limits f.size f.accesses f.packets f.replies };
 }
@@ -163,7 +170,7 @@ impl Flight {
     }
 
     // Forgets the accesses.
-    fn empty(&mut self)
+    fn forget_accesses(&mut self)
         ensures { self.new ≡ record self.old { accesses = [] } }
     {
         self.accesses.clear();
@@ -172,7 +179,12 @@ impl Flight {
 
     // Notes how a flight ended, and keeps the packets and the replies of a cut or a bad reply.
     fn note_end(&mut self, end: Option<FlightEnd>)
-        ensures { self.new ≡ record self.old { end = end; resumable = false; packets = items_kept end self.old.packets; replies = items_kept end self.old.replies } }
+        ensures { self.new ≡ record self.old {
+          end = end;
+          resumable = false;
+          packets = items_kept end self.old.packets;
+          replies = items_kept end self.old.replies;
+        } }
     {
         forget(end, &mut self.packets, &mut self.replies);
         self.end = end;
@@ -192,29 +204,21 @@ impl Flight {
 
     // Sends a flight that has not ended, and answers how it ends, or `None` where it came to its end.
     fn send_now<B: Bench>(&mut self, bench: &mut B, slots: &mut Slots) -> Option<FlightEnd>
-        requires usable { self.old.end ≡ None }
-        requires open { IsOpen (B.reported bench.old) }
+        requires free { MaySend self.old (B.reported bench.old) }
         requires within { IsWithin self.old.limits (B.reported bench.old).limits }
         requires room { slot_room self.old.limits ≤ slots.old.room }
-        ensures flown { StepsTo (λ m n. CanFly m → SentBy (sent_form self.old.limits self.old.accesses) self.old.accesses result slots.new.values m n) (B.state bench.old) (B.state bench.new) }
-        ensures read { ReadBy (sent_form self.old.limits self.old.accesses) self.old.limits.packet_size self.old.accesses (B.reported bench.new).last.replies result slots.new.values }
+        ensures flown { StepsWhere CanFly (FlownBy self.old result slots.new.values) (B.state bench.old) (B.state bench.new) }
+        ensures read { EndedBy self.old (B.reported bench.new).last.replies result slots.new.values }
         ensures short { IsShort (length self.old.accesses) result }
-        ensures open { got_replies result ≡ true → IsOpen (B.reported bench.new) }
+        ensures sent { got_replies result ≡ true → HasSent self.old self.new (B.reported bench.old) (B.reported bench.new) }
         ensures end { self.new.end ≡ result }
         ensures empty { self.new.accesses ≡ [] }
         ensures limits { self.new.limits ≡ self.old.limits }
         ensures resumable { self.new.resumable ≡ can_resume_by (sent_form self.old.limits self.old.accesses) result }
-        ensures sent { got_replies result ≡ true → AreSent (sent_form self.old.limits self.old.accesses) self.old.limits.packet_size self.old.accesses (B.reported bench.new).last.packets }
         ensures packets { self.new.packets ≡ items_kept result (B.reported bench.new).last.packets }
         ensures replies { self.new.replies ≡ items_kept result (B.reported bench.new).last.replies }
-        ensures at { got_replies result ≡ true → EndedAt (sent_form self.old.limits self.old.accesses) self.old.limits.packet_size self.old.accesses (B.reported bench.new).last.replies self.new.at }
-        ensures replied { got_replies result ≡ true → AreReplied (sent_form self.old.limits self.old.accesses) (B.reported bench.new).last }
-        ensures exchanges { got_replies result ≡ true → AreCounted (sent_form self.old.limits self.old.accesses) (B.reported bench.old).exchanges (B.reported bench.new).exchanges }
         ensures slots_room { slots.new.room ≡ slots.old.room }
-        ensures keeps { GoesOn (B.reported bench.old) (B.reported bench.new) }
-        ensures runs { KeepsRuns (B.state bench.old) (B.state bench.new) }
-        ensures identity { B.identity bench.new ≡ B.identity bench.old }
-        ensures cause { HasEndCause (B.reported bench.old).faults (B.reported bench.new).faults result }
+        ensures keeps { EndsOver B.reported B.state B.identity result bench.old bench.new }
     {
         slots.clear();
         self.begin();
@@ -235,7 +239,7 @@ impl Flight {
             bench,
         );
         self.note_end(end);
-        self.empty();
+        self.forget_accesses();
         self.resumable = can_resume(form, end);
         end
     }
@@ -264,34 +268,24 @@ impl Flight {
         ensures again_reported { IfSome self.old.end (λ _. B.reported bench.new ≡ B.reported bench.old) }
         ensures again_state { IfSome self.old.end (λ _. B.state bench.new ≡ B.state bench.old) }
         // What was done, where the bench is observable: exactly the first of the accesses.
-        ensures flown { self.old.end ≡ None → StepsTo (λ m n. CanFly m
-            → SentBy (sent_form self.old.limits self.old.accesses) self.old.accesses self.new.end slots.new.values m n) (B.state bench.old) (B.state bench.new) }
+        ensures flown { self.old.end ≡ None
+            → StepsWhere CanFly (FlownBy self.old self.new.end slots.new.values) (B.state bench.old) (B.state bench.new) }
         // How it ends, by the replies to this call.
-        ensures read { self.old.end ≡ None → ReadBy (sent_form self.old.limits self.old.accesses) self.old.limits.packet_size self.old.accesses
-            (B.reported bench.new).last.replies self.new.end slots.new.values }
+        ensures read { self.old.end ≡ None → EndedBy self.old (B.reported bench.new).last.replies self.new.end slots.new.values }
         // A cut names accesses of the flight.
         ensures short { self.old.end ≡ None → IsShort (length self.old.accesses) self.new.end }
-        ensures open { self.old.end ≡ None → got_replies self.new.end ≡ true → IsOpen (B.reported bench.new) }
         ensures empty { self.old.end ≡ None → self.new.accesses ≡ [] }
         ensures limits { self.new.limits ≡ self.old.limits }
-        ensures resumable { self.old.end ≡ None → self.new.resumable ≡ can_resume_by (sent_form self.old.limits self.old.accesses) self.new.end }
-        // Its packets are those of its form.
+        ensures resumable { self.old.end ≡ None
+            → self.new.resumable ≡ can_resume_by (sent_form self.old.limits self.old.accesses) self.new.end }
+        // Its packets are those of its form, and as many replies came.
         ensures sent { self.old.end ≡ None → got_replies self.new.end ≡ true
-            → AreSent (sent_form self.old.limits self.old.accesses) self.old.limits.packet_size self.old.accesses (B.reported bench.new).last.packets }
-        // At a cut or a bad reply the packets and the replies are kept, and which of them is shown.
+            → HasSent self.old self.new (B.reported bench.old) (B.reported bench.new) }
+        // At a cut or a bad reply the packets and the replies are kept.
         ensures packets { self.old.end ≡ None → self.new.packets ≡ items_kept self.new.end (B.reported bench.new).last.packets }
         ensures replies { self.old.end ≡ None → self.new.replies ≡ items_kept self.new.end (B.reported bench.new).last.replies }
-        ensures at { self.old.end ≡ None → got_replies self.new.end ≡ true → EndedAt (sent_form self.old.limits self.old.accesses) self.old.limits.packet_size self.old.accesses
-            (B.reported bench.new).last.replies self.new.at }
-        // As many replies came as packets were sent.
-        ensures replied { self.old.end ≡ None → got_replies self.new.end ≡ true
-            → AreReplied (sent_form self.old.limits self.old.accesses) (B.reported bench.new).last }
-        ensures exchanges { self.old.end ≡ None → got_replies self.new.end ≡ true
-            → AreCounted (sent_form self.old.limits self.old.accesses) (B.reported bench.old).exchanges (B.reported bench.new).exchanges }
         ensures slots_room { slots.new.room ≡ slots.old.room }
-        ensures keeps { GoesOn (B.reported bench.old) (B.reported bench.new) }
-        ensures runs { KeepsRuns (B.state bench.old) (B.state bench.new) }
-        ensures identity { B.identity bench.new ≡ B.identity bench.old }
+        ensures keeps { GoesOnOver B.reported B.state B.identity bench.old bench.new }
         // A fault of the bench comes only where its count rose.
         ensures cause { self.old.end ≡ None → HasEndCause (B.reported bench.old).faults (B.reported bench.new).faults self.new.end }
     {
@@ -317,7 +311,7 @@ impl Flight {
         requires { self.old.resumable ≡ true }
         ensures { self.new ≡ record self.old { accesses = []; end = None; resumable = false; packets = []; replies = [] } }
     {
-        self.empty();
+        self.forget_accesses();
         self.packets.clear();
         self.replies.clear();
         self.end = None;

@@ -1,18 +1,15 @@
 //! A flight over a bench, in the form that holds it.
-ghost use Rattle.std.specs.Prelude.{◌≡◌, ◌*◌, ◌<◌, ◌≤◌, [], Some, true, length, IfOk, IfSome, OnOk, OnErr};
-ghost use Rattle.dap_base.specs.Causes.{HasCause};
-ghost use Rattle.probe_core.specs.Bench.{StepsTo, counted};
-ghost use Rattle.probe_core.specs.Ranges.{AreLimits};
-ghost use Rattle.probe_core.specs.Runs.{KeepsRuns};
+ghost use Rattle.std.specs.Prelude.{◌≡◌, ◌<◌, Some, true, length, IfOk, IfSome, OnOk, OnErr};
 ghost use Rattle.flight_forms.specs.Flights.{IsPartOf};
 ghost use Rattle.flight_forms.specs.Forms.{form_of};
-ghost use Rattle.flight_forms.specs.Packing.{AreTaken, AreWords};
-ghost use Rattle.batch_packer.specs.Exchanges.{GoesOn, IsOpen};
-ghost use Rattle.batch_packer.specs.FlightEnds.{EndsBy, Flew, HasEndCause, IsShort, IsSmall, end_at, end_of, flight_reading, form_reading, got_replies};
-ghost use Rattle.batch_packer.specs.Flying.{HasFlownBy, IsReady, IsWithin, MayHaveFlown};
+ghost use Rattle.batch_packer.specs.AccessLists.{AreSendable};
+ghost use Rattle.batch_packer.specs.Exchanges.{CallsOver, HasExchanged};
+ghost use Rattle.batch_packer.specs.FlightEnds.{EndsBy, EndsOver, Flew, IsShort, IsSmall};
+ghost use Rattle.batch_packer.specs.FlightEnds.{end_at, end_of, flight_reading, form_reading, got_replies};
+ghost use Rattle.batch_packer.specs.Flying.{HasFlownBy, MayHaveFlown, StepsReady, TakesFlights};
 ghost use Rattle.batch_packer.specs.Kept.{form_ended_at, form_packets};
-ghost use Rattle.batch_packer.specs.Queues.{IsFresh};
 ghost use Rattle.batch_packer.specs.Readings.{IsSeen, part_with};
+ghost use Rattle.batch_packer.specs.Rooms.{IsFreshRoom, KeepsRoom};
 
 use crate::alone::fly_alone;
 use crate::chain::fly_chain;
@@ -39,40 +36,24 @@ fn fly_in<B: Bench>(
     slots: &mut Slots,
     bench: &mut B,
 ) -> Result<Option<Progress>, Failed>
-    requires open { IsOpen (B.reported bench.old) }
-    requires given { AreLimits (B.reported bench.old).limits }
-    requires limits { AreLimits limits }
-    requires within { IsWithin limits (B.reported bench.old).limits }
+    requires bench { TakesFlights limits (B.reported bench.old) }
     requires some { 0 < length accesses.now }
     requires form { form_of limits.packet_size limits.packet_count accesses.now ≡ Some form }
-    requires taken { AreTaken accesses.now }
-    requires words { AreWords accesses.now }
-    requires requests { length requests.old ≡ 255 }
-    requires bytes { length bytes.old ≡ 1024 }
-    requires packets { IsFresh packets.old limits.packet_count }
-    requires replies { IsFresh replies.old limits.packet_count }
-    requires slots { slots.old.values ≡ [] }
-    requires room { 255 * limits.packet_count ≤ slots.old.room }
+    requires accesses { AreSendable accesses.now }
+    requires room { IsFreshRoom limits.packet_count packets.old replies.old requests.old bytes.old slots.old }
     requires at { at.old ≡ 0 }
-    ensures flown { IfOk result (λ progress. StepsTo (λ m n. IsReady (B.reported bench.old).limits m
-        → HasFlownBy form accesses.now progress slots.new.values m n) (B.state bench.old) (B.state bench.new)) }
-    ensures failed { OnErr result (StepsTo (λ m n. IsReady (B.reported bench.old).limits m → MayHaveFlown form accesses.now m n) (B.state bench.old) (B.state bench.new)) }
-    ensures read { IfOk result (λ progress. IsSeen (form_reading form limits.packet_size accesses.now replies.new.items) progress slots.new.values) }
+    ensures flown { IfOk result (λ progress. StepsReady B.reported B.state
+        (HasFlownBy form accesses.now progress slots.new.values) bench.old bench.new) }
+    ensures failed { OnErr result (StepsReady B.reported B.state (MayHaveFlown form accesses.now) bench.old bench.new) }
+    ensures read { IfOk result (λ progress.
+        IsSeen (form_reading form limits.packet_size accesses.now replies.new.items) progress slots.new.values) }
     ensures short { IfOk result (λ progress. IfSome progress (λ p. IsPartOf (length accesses.now) (part_with p slots.new.values))) }
     ensures few { IfOk result (λ progress. IfSome progress IsSmall) }
     ensures packets { OnOk result (packets.new.items ≡ form_packets form limits.packet_size accesses.now) }
     ensures at { OnOk result (at.new ≡ form_ended_at form limits.packet_size accesses.now replies.new.items) }
-    ensures last { OnOk result ((B.reported bench.new).last ≡ record { packets = packets.new.items; replies = replies.new.items }) }
-    ensures replied { OnOk result (length replies.new.items ≡ length packets.new.items) }
-    ensures exchanges { OnOk result ((B.reported bench.new).exchanges ≡ counted (B.reported bench.old).exchanges) }
-    ensures open { OnOk result (IsOpen (B.reported bench.new)) }
-    ensures packets_room { packets.new.room ≡ packets.old.room }
-    ensures replies_room { replies.new.room ≡ replies.old.room }
-    ensures slots_room { slots.new.room ≡ slots.old.room }
-    ensures keeps { GoesOn (B.reported bench.old) (B.reported bench.new) }
-    ensures runs { KeepsRuns (B.state bench.old) (B.state bench.new) }
-    ensures identity { B.identity bench.new ≡ B.identity bench.old }
-    ensures cause { HasCause (B.reported bench.old).faults (B.reported bench.new).faults result }
+    ensures exchanged { OnOk result (HasExchanged packets.new.items replies.new.items (B.reported bench.old) (B.reported bench.new)) }
+    ensures room { KeepsRoom packets.old packets.new replies.old replies.new slots.old slots.new }
+    ensures keeps { CallsOver B.reported B.state B.identity result bench.old bench.new }
 {
     match form {
         Form::Block => fly_alone(
@@ -138,37 +119,21 @@ pub fn fly<B: Bench>(
     slots: &mut Slots,
     bench: &mut B,
 ) -> Option<FlightEnd>
-    requires open { IsOpen (B.reported bench.old) }
-    requires given { AreLimits (B.reported bench.old).limits }
-    requires limits { AreLimits limits }
-    requires within { IsWithin limits (B.reported bench.old).limits }
+    requires bench { TakesFlights limits (B.reported bench.old) }
     requires some { 0 < length accesses.now }
     requires form { form_of limits.packet_size limits.packet_count accesses.now ≡ Some form }
-    requires taken { AreTaken accesses.now }
-    requires words { AreWords accesses.now }
-    requires requests { length requests.old ≡ 255 }
-    requires bytes { length bytes.old ≡ 1024 }
-    requires packets { IsFresh packets.old limits.packet_count }
-    requires replies { IsFresh replies.old limits.packet_count }
-    requires slots { slots.old.values ≡ [] }
-    requires room { 255 * limits.packet_count ≤ slots.old.room }
+    requires accesses { AreSendable accesses.now }
+    requires room { IsFreshRoom limits.packet_count packets.old replies.old requests.old bytes.old slots.old }
     requires at { at.old ≡ 0 }
-    ensures flown { StepsTo (λ m n. IsReady (B.reported bench.old).limits m → Flew form accesses.now result slots.new.values m n) (B.state bench.old) (B.state bench.new) }
+    ensures flown { StepsReady B.reported B.state (Flew form accesses.now result slots.new.values) bench.old bench.new }
     ensures read { EndsBy (flight_reading form limits.packet_size accesses.now (B.reported bench.new).last.replies) result slots.new.values }
     ensures short { IsShort (length accesses.now) result }
-    ensures packets { got_replies result ≡ true → (B.reported bench.new).last.packets ≡ form_packets form limits.packet_size accesses.now }
-    ensures at { got_replies result ≡ true → at.new ≡ form_ended_at form limits.packet_size accesses.now (B.reported bench.new).last.replies }
-    ensures last { got_replies result ≡ true → (B.reported bench.new).last ≡ record { packets = packets.new.items; replies = replies.new.items } }
-    ensures replied { got_replies result ≡ true → length (B.reported bench.new).last.replies ≡ length (B.reported bench.new).last.packets }
-    ensures exchanges { got_replies result ≡ true → (B.reported bench.new).exchanges ≡ counted (B.reported bench.old).exchanges }
-    ensures open { got_replies result ≡ true → IsOpen (B.reported bench.new) }
-    ensures packets_room { packets.new.room ≡ packets.old.room }
-    ensures replies_room { replies.new.room ≡ replies.old.room }
-    ensures slots_room { slots.new.room ≡ slots.old.room }
-    ensures keeps { GoesOn (B.reported bench.old) (B.reported bench.new) }
-    ensures runs { KeepsRuns (B.state bench.old) (B.state bench.new) }
-    ensures identity { B.identity bench.new ≡ B.identity bench.old }
-    ensures cause { HasEndCause (B.reported bench.old).faults (B.reported bench.new).faults result }
+    ensures packets { got_replies result ≡ true → packets.new.items ≡ form_packets form limits.packet_size accesses.now }
+    ensures at { got_replies result ≡ true → at.new ≡ form_ended_at form limits.packet_size accesses.now replies.new.items }
+    ensures exchanged { got_replies result ≡ true
+        → HasExchanged packets.new.items replies.new.items (B.reported bench.old) (B.reported bench.new) }
+    ensures room { KeepsRoom packets.old packets.new replies.old replies.new slots.old slots.new }
+    ensures keeps { EndsOver B.reported B.state B.identity result bench.old bench.new }
 {
     match fly_in(
         form, limits, accesses, packets, replies, requests, bytes, at, slots, bench,

@@ -22,16 +22,19 @@ ghost use Rattle.batch_packer.specs.Flying.{CanFly, HasFlown, transfers_of};
 /// After a flight that came to its end the bench can do another. Match mask and match retry are 0, bit 0 of DPIDR is set, and STICKYERR is
 /// clear. The numbers of the target are in range.
 pub fn another_flight_may_follow()
-    ensures { (form : Form) (accesses : List RegAccess) (values : List (Option ℕ)) (m n : BenchState) → CanFly m → HasFlown form accesses (whole_part accesses values) m n → CanFly n }
+    ensures { (form : Form) (accesses : List RegAccess) (values : List (Option ℕ)) (m n : BenchState) → CanFly m
+        → HasFlown form accesses (whole_part accesses values) m n → CanFly n }
 {}
 
 /// A command of the probe in one packet is its call. What it does is the action (`acts`), and it leaves the settings of the transfers
 /// (`setting`). The number that it answers is what the action gives (`number`). One is enough for all but a delay of more than 65,535
 /// microseconds.
 pub fn a_command_is_its_call()
-    ensures acts { (e : ExecutorState) (c : ProbeCall) → is_one c ≡ true → IsCommand (command_of c) → Acts (Commands c) e.transfers (done e (command_of c)).next.transfers }
+    ensures acts { (e : ExecutorState) (c : ProbeCall) → is_one c ≡ true → IsCommand (command_of c)
+        → Acts (Commands c) e.transfers (done e (command_of c)).next.transfers }
     ensures setting { (e : ExecutorState) (c : ProbeCall) → (done e (command_of c)).next.transfers.setting ≡ e.transfers.setting }
-    ensures number { (e : ExecutorState) (c : ProbeCall) → number_given e (command_of c) ≡ given (acted e.transfers.line.target (Commands c)).outcome }
+    ensures number { (e : ExecutorState) (c : ProbeCall)
+        → number_given e (command_of c) ≡ given (acted e.transfers.line.target (Commands c)).outcome }
 {}
 
 /// A delay of more than 65,535 microseconds is several commands, all but the last of 65,535. The state after so many of these is
@@ -47,5 +50,6 @@ pub fn a_delay_is_its_commands()
 /// leaves STICKYERR clear, also where it was set (`clears`).
 pub fn a_flight_may_follow_an_action()
     ensures flies { (x : Action) (m n : BenchState) → CanFly m → Acts x (transfers_of m) (transfers_of n) → CanFly n }
-    ensures clears { (value : ℕ) (p q : TransferState) → has_bit value stkerrclr ≡ true → Acts (Commands (probe.Abort value)) p q → q.line.target.sticky ≡ false }
+    ensures clears { (value : ℕ) (p q : TransferState) → has_bit value stkerrclr ≡ true
+        → Acts (Commands (probe.Abort value)) p q → q.line.target.sticky ≡ false }
 {}

@@ -8,6 +8,7 @@ ghost use Rattle.flight_forms.specs.Packets.{FitChain, FitsPacket, chain_packets
 ghost use Rattle.flight_forms.specs.Packing.{requests_for};
 ghost use Rattle.batch_packer.specs.Alone.{one_command};
 ghost use Rattle.batch_packer.specs.Queues.{IsFresh, last_id, last_kind};
+ghost use Rattle.batch_packer.specs.Rooms.{AreBuffers, BeginsWith};
 
 use dap_messages::{Command, Request, write_command};
 use flight_forms::{first_part, put_guarded_requests};
@@ -47,8 +48,7 @@ fn write_block(accesses: &[RegAccess], bytes: &mut [u8]) -> usize
     requires command { IsCommand (one_command true accesses.now) }
     requires fits { length (command_bytes (one_command true accesses.now)) ≤ length bytes.old }
     requires few { length accesses.now ≤ 254 }
-    ensures within { result ≤ length bytes.new }
-    ensures front { take result bytes.new ≡ command_bytes (one_command true accesses.now) }
+    ensures front { BeginsWith result bytes.new (command_bytes (one_command true accesses.now)) }
 {
     let mut words = [0u32; 254];
     let count = put_words(accesses, &mut words);
@@ -63,8 +63,7 @@ fn write_block(accesses: &[RegAccess], bytes: &mut [u8]) -> usize
 fn write_transfer(requests: &[Request], bytes: &mut [u8]) -> usize
     requires command { IsCommand (Transfer requests.now) }
     requires fits { length (command_bytes (Transfer requests.now)) ≤ length bytes.old }
-    ensures within { result ≤ length bytes.new }
-    ensures front { take result bytes.new ≡ command_bytes (Transfer requests.now) }
+    ensures front { BeginsWith result bytes.new (command_bytes (Transfer requests.now)) }
 {
     write_single(&Command::Transfer(requests), bytes)
 }
@@ -81,8 +80,7 @@ pub fn write_one(
     requires command { IsCommand (one_command is_block accesses.now) }
     requires fits { length (command_bytes (one_command is_block accesses.now)) ≤ length bytes.old }
     requires few { is_block ≡ true → length accesses.now ≤ 254 }
-    ensures within { result ≤ length bytes.new }
-    ensures front { take result bytes.new ≡ command_bytes (one_command is_block accesses.now) }
+    ensures front { BeginsWith result bytes.new (command_bytes (one_command is_block accesses.now)) }
 {
     if is_block {
         write_block(accesses, bytes)
@@ -95,8 +93,7 @@ pub fn write_one(
 pub fn write_single(command: &Command<'_>, bytes: &mut [u8]) -> usize
     requires command { IsCommand (command_value command.now) }
     requires fits { length (command_bytes (command_value command.now)) ≤ length bytes.old }
-    ensures within { result ≤ length bytes.new }
-    ensures front { take result bytes.new ≡ command_bytes (command_value command.now) }
+    ensures front { BeginsWith result bytes.new (command_bytes (command_value command.now)) }
 {
     match write_command(command, bytes) {
         Some(size) => size,
@@ -108,8 +105,7 @@ pub fn write_single(command: &Command<'_>, bytes: &mut [u8]) -> usize
 fn write_transfer_at(requests: &[Request], bytes: &mut [u8], at: usize) -> usize
     requires command { IsCommand (Transfer requests.now) }
     requires fits { at + length (command_bytes (Transfer requests.now)) ≤ length bytes.old }
-    ensures within { result ≤ length bytes.new }
-    ensures front { take result bytes.new ≡ take at bytes.old ++ command_bytes (Transfer requests.now) }
+    ensures front { BeginsWith result bytes.new (take at bytes.old ++ command_bytes (Transfer requests.now)) }
 {
     let (_, rest) = bytes.split_at_mut(at);
     at + write_transfer(requests, rest)
@@ -131,10 +127,8 @@ fn write_part(
     bytes: &mut [u8],
 ) -> usize
     requires fits { FitsPacket 1024 2 (guarded_command accesses.now) }
-    requires requests { length requests.old ≡ 255 }
-    requires room { length bytes.old ≡ 1024 }
-    ensures within { result ≤ length bytes.new }
-    ensures front { take result bytes.new ≡ bytes_of_kind (last_kind is_last) (guarded_command accesses.now ∷ []) }
+    requires buffers { AreBuffers requests.old bytes.old }
+    ensures front { BeginsWith result bytes.new (bytes_of_kind (last_kind is_last) (guarded_command accesses.now ∷ [])) }
 {
     let count = put_guarded_requests(accesses, requests);
     bytes[0] = id_of(is_last);
@@ -153,8 +147,7 @@ pub fn put_packets(
     requires few { length accesses.now < 65535 }
     requires fits { FitChain 1024 (parts_of packet_size accesses.now) }
     requires packets { IsFresh packets.old (length (parts_of packet_size accesses.now)) }
-    requires requests { length requests.old ≡ 255 }
-    requires bytes { length bytes.old ≡ 1024 }
+    requires buffers { AreBuffers requests.old bytes.old }
     ensures items { packets.new.items ≡ chain_packets (parts_of packet_size accesses.now) }
     ensures room { packets.new.room ≡ packets.old.room }
 {

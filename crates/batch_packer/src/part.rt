@@ -100,7 +100,7 @@ pub fn progress_by(
     let before = slots.len();
     let (reads, is_write) = put_values(executed, view, slots);
     let performed = slots.len() - before;
-    let confirmed = performed.saturating_sub(doubted(response, reads, is_write, view));
+    let confirmed = performed.saturating_sub(count_doubted(response, reads, is_write, view));
     slots.cut(before + confirmed);
     Progress {
         performed,
@@ -110,7 +110,7 @@ pub fn progress_by(
 }
 
 // 1 where it is not known of the last access that it was good, and else 0.
-fn doubted(response: Response, reads: u16, is_write: bool, view: &ReplyView<'_>) -> usize
+fn count_doubted(response: Response, reads: u16, is_write: bool, view: &ReplyView<'_>) -> usize
     ensures { result ≡ one_if (not (is_good response) && (is_write || nat_lt (length view.now.words) reads)) }
 {
     if response == Response::Good {

@@ -4,19 +4,15 @@ ghost use Rattle.dap_messages.specs.Commands.{IsCommand, command_bytes, command_
 ghost use Rattle.dap_replies.specs.ReplyReading.{reply_read};
 ghost use Rattle.dap_messages.specs.declared.command.PacketKind.{PacketKind};
 ghost use Rattle.dap_messages.specs.declared.command_value.CommandValue.{CommandValue};
-ghost use Rattle.target_machine.specs.Attempt.{bank};
-ghost use Rattle.probe_core.specs.Bench.{StepsTo, counted};
-ghost use Rattle.probe_core.specs.Probe.{target_of};
-ghost use Rattle.probe_core.specs.Ranges.{AreLimits};
-ghost use Rattle.probe_core.specs.Runs.{KeepsRuns};
-ghost use Rattle.flight_forms.specs.Polls.{poll_commands};
 ghost use Rattle.batch_packer.specs.Commands.{end_in};
-ghost use Rattle.batch_packer.specs.Exchanges.{GoesOn, IsOpen};
-ghost use Rattle.batch_packer.specs.FlightEnds.{HasEndCause, got_replies};
-ghost use Rattle.batch_packer.specs.Flying.{IsReady};
-ghost use Rattle.batch_packer.specs.Polling.{PolledBy, is_framed, is_of_four, is_read, match_end, matched_in, matched_read, packet_of};
+ghost use Rattle.batch_packer.specs.Exchanges.{HasExchanged, TakesPackets};
+ghost use Rattle.batch_packer.specs.FlightEnds.{EndsOver, got_replies};
+ghost use Rattle.batch_packer.specs.Flying.{StepsReady};
+ghost use Rattle.batch_packer.specs.Polling.{AreTurns, PollsBy, commands_of, is_framed, is_of_four, is_read, match_end};
+ghost use Rattle.batch_packer.specs.Polling.{matched_in, matched_read, packet_of};
 ghost use Rattle.batch_packer.specs.Queues.{IsFresh};
 ghost use Rattle.batch_packer.specs.Readings.{IsPacketOf};
+ghost use Rattle.batch_packer.specs.Rooms.{most_bytes};
 
 use crate::ends::{Cut, FlightEnd};
 use crate::exchange::exchange;
@@ -67,8 +63,7 @@ fn put_command(command: &Command<'_>, bytes: &mut [u8], at: usize) -> usize
 
 // Writes the packet of a poll into the front of a buffer, and answers how many bytes it has.
 fn write_poll(config: Config, ask: PollAsk, bytes: &mut [u8]) -> usize
-    requires low { 1 ≤ ask.turns }
-    requires high { ask.turns ≤ 65536 }
+    requires turns { AreTurns ask.turns }
     requires room { 64 ≤ length bytes.old }
     ensures size { result ≡ 35 }
     ensures front { take result bytes.new ≡ packet_bytes (packet_of config ask) }
@@ -113,8 +108,8 @@ fn is_of_four(reply: &[u8]) -> bool
 
 // Whether a reply is one that the command of a packet at this index may get.
 fn is_read(packet: &[u8], index: u8, reply: &[u8]) -> bool
-    ensures { (kind : PacketKind) (commands : List CommandValue) (command : CommandValue) → IsPacketOf kind commands packet.now → slice_get commands index ≡ Some command
-        → result ≡ is_read command reply.now }
+    ensures { (kind : PacketKind) (commands : List CommandValue) (command : CommandValue) → IsPacketOf kind commands packet.now
+        → slice_get commands index ≡ Some command → result ≡ is_read command reply.now }
 {
     view_at(packet, index, reply).is_some()
 }
@@ -128,7 +123,7 @@ fn are_all(first: bool, second: bool, third: bool) -> bool
 
 // Whether the replies to the commands around the value match are ones that these may get.
 fn is_framed(packet: &[u8], reply: &[u8]) -> bool
-    ensures framed { (kind : PacketKind) (config : Config) (ask : PollAsk) → IsPacketOf kind (poll_commands config.idle config.retry ask.mask ask.value ask.turns) packet.now
+    ensures framed { (kind : PacketKind) (config : Config) (ask : PollAsk) → IsPacketOf kind (commands_of config ask) packet.now
         → result ≡ is_framed config ask reply.now }
     ensures long { result ≡ true → length reply.now ≡ 12 }
 {
@@ -160,7 +155,7 @@ fn match_end(response: Option<Response>) -> Result<bool, FlightEnd>
 
 // Whether the register matched, by the reply to the packet of a poll.
 fn read_poll(packet: &[u8], reply: &[u8]) -> Result<bool, FlightEnd>
-    ensures read { (kind : PacketKind) (config : Config) (ask : PollAsk) → IsPacketOf kind (poll_commands config.idle config.retry ask.mask ask.value ask.turns) packet.now
+    ensures read { (kind : PacketKind) (config : Config) (ask : PollAsk) → IsPacketOf kind (commands_of config ask) packet.now
         → result ≡ matched_in config ask reply.now }
     ensures got { got_replies (end_in result) ≡ true }
 {
@@ -183,26 +178,19 @@ pub fn send_poll<B: Bench>(
     bytes: &mut [u8],
     bench: &mut B,
 ) -> Result<bool, FlightEnd>
-    requires open { IsOpen (B.reported bench.old) }
-    requires limits { AreLimits (B.reported bench.old).limits }
-    requires low { 1 ≤ ask.turns }
-    requires high { ask.turns ≤ 65536 }
-    requires bytes { length bytes.old ≡ 1024 }
+    requires bench { TakesPackets (B.reported bench.old) }
+    requires turns { AreTurns ask.turns }
+    requires bytes { length bytes.old ≡ most_bytes }
     requires packets { IsFresh packets.old 1 }
     requires replies { IsFresh replies.old 1 }
-    ensures polled { StepsTo (λ m n. IsReady (B.reported bench.old).limits m → bank (target_of m.probe) ≡ 0 → PolledBy config ask result m n) (B.state bench.old) (B.state bench.new) }
+    ensures polled { StepsReady B.reported B.state (PollsBy config ask result) bench.old bench.new }
     ensures read { got_replies (end_in result) ≡ true → result ≡ matched_read config ask replies.new.items }
     ensures packets { packets.new.items ≡ packet_bytes (packet_of config ask) ∷ [] }
-    ensures last { got_replies (end_in result) ≡ true → (B.reported bench.new).last ≡ record { packets = packets.new.items; replies = replies.new.items } }
-    ensures replied { got_replies (end_in result) ≡ true → length replies.new.items ≡ 1 }
-    ensures exchanges { got_replies (end_in result) ≡ true → (B.reported bench.new).exchanges ≡ counted (B.reported bench.old).exchanges }
-    ensures open { got_replies (end_in result) ≡ true → IsOpen (B.reported bench.new) }
+    ensures exchanged { got_replies (end_in result) ≡ true
+        → HasExchanged packets.new.items replies.new.items (B.reported bench.old) (B.reported bench.new) }
     ensures packets_room { packets.new.room ≡ packets.old.room }
     ensures replies_room { replies.new.room ≡ replies.old.room }
-    ensures keeps { GoesOn (B.reported bench.old) (B.reported bench.new) }
-    ensures runs { KeepsRuns (B.state bench.old) (B.state bench.new) }
-    ensures identity { B.identity bench.new ≡ B.identity bench.old }
-    ensures cause { HasEndCause (B.reported bench.old).faults (B.reported bench.new).faults (end_in result) }
+    ensures keeps { EndsOver B.reported B.state B.identity (end_in result) bench.old bench.new }
 {
     let size = write_poll(config, ask, bytes);
     packets.push(&bytes[..size]);

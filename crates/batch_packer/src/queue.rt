@@ -3,8 +3,9 @@ ghost use Rattle.std.specs.Prelude.{◌≡◌, ◌≤◌, [], fold, length, OnOk
 ghost use Rattle.dap_base.specs.Causes.{HasCause};
 ghost use Rattle.probe_core.specs.Bench.{StepsTo, received, sent, served};
 ghost use Rattle.probe_core.specs.Runs.{KeepsRuns};
-ghost use Rattle.batch_packer.specs.Exchanges.{GoesOn, IsOpen, StaysAt};
+ghost use Rattle.batch_packer.specs.Exchanges.{CallsOver, IsOpen, StaysAt};
 ghost use Rattle.batch_packer.specs.Queues.{HandedSome, IsQueue, ServedSome};
+ghost use Rattle.batch_packer.specs.Rooms.{most_bytes};
 
 use dap_base::Failed;
 use probe_core::{Bench, PacketList};
@@ -18,10 +19,7 @@ pub fn send_all<B: Bench>(packets: &PacketList, bench: &mut B) -> Result<(), Fai
     ensures reported { OnOk result (B.reported bench.new ≡ fold sent (B.reported bench.old) packets.now.items) }
     ensures state { OnOk result (StepsTo (λ m n. n ≡ fold served m packets.now.items) (B.state bench.old) (B.state bench.new)) }
     ensures failed { OnErr result (StepsTo (ServedSome packets.now.items) (B.state bench.old) (B.state bench.new)) }
-    ensures keeps { GoesOn (B.reported bench.old) (B.reported bench.new) }
-    ensures runs { KeepsRuns (B.state bench.old) (B.state bench.new) }
-    ensures identity { B.identity bench.new ≡ B.identity bench.old }
-    ensures cause { HasCause (B.reported bench.old).faults (B.reported bench.new).faults result }
+    ensures keeps { CallsOver B.reported B.state B.identity result bench.old bench.new }
 {
     for i in 0..packets.len() {
         match bench.send(packets.get(i)) {
@@ -33,7 +31,7 @@ pub fn send_all<B: Bench>(packets: &PacketList, bench: &mut B) -> Result<(), Fai
 }
 
 /// Takes so many replies in order, in the room of `out`.
-#[tactic(auto, using(crate::proofs::QueueLemmas::none_handed, crate::proofs::QueueLemmas::handed_same, probe_core::proofs::StateSteps::runs_then, probe_core::proofs::StateSteps::runs_self))]
+#[tactic(auto, using(crate::proofs::QueueLemmas::handing))]
 pub fn receive_all<B: Bench>(
     count: usize,
     replies: &mut PacketList,
@@ -41,7 +39,7 @@ pub fn receive_all<B: Bench>(
     bench: &mut B,
 ) -> Result<(), Failed>
     requires waits { count ≤ (B.reported bench.old).waiting }
-    requires room { length out.old ≡ 1024 }
+    requires room { length out.old ≡ most_bytes }
     requires size { (B.reported bench.old).limits.packet_size ≤ 1024 }
     requires fresh { replies.old.items ≡ [] }
     requires many { count ≤ replies.old.room }

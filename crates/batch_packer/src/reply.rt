@@ -6,7 +6,7 @@ ghost use Rattle.dap_replies.specs.ReplyReading.{reply_read};
 ghost use Rattle.dap_replies.specs.ReplyViews.{IsReplyTo};
 ghost use Rattle.dap_messages.specs.Responses.{response_of};
 ghost use Rattle.dap_transfer.specs.Laws.{AreNormal};
-ghost use Rattle.batch_packer.specs.Readings.{IsFew, IsPacketOf, IsReadFrom, IsShown, part_as, reading, shown_in};
+ghost use Rattle.batch_packer.specs.Readings.{IsPacketOf, IsReadFrom, IsShown, ReadsFew, part_as, reading, shown_in};
 
 use crate::part::{Progress, progress_by};
 use crate::slots::Slots;
@@ -15,7 +15,8 @@ use dap_replies::{ReplyView, reply_view};
 
 // The command of a packet at this index.
 fn command_in<'a>(packet: &'a [u8], index: u8) -> Option<CommandView<'a>>
-    ensures { (kind : PacketKind) (commands : List CommandValue) → IsPacketOf kind commands packet.now → result ≡ slice_get commands index }
+    ensures { (kind : PacketKind) (commands : List CommandValue) → IsPacketOf kind commands packet.now
+        → result ≡ slice_get commands index }
 {
     match packet_view(packet) {
         Ok(view) => view.command(index),
@@ -37,8 +38,8 @@ fn view_in<'a>(command: &CommandView<'_>, reply: &'a [u8]) -> Option<ReplyView<'
 /// What a reply to the command of a packet at this index shows, where it is one that the command may
 /// get.
 pub fn view_at<'a>(packet: &[u8], index: u8, reply: &'a [u8]) -> Option<ReplyView<'a>>
-    ensures { (kind : PacketKind) (commands : List CommandValue) (command : CommandValue) → IsPacketOf kind commands packet.now → slice_get commands index ≡ Some command
-        → result ≡ shown_in (reply_read command reply.now) }
+    ensures { (kind : PacketKind) (commands : List CommandValue) (command : CommandValue) → IsPacketOf kind commands packet.now
+        → slice_get commands index ≡ Some command → result ≡ shown_in (reply_read command reply.now) }
 {
     match command_in(packet, index) {
         None => None,
@@ -56,9 +57,9 @@ fn read_view(
     requires normal { AreNormal requests.now }
     requires few { length requests.now ≤ 255 }
     requires room { length slots.old.values + length requests.now ≤ slots.old.room }
-    ensures shown { IsShown (part_as before requests.now view.now (response_of view.now.response)) result slots.old.values slots.new.values }
-    ensures few { IfSome result (λ p. IsFew p slots.old.values slots.new.values) }
-    ensures room { slots.new.room ≡ slots.old.room }
+    ensures shown { IsShown (part_as before requests.now view.now (response_of view.now.response)) result
+        slots.old.values slots.new.values }
+    ensures few { ReadsFew result slots.old slots.new }
 {
     match Response::from_code(view.response()) {
         None => None,
@@ -89,8 +90,7 @@ pub fn read_reply(
         → IsShown (reading command before requests.now reply.now) result slots.old.values slots.new.values }
     ensures from { (kind : PacketKind) (command : CommandValue) → IsPacketOf kind (command ∷ []) packet.now
         → IfSome result (IsReadFrom command before requests.now reply.now slots.old.values slots.new.values) }
-    ensures few { IfSome result (λ p. IsFew p slots.old.values slots.new.values) }
-    ensures room { slots.new.room ≡ slots.old.room }
+    ensures few { ReadsFew result slots.old slots.new }
 {
     match command_in(packet, 0) {
         None => None,

@@ -1,20 +1,15 @@
 //! A command of the probe in one packet, over a bench.
-ghost use Rattle.std.specs.Prelude.{◌≡◌, ◌+◌, ◌*◌, ◌<◌, ◌≤◌, [], ◌∷◌, true, length, slice_get, slice_index, take, Some, List};
-ghost use Rattle.dap_messages.specs.Commands.{IsCommand, command_bytes, command_value};
+ghost use Rattle.std.specs.Prelude.{◌≡◌, ◌+◌, ◌*◌, [], ◌∷◌, true, length, slice_index};
+ghost use Rattle.dap_messages.specs.Commands.{command_bytes, command_value};
 ghost use Rattle.dap_replies.specs.ReplyReading.{reply_read};
 ghost use Rattle.dap_messages.specs.declared.command.PacketKind.{PacketKind};
-ghost use Rattle.dap_messages.specs.declared.command_value.CommandValue.{CommandValue};
-ghost use Rattle.target_machine.specs.InRange.{IsInRange};
-ghost use Rattle.probe_core.specs.Bench.{StepsTo, counted};
-ghost use Rattle.probe_core.specs.Probe.{target_of};
-ghost use Rattle.probe_core.specs.Ranges.{AreLimits};
-ghost use Rattle.probe_core.specs.Runs.{KeepsRuns};
-ghost use Rattle.batch_packer.specs.Commands.{DoneBy, end_in, is_single, number_by, number_in, number_read};
-ghost use Rattle.batch_packer.specs.Exchanges.{GoesOn, IsIdle, IsOpen};
-ghost use Rattle.batch_packer.specs.FlightEnds.{HasEndCause, got_replies};
+ghost use Rattle.batch_packer.specs.Commands.{DoneBy, IsSingle, end_in, number_by, number_in, number_read};
+ghost use Rattle.batch_packer.specs.Exchanges.{HasExchanged, StepsWhere, TakesPackets};
+ghost use Rattle.batch_packer.specs.FlightEnds.{EndsOver, got_replies};
 ghost use Rattle.batch_packer.specs.Flying.{HasLimits};
 ghost use Rattle.batch_packer.specs.Queues.{IsFresh};
 ghost use Rattle.batch_packer.specs.Readings.{IsPacketOf, shown_in};
+ghost use Rattle.batch_packer.specs.Rooms.{most_bytes};
 
 use crate::ends::FlightEnd;
 use crate::exchange::exchange;
@@ -65,26 +60,20 @@ pub fn send_single<B: Bench>(
     bytes: &mut [u8],
     bench: &mut B,
 ) -> Result<u32, FlightEnd>
-    requires open { IsOpen (B.reported bench.old) }
-    requires limits { AreLimits (B.reported bench.old).limits }
-    requires command { IsCommand (command_value command.now) }
-    requires single { is_single (command_value command.now) ≡ true }
-    requires bytes { length bytes.old ≡ 1024 }
+    requires bench { TakesPackets (B.reported bench.old) }
+    requires command { IsSingle (command_value command.now) }
+    requires bytes { length bytes.old ≡ most_bytes }
     requires packets { IsFresh packets.old 1 }
     requires replies { IsFresh replies.old 1 }
-    ensures done { StepsTo (λ m n. HasLimits (B.reported bench.old).limits m → DoneBy (command_value command.now) result m n) (B.state bench.old) (B.state bench.new) }
+    ensures done { StepsWhere (HasLimits (B.reported bench.old).limits) (DoneBy (command_value command.now) result)
+        (B.state bench.old) (B.state bench.new) }
     ensures read { got_replies (end_in result) ≡ true → result ≡ number_read (command_value command.now) replies.new.items }
     ensures packets { packets.new.items ≡ command_bytes (command_value command.now) ∷ [] }
-    ensures last { got_replies (end_in result) ≡ true → (B.reported bench.new).last ≡ record { packets = packets.new.items; replies = replies.new.items } }
-    ensures replied { got_replies (end_in result) ≡ true → length replies.new.items ≡ 1 }
-    ensures exchanges { got_replies (end_in result) ≡ true → (B.reported bench.new).exchanges ≡ counted (B.reported bench.old).exchanges }
-    ensures open { got_replies (end_in result) ≡ true → IsOpen (B.reported bench.new) }
+    ensures exchanged { got_replies (end_in result) ≡ true
+        → HasExchanged packets.new.items replies.new.items (B.reported bench.old) (B.reported bench.new) }
     ensures packets_room { packets.new.room ≡ packets.old.room }
     ensures replies_room { replies.new.room ≡ replies.old.room }
-    ensures keeps { GoesOn (B.reported bench.old) (B.reported bench.new) }
-    ensures runs { KeepsRuns (B.state bench.old) (B.state bench.new) }
-    ensures identity { B.identity bench.new ≡ B.identity bench.old }
-    ensures cause { HasEndCause (B.reported bench.old).faults (B.reported bench.new).faults (end_in result) }
+    ensures keeps { EndsOver B.reported B.state B.identity (end_in result) bench.old bench.new }
 {
     let size = write_single(command, bytes);
     packets.push(&bytes[..size]);

@@ -1,5 +1,5 @@
 -- What the replies of a chain show of the end of its flight.
-use Rattle.std.proofs.Common.{◌≡◌, ◌⊎◌, inl, inr, ◌∙◌, ℕ, zero, suc, ◌+◌, ◌<◌, ◌≤◌, Bool, true, false, cond, List, [], ◌∷◌, ◌++◌, length, Option, Some, None, Ok, Err, Result, refl, sym, ap, subst, arith, append-nil}
+use Rattle.std.proofs.Common.{◌≡◌, ◌⊎◌, inl, inr, ◌∙◌, ℕ, zero, suc, ◌+◌, ◌<◌, ◌≤◌, Bool, true, false, cond, List, [], ◌∷◌, length, Option, Some, None, Ok, Err, Result, refl, sym, ap, subst, arith, append-nil}
 use Rattle.std.specs.Prelude.{◌&&◌, ◌||◌, ◌==◌, slice_get}
 use Rattle.std.specs.List.{concat, list_any}
 use Rattle.std.proofs.lemmas.Bool.{eq-eqb, eqb-true}
@@ -9,25 +9,26 @@ use Rattle.dap_messages.specs.PacketReading.{packet_read}
 use Rattle.dap_messages.specs.Replies.{kind_at, may_end, may_end_block, passes, progress_at}
 use Rattle.dap_replies.specs.ReplyViews.{Shown}
 use Rattle.dap_replies.specs.ReplyReading.{is_missing, reply_read}
-use Rattle.dap_messages.specs.Requests.{is_match, kind, mask_request}
+use Rattle.dap_messages.specs.Requests.{is_match, kind}
 use Rattle.dap_messages.specs.Responses.{code_of, response_of}
 use Rattle.dap_messages.specs.declared.command.PacketKind.{PacketKind}
 use Rattle.dap_messages.specs.declared.command.PacketKind.TheVariants.{Plain, Execute, Queue}
 use Rattle.dap_messages.specs.declared.command_value.CommandValue.{CommandValue}
 use Rattle.dap_messages.specs.declared.error.MessageError.{MessageError}
-use Rattle.dap_messages.specs.declared.request.Request.{Request}
 use Rattle.dap_messages.specs.declared.request.RequestKind.{RequestKind}
 use Rattle.dap_messages.specs.declared.request.RequestKind.TheVariants.{Posted, Read, Match, Mask, Write}
 use Rattle.dap_messages.specs.declared.request.Response.{Response}
 use Rattle.dap_messages.specs.declared.request.Response.TheVariants.{Good, Wait, Fault, Mismatch}
 use Rattle.dap_replies.proofs.ReplyLaws.{response-code, response_is}
-use Rattle.dap_transfer.specs.Laws.{AreNormal, IsNormalKind}
+use Rattle.dap_transfer.specs.Laws.{IsNormalKind}
 use Rattle.dap_transfer.specs.State.{is_good}
 use Rattle.flight_forms.specs.Chains.{joined_as, nothing_yet}
 use Rattle.flight_forms.specs.Flights.{Part}
 use Rattle.flight_forms.specs.Packets.{FitChain, block_command, chain_kind, chain_packets, guarded_command, transfer_command}
 use Rattle.flight_forms.specs.Packing.{guarded_requests, payload, requests_for}
 use Rattle.flight_forms.proofs.AskedRequests.{are_normal, payload_normal}
+use Rattle.flight_forms.proofs.GuardedShortness.{normal_or_mask}
+use Rattle.flight_forms.proofs.Shortness.{normal_kind}
 use Rattle.probe_core.specs.Bench.{Exchange}
 use Rattle.access_calls.specs.Causes.{AllWholeBefore, AreReplies, BreaksQueue, HasFront, HasResponse, IsBadReply, Shows, ShowsAt, is_queue, is_shut, is_whole}
 use Rattle.batch_packer.specs.ChainReadings.{ended_at, guarded_in, guarded_reading, inner_reply, is_mismatch, joined_if, noted_at, readings_after, then_reading}
@@ -45,22 +46,11 @@ kind_unmatched Match h = absurd h
 kind_unmatched Mask h = refl
 kind_unmatched Write h = refl
 
-normal_unmatched : (n : ℕ) (rs : List Request) → AreNormal rs → passes is_match (kind_at rs n) ≡ false
-normal_unmatched n [] h = refl
-normal_unmatched zero (r ∷ rs) h = kind_unmatched (kind r) h.0
-normal_unmatched (suc n) (r ∷ rs) h = normal_unmatched n rs h.1
-
-then_mask : (n : ℕ) (rs : List Request) → AreNormal rs → passes is_match (kind_at (rs ++ mask_request 0 ∷ []) n) ≡ false
-then_mask zero [] h = refl
-then_mask (suc n) [] h = refl
-then_mask zero (r ∷ rs) h = kind_unmatched (kind r) h.0
-then_mask (suc n) (r ∷ rs) h = then_mask n rs h.1
-
 -- of a guarded command only the first request is one
 first_matches : (accesses : List RegAccess) (n : ℕ) → passes is_match (kind_at (guarded_requests accesses) n) ≡ true → n ≡ 0
 first_matches accesses zero h = refl
 first_matches accesses (suc zero) h = absurd (cc)
-first_matches accesses (suc (suc n)) h = absurd (let e = then_mask n (payload accesses) (payload_normal accesses) in cc (e, h))
+first_matches accesses (suc (suc n)) h = absurd (let e = normal_or_mask n (payload accesses) (payload_normal accesses) in cc (e, h))
 
 -- ---- what one reply shows
 
@@ -89,7 +79,7 @@ transfer_view accesses bytes view e =
       t.response_is,
       λ mismatch.
           let met : passes is_match (kind_at (requests_for false accesses) t.count) ≡ true = subst (λ (r : Response). may_end r (progress_at (requests_for false accesses) t.count) (is_missing r (progress_at (requests_for false accesses) t.count) t.rest) ≡ true) mismatch t.ends in
-          let un = normal_unmatched t.count (requests_for false accesses) (are_normal false accesses) in
+          let un = normal_kind t.count (requests_for false accesses) (are_normal false accesses) in
           cc (un, met),
     )
 

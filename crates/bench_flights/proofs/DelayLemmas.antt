@@ -16,7 +16,7 @@ use Rattle.batch_packer.specs.Actions.{Acts, is_one}
 use Rattle.batch_packer.specs.Flying.{CanFly, transfers_of}
 use Rattle.batch_packer.specs.declared.ends.FlightEnd.{FlightEnd}
 use Rattle.batch_packer.specs.declared.ends.FlightEnd.TheVariants as ends
-use Rattle.batch_packer.proofs.CallLemmas.{abort_clears, flies_after, last_delayed, next_delayed, none_delayed}
+use Rattle.batch_packer.proofs.CallLemmas.{abort_clears, flies_after, last_delayed, next_delayed, none_delayed, many_commands}
 use Rattle.probe_core.proofs.StateSteps.{runs_self, runs_then}
 use Rattle.bench_flights.specs.Flown.{BenchGoesOn, CanCommand, DidLess, HasDone, IsCutResponse, LeftOff, MayClear, NamesNone}
 use Rattle.bench_flights.specs.Wires.{HasDelayed, HasMade, IsNoCut, MadeOrNot, WasMade}
@@ -102,10 +102,6 @@ pub delay_next : (x y z : Option BenchState) (count word : ℕ) → StepsTo (λ 
     StepsTo (λ m o. IsInRange (target_of m.probe) → HasMade (Commands (probe.Delay 65535)) word m o) y z → StepsTo (λ m o. IsInRange (target_of m.probe) → HasDelayed (count + 1) m o) x z
 delay_next x y z count word h d = steps_join _ _ _ (one_more count word) x y z h d
 
-delay_weight : (count rest : ℕ) → rest ≤ 65535 → (0 < count → 0 < rest) → delay_commands (65535 * count + rest) ≡ count + 1
-delay_weight zero rest few some = omega (arith, few)
-delay_weight (suc n) rest few some = (let s = some (omega arith) in omega (arith, few, s))
-
 delay_one : (rest : ℕ) → rest ≤ 65535 → delay_commands rest ≡ 1
 delay_one rest few = omega (arith, few)
 
@@ -114,7 +110,7 @@ whole_acts : (count rest : ℕ) (m k o : BenchState) → rest ≤ 65535 → (0 <
 whole_acts count rest m k o few some a b in_range = record {
   passes = refl;
   target = b.target ∙ ap (λ (t : TargetState). delayed t rest) a.target ∙ delays_add (transfers_of m) count rest few some;
-  work = (let w = a.work in let v = b.work in let one : delay_commands rest ≡ 1 = delay_one rest few in let all = delay_weight count rest few some in omega (arith, w, v, one, all));
+  work = (let w = a.work in let v = b.work in let one : delay_commands rest ≡ 1 = delay_one rest few in let all = many_commands count rest few some in omega (arith, w, v, one, all));
   number = b.number ∙ a.number;
   retries = b.retries ∙ a.retries;
   pending = b.pending ∙ a.pending;

@@ -1,8 +1,7 @@
 -- The cause of the end of a flight: which of its packets and replies shows it.
 use Rattle.std.proofs.Common.{◌≡◌, ◌⊎◌, inl, inr, ◌∙◌, ℕ, zero, suc, ◌+◌, ◌-◌, ◌*◌, ◌/◌, ◌<◌, ◌≤◌, Bool, true, false, cond, List, [], ◌∷◌, ◌++◌, length, take, Option, Some, None, Ok, Err, Result, IfErr, MatchResult, refl, sym, ap, subst, arith, append-nil, append_assoc}
-use Rattle.std.specs.Prelude.{◌&&◌, nat_le, nat_lt, slice_get}
-use Rattle.std.proofs.lemmas.Bool.{eq-eqb}
-use Rattle.std.proofs.lemmas.Bool.Decides.{nat_tests}
+use Rattle.std.specs.Prelude.{nat_le, slice_get}
+use Rattle.std.proofs.lemmas.Bool.{eq-eqb, leb-true, le-leb, lt-ltb}
 use Rattle.target_machine.specs.declared.access.RegAccess.{RegAccess}
 use Rattle.dap_messages.specs.Commands.{alone, command_bytes}
 use Rattle.dap_messages.specs.PacketReading.{packet_read}
@@ -20,12 +19,14 @@ use Rattle.dap_replies.proofs.ReplyLaws.{response-code}
 use Rattle.flight_forms.specs.Chains.{nothing_yet}
 use Rattle.flight_forms.specs.Flights.{Part, part_of}
 use Rattle.flight_forms.specs.Forms.{bytes_in, filled, fits_guarded, fits_transfer, form_of, parts_of}
-use Rattle.flight_forms.specs.Packets.{FitChain, block_command, chain_packets, transfer_command}
+use Rattle.flight_forms.specs.Packets.{FitChain, block_command, transfer_command}
 use Rattle.flight_forms.specs.Packing.{AreWords, requests_for}
 use Rattle.flight_forms.specs.declared.form.Form.{Form}
 use Rattle.flight_forms.specs.declared.form.Form.TheVariants.{Block, Transfer, Chain}
 use Rattle.flight_forms.proofs.Capacity.{one_fits}
 use Rattle.flight_forms.proofs.Fits.{parts_fit_packets}
+use Rattle.flight_forms.proofs.SizeLemmas.{some_parts}
+use Rattle.flight_forms.proofs.RequestSizes.{three_parts, three_from}
 use Rattle.probe_core.specs.Ranges.{AreLimits}
 use Rattle.probe_core.specs.declared.job.Limits.{Limits}
 use Rattle.probe_core.specs.Bench.{Exchange}
@@ -43,6 +44,7 @@ use Rattle.batch_packer.specs.declared.ends.Cut.{Cut}
 use Rattle.batch_packer.specs.declared.ends.FlightEnd.{FlightEnd}
 use Rattle.batch_packer.specs.declared.ends.FlightEnd.TheVariants as ends
 use Rattle.batch_packer.specs.Readings.{part_as, part_in, reading, shown_in}
+use Rattle.batch_packer.proofs.ChainBench.{packet_count}
 use Rattle.bench_flights.proofs.CauseLemmas.{IsShownAt, ShowsEnd, bad_alone, end_cause}
 use Rattle.bench_flights.proofs.ChainCause.{ComesTo, block_view, chain_shows, transfer_view}
 
@@ -106,14 +108,6 @@ single_reply (reply ∷ other ∷ replies) long = absurd (omega (arith, long))
 
 -- ---- a chain has two packets or more
 
-filled_some : (size : ℕ) (part rest : List RegAccess) → 1 ≤ length (filled size part rest)
-filled_some size part [] = omega arith
-filled_some size part (a ∷ rest) = by_fit (fits_guarded size (part ++ a ∷ [])) (filled_some size (part ++ a ∷ []) rest)
-  where
-    by_fit : (b : Bool) → 1 ≤ length (filled size (part ++ a ∷ []) rest) → 1 ≤ length (cond b (filled size (part ++ a ∷ []) rest) (part ∷ filled size (a ∷ []) rest))
-    by_fit true some = some
-    by_fit false some = omega arith
-
 -- where there is one part alone, all accesses fit it
 filled_one : (size : ℕ) (part rest : List RegAccess) → length (filled size part rest) ≡ 1 → (rest ≡ []) ⊎ (fits_guarded size (part ++ rest) ≡ true)
 filled_one size part [] one = inl refl
@@ -121,41 +115,23 @@ filled_one size part (a ∷ rest) one = inr (by_fit (fits_guarded size (part ++ 
   where
     by_fit : (b : Bool) → fits_guarded size (part ++ a ∷ []) ≡ b → length (cond b (filled size (part ++ a ∷ []) rest) (part ∷ filled size (a ∷ []) rest)) ≡ 1 →
         (length (filled size (part ++ a ∷ []) rest) ≡ 1 → (rest ≡ []) ⊎ (fits_guarded size ((part ++ a ∷ []) ++ rest) ≡ true)) → fits_guarded size (part ++ a ∷ rest) ≡ true
-    by_fit false fit one go = absurd (let s = filled_some size (a ∷ []) rest in omega (arith, one, s))
+    by_fit false fit one go = absurd (let s = some_parts size (a ∷ []) rest in omega (arith, one, s))
     by_fit true fit one go = by_rest (go one)
       where
         by_rest : (rest ≡ []) ⊎ (fits_guarded size ((part ++ a ∷ []) ++ rest) ≡ true) → fits_guarded size (part ++ a ∷ rest) ≡ true
         by_rest (inl none) = ap (λ (l : List RegAccess). fits_guarded size (part ++ a ∷ l)) none ∙ fit
         by_rest (inr all) = ap (fits_guarded size) (sym (append_assoc part (a ∷ []) rest)) ∙ all
 
-all_three : (x y z : Bool) → (x && y && z) ≡ true → (x ≡ true) × (y ≡ true) × (z ≡ true)
-all_three true true true h = (refl, refl, refl)
-all_three true true false h = absurd (cc)
-all_three true false z h = absurd (cc)
-all_three false y z h = absurd (cc)
-
-make_three : (x y z : Bool) → x ≡ true → y ≡ true → z ≡ true → (x && y && z) ≡ true
-make_three true true true a b c = refl
-make_three true true false a b c = cc
-make_three true false z a b c = cc
-make_three false y z a b c = cc
-
-le_true : (a b : ℕ) → a ≤ b → nat_le a b ≡ true
-le_true a b h = grind (arith, nat_tests, h)
-
-le_of : (a b : ℕ) → nat_le a b ≡ true → a ≤ b
-le_of a b h = grind (arith, nat_tests)
-
 -- what fits a guarded Transfer fits one without a guard
 guarded_transfer : (size : ℕ) (accesses : List RegAccess) → 64 ≤ size → fits_guarded size accesses ≡ true → fits_transfer size accesses ≡ true
 guarded_transfer size accesses least fit =
     let rs : List Request = requests_for false accesses in
-    let t = all_three (nat_le (bytes_in rs + 21) size) (nat_le (reads_in rs) ((size - 9) / 4)) (nat_le (length rs) 251) fit in
-    let bytes : bytes_in rs + 21 ≤ size = le_of _ _ t.0 in
-    let reads : reads_in rs ≤ (size - 9) / 4 = le_of _ _ t.1 in
-    let few : length rs ≤ 251 = le_of _ _ t.2 in
-    make_three (nat_le (3 + bytes_in rs) size) (nat_le (3 + 4 * reads_in rs) size) (nat_le (length rs) 255)
-    (le_true _ _ (omega (arith, bytes))) (le_true _ _ (omega (arith, reads, least))) (le_true _ _ (omega (arith, few)))
+    let t = three_parts (nat_le (bytes_in rs + 21) size) (nat_le (reads_in rs) ((size - 9) / 4)) (nat_le (length rs) 251) fit in
+    let bytes : bytes_in rs + 21 ≤ size = leb-true _ _ t.0 in
+    let reads : reads_in rs ≤ (size - 9) / 4 = leb-true _ _ t.1 in
+    let few : length rs ≤ 251 = leb-true _ _ t.2 in
+    three_from (nat_le (3 + bytes_in rs) size) (nat_le (3 + 4 * reads_in rs) size) (nat_le (length rs) 255)
+    (le-leb _ _ (omega (arith, bytes))) (le-leb _ _ (omega (arith, reads, least))) (le-leb _ _ (omega (arith, few)))
 
 not_transfer : (b t c : Bool) → cond b (Some Block) (cond t (Some Transfer) (cond c (Some Chain) None)) ≡ Some Chain → t ≡ false
 not_transfer true t c h = absurd (cc)
@@ -164,7 +140,7 @@ not_transfer false false c h = refl
 
 chain_parts : (size count : ℕ) (accesses : List RegAccess) → 64 ≤ size → size ≤ 1024 → form_of size count accesses ≡ Some Chain → 0 < length accesses → 2 ≤ length (parts_of size accesses)
 chain_parts size count [] least most is some = absurd (omega (arith, some))
-chain_parts size count (a ∷ rest) least most is some = by_one (length (filled size (a ∷ []) rest)) refl (filled_some size (a ∷ []) rest)
+chain_parts size count (a ∷ rest) least most is some = by_one (length (filled size (a ∷ []) rest)) refl (some_parts size (a ∷ []) rest)
   where
     unfit : fits_transfer size (a ∷ rest) ≡ false
     unfit = not_transfer _ _ _ is
@@ -178,9 +154,6 @@ chain_parts size count (a ∷ rest) least most is some = by_one (length (filled 
     by_one (suc zero) is some = absurd (by_which (filled_one size (a ∷ []) rest is))
     by_one (suc (suc n)) is some = omega (arith, is)
 
-lt_true : (a b : ℕ) → a < b → nat_lt a b ≡ true
-lt_true a b h = grind (arith, nat_tests, h)
-
 mismatch_of : (r : Response) → is_mismatch r ≡ true → r ≡ Mismatch
 mismatch_of Good h = absurd (cc)
 mismatch_of Wait h = absurd (cc)
@@ -188,10 +161,6 @@ mismatch_of Fault h = absurd (cc)
 mismatch_of Mismatch h = refl
 
 -- ---- any flight
-
-chain_count : (parts : List (List RegAccess)) → length (chain_packets parts) ≡ length parts
-chain_count [] = refl
-chain_count (p ∷ parts) = ap (λ n. suc n) (chain_count parts)
 
 chain_end : (last : Exchange) (at : ℕ) (end : FlightEnd) (values : List (Option ℕ)) (size : ℕ) (short : size ≤ 1024) (queue : is_queue last ≡ true) (found : Option Part) → ComesTo size last short queue found at → EndsBy (unless_mismatch found) (Some end) values → ShowsEnd end last at
 chain_end last at ends.BenchFault values size short queue found comes h = tt
@@ -229,8 +198,8 @@ form_shows Transfer limits accesses last end values at is some fits words h pack
     (subst (λ (l : List (List ℕ)). EndsBy (unless_mismatch (one_reading false accesses l)) (Some end) values) r.1 h))
 form_shows Chain limits accesses last end values at is some fits words h packets long at_is =
     let size : ℕ = limits.packet_size in
-    let many : 2 ≤ length last.packets = (let p = chain_parts limits.packet_size limits.packet_count accesses fits.size_low fits.size_high is some in let n = ap length packets ∙ chain_count (parts_of limits.packet_size accesses) in omega (arith, p, n)) in
-    let queue : is_queue last ≡ true = lt_true 1 (length last.packets) (omega (arith, many)) in
+    let many : 2 ≤ length last.packets = (let p = chain_parts limits.packet_size limits.packet_count accesses fits.size_low fits.size_high is some in let n = ap length packets ∙ packet_count (parts_of limits.packet_size accesses) in omega (arith, p, n)) in
+    let queue : is_queue last ≡ true = lt-ltb 1 (length last.packets) (omega (arith, many)) in
     let fit : FitChain limits.packet_size (parts_of limits.packet_size accesses) = parts_fit_packets limits.packet_size accesses fits.size_low fits.size_high words in
     subst (λ (n : ℕ). ShowsEnd end last n) (sym at_is)
     (chain_end last _ end values limits.packet_size fits.size_high queue (readings_after (Some nothing_yet) (parts_of limits.packet_size accesses) last.replies)

@@ -1,5 +1,5 @@
 -- The form of a flight of a few accesses, and the bench after one Transfer that was cut.
-use Rattle.std.proofs.Common.{◌≡◌, ◌∙◌, ℕ, ◌+◌, ◌-◌, ◌*◌, ◌/◌, ◌<◌, ◌≤◌, Bool, true, false, cond, eqb, List, [], ◌∷◌, ◌++◌, length, take, Option, Some, None, Result, Ok, Err, IfErr, refl, sym, ap, subst, arith, length-append}
+use Rattle.std.proofs.Common.{◌≡◌, ◌∙◌, ℕ, ◌+◌, ◌*◌, ◌<◌, Bool, true, false, cond, eqb, List, [], ◌∷◌, ◌++◌, length, take, Option, Some, None, Result, Ok, Err, IfErr, refl, ap, subst, arith, length-append}
 use Rattle.std.specs.Prelude.{MatchResult, bit_and, nat_le, ◌&&◌}
 use Rattle.std.specs.Option.{is_some}
 use Rattle.target_machine.specs.State.{TargetState}
@@ -7,7 +7,7 @@ use Rattle.target_machine.specs.declared.access.RegAccess.{RegAccess}
 use Rattle.dap_messages.specs.Responses.{response_of}
 use Rattle.dap_messages.specs.declared.request.Response.{Response}
 use Rattle.dap_transfer.specs.State.{Setting}
-use Rattle.flight_forms.specs.Forms.{all_write_drw, fits_block, fits_chain, fits_transfer, form_of, writes_drw}
+use Rattle.flight_forms.specs.Forms.{all_write_drw, fits_block, fits_chain, fits_transfer}
 use Rattle.flight_forms.specs.Packing.{IsTaken}
 use Rattle.flight_forms.specs.declared.form.Form.{Form}
 use Rattle.flight_forms.specs.declared.form.Form.TheVariants.{Block, Transfer, Chain}
@@ -18,7 +18,7 @@ use Rattle.probe_core.specs.Ranges.{AreLimits}
 use Rattle.probe_core.specs.declared.job.Limits.{Limits}
 use Rattle.batch_packer.specs.FlightEnds.{FlewCut}
 use Rattle.batch_packer.specs.FlightStates.{SentBy, can_resume_by, has_room, sent_form}
-use Rattle.batch_packer.specs.Flying.{CanFly, HasFlown, transfers_of}
+use Rattle.batch_packer.specs.Flying.{CanFly, transfers_of}
 use Rattle.batch_packer.specs.declared.ends.Cut.{Cut}
 use Rattle.batch_packer.specs.declared.ends.FlightEnd.{FlightEnd}
 use Rattle.batch_packer.specs.declared.ends.FlightEnd.TheVariants as ends

@@ -1,5 +1,5 @@
 -- How an access begins over a bench.
-use Rattle.std.proofs.Common.{◌≡◌, ◌∙◌, ℕ, ◌≤◌, true, false, List, [], ◌∷◌, Option, Some, None, Ok, Err, Result, IfOk, MatchResult, refl, sym, ap, subst, arith}
+use Rattle.std.proofs.Common.{◌≡◌, ◌∙◌, ℕ, ◌≤◌, true, List, [], ◌∷◌, Option, Some, None, Ok, Err, Result, IfOk, MatchResult, refl, sym, ap, subst, arith}
 use Rattle.std.specs.Prelude.{bit_and, ◌==◌}
 use Rattle.target_machine.specs.InRange.{IsInRange}
 use Rattle.dap_messages.specs.declared.command_value.CommandValue.{CommandValue}

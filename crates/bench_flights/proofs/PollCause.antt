@@ -2,7 +2,7 @@
 use Rattle.std.proofs.Common.{◌≡◌, ◌⊎◌, inl, inr, ◌∙◌, ℕ, zero, suc, ◌-◌, ◌≤◌, Bool, true, false, cond, List, [], ◌∷◌, length, take, Option, Some, None, Ok, Err, Result, IfErr, MatchResult, refl, sym, ap, subst, arith}
 use Rattle.std.specs.Prelude.{◌&&◌, ◌||◌, is_some, nat_lt, ◌==◌, slice_get, slice_index, slice_range}
 use Rattle.std.specs.List.{concat, list_any}
-use Rattle.std.proofs.lemmas.Bool.{eq-eqb, eqb-true}
+use Rattle.std.proofs.lemmas.Bool.{eq-eqb, eqb-true, and_from}
 use Rattle.dap_messages.specs.Commands.{Packet, packet_bytes}
 use Rattle.dap_messages.specs.PacketReading.{packet_read}
 use Rattle.dap_messages.specs.Replies.{TransferProgress, progress_at}
@@ -28,13 +28,13 @@ use Rattle.batch_packer.specs.declared.ends.FlightEnd.{FlightEnd}
 use Rattle.batch_packer.specs.declared.ends.FlightEnd.TheVariants as ends
 use Rattle.batch_packer.specs.declared.poll.Config.{Config}
 use Rattle.batch_packer.specs.declared.poll.PollAsk.{PollAsk}
-use Rattle.dap_messages.proofs.CommandLaws.{and_first, and_second}
 use Rattle.dap_replies.proofs.ReplyLaws.{response_is}
 use Rattle.batch_packer.proofs.PacketLemmas.{reads_packet}
 use Rattle.batch_packer.proofs.PollLemmas.{IsPoll, poll_is_packet}
-use Rattle.bench_flights.specs.Flown.{HasEndCause, IsCutResponse, NamesNone}
+use Rattle.bench_flights.specs.Flown.{HasEndCause, IsUnnamed}
 use Rattle.bench_flights.proofs.CauseLemmas.{IsEndBelow, IsShownAt, ShowsEnd, below_is}
 use Rattle.bench_flights.proofs.ReplyReads.{configure_long, transfer_read}
+use Rattle.dap_base.proofs.Basics.{first_true, second_true}
 
 -- a list of two numbers, or of three
 two_of : (xs : List ℕ) → length xs ≡ 2 → (a : ℕ) × (b : ℕ) × (xs ≡ a ∷ b ∷ [])
@@ -139,10 +139,6 @@ none_of (p ∷ parts) shows all = absurd (no shows all)
     no [] all = all
     no (s ∷ shows) all = all
 
-both : (x y : Bool) → x ≡ true → y ≡ true → (x && y) ≡ true
-both true y a b = b
-both false y a b = cc
-
 read_true : (c : CommandValue) (part : List ℕ) (s : Shown) → reply_read c part ≡ Ok s → is_read c part ≡ true
 read_true c part s e = ap (λ (r : Result Shown MessageError). is_some (shown_in r)) e
 
@@ -162,8 +158,8 @@ module _ (config : Config) (ask : PollAsk) where
   framed_at : (a b c d e f g h i j : ℕ) → is_read (Configure config.idle config.retry (ask.turns - 1)) (a ∷ b ∷ []) ≡ true → is_read (Transfer clear_mask) (f ∷ g ∷ h ∷ []) ≡ true →
       is_read (Configure config.idle config.retry 0) (i ∷ j ∷ []) ≡ true → is_framed config ask (0x7F ∷ 4 ∷ a ∷ b ∷ c ∷ d ∷ e ∷ f ∷ g ∷ h ∷ i ∷ j ∷ []) ≡ true
   framed_at a b c d e f g h i j first clear last =
-      both (is_read (Configure config.idle config.retry (ask.turns - 1)) (a ∷ b ∷ [])) (is_read (Transfer clear_mask) (f ∷ g ∷ h ∷ []) && is_read (Configure config.idle config.retry 0) (i ∷ j ∷ [])) first
-      (both (is_read (Transfer clear_mask) (f ∷ g ∷ h ∷ [])) (is_read (Configure config.idle config.retry 0) (i ∷ j ∷ [])) clear last)
+      and_from (is_read (Configure config.idle config.retry (ask.turns - 1)) (a ∷ b ∷ [])) (is_read (Transfer clear_mask) (f ∷ g ∷ h ∷ []) && is_read (Configure config.idle config.retry 0) (i ∷ j ∷ [])) first
+      (and_from (is_read (Transfer clear_mask) (f ∷ g ∷ h ∷ [])) (is_read (Configure config.idle config.retry 0) (i ∷ j ∷ [])) clear last)
 
   -- such a reply is not bad
   never_bad : (packet : Packet) (reply : List ℕ) (shows : List Shown) → packet ≡ packet_of config ask → Shows false packet reply shows → matched_in config ask reply ≡ Err ends.ReplyBad → ⊥
@@ -243,34 +239,34 @@ any_second code x y z w same = rw (eq-eqb y.response code same) (by_first (x.res
 
 module _ (config : Config) (ask : PollAsk) (reply : List ℕ) (end : FlightEnd) (h : IsCutBy config ask reply end) where
   of_four : is_of_four reply ≡ true
-  of_four = and_first (is_of_four reply) (is_read (Configure config.idle config.retry (ask.turns - 1)) (slice_range reply 2 4) && (is_read (Transfer clear_mask) (slice_range reply 7 10) && is_read (Configure config.idle config.retry 0) (slice_range reply 10 12))) h.framed
+  of_four = first_true (is_of_four reply) (is_read (Configure config.idle config.retry (ask.turns - 1)) (slice_range reply 2 4) && (is_read (Transfer clear_mask) (slice_range reply 7 10) && is_read (Configure config.idle config.retry 0) (slice_range reply 10 12))) h.framed
 
   around : (is_read (Configure config.idle config.retry (ask.turns - 1)) (slice_range reply 2 4) && (is_read (Transfer clear_mask) (slice_range reply 7 10) && is_read (Configure config.idle config.retry 0) (slice_range reply 10 12))) ≡ true
-  around = and_second (is_of_four reply) (is_read (Configure config.idle config.retry (ask.turns - 1)) (slice_range reply 2 4) && (is_read (Transfer clear_mask) (slice_range reply 7 10) && is_read (Configure config.idle config.retry 0) (slice_range reply 10 12))) h.framed
+  around = second_true (is_of_four reply) (is_read (Configure config.idle config.retry (ask.turns - 1)) (slice_range reply 2 4) && (is_read (Transfer clear_mask) (slice_range reply 7 10) && is_read (Configure config.idle config.retry 0) (slice_range reply 10 12))) h.framed
 
   after_it : (is_read (Transfer clear_mask) (slice_range reply 7 10) && is_read (Configure config.idle config.retry 0) (slice_range reply 10 12)) ≡ true
-  after_it = and_second (is_read (Configure config.idle config.retry (ask.turns - 1)) (slice_range reply 2 4)) (is_read (Transfer clear_mask) (slice_range reply 7 10) && is_read (Configure config.idle config.retry 0) (slice_range reply 10 12)) around
+  after_it = second_true (is_read (Configure config.idle config.retry (ask.turns - 1)) (slice_range reply 2 4)) (is_read (Transfer clear_mask) (slice_range reply 7 10) && is_read (Configure config.idle config.retry 0) (slice_range reply 10 12)) around
 
   ends_of : (slice_index reply 0 == 0x7F) && (slice_index reply 1 == 4) ≡ true
-  ends_of = and_second (length reply == 12) ((slice_index reply 0 == 0x7F) && (slice_index reply 1 == 4)) of_four
+  ends_of = second_true (length reply == 12) ((slice_index reply 0 == 0x7F) && (slice_index reply 1 == 4)) of_four
 
   twelve : Twelve reply
-  twelve = twelve_of reply (eqb-true (length reply) 12 (and_first (length reply == 12) ((slice_index reply 0 == 0x7F) && (slice_index reply 1 == 4)) of_four))
+  twelve = twelve_of reply (eqb-true (length reply) 12 (first_true (length reply == 12) ((slice_index reply 0 == 0x7F) && (slice_index reply 1 == 4)) of_four))
 
   first_read : (s : Shown) × (reply_read (Configure config.idle config.retry (ask.turns - 1)) (slice_range reply 2 4) ≡ Ok s)
-  first_read = read_some _ (and_first (is_read (Configure config.idle config.retry (ask.turns - 1)) (slice_range reply 2 4)) (is_read (Transfer clear_mask) (slice_range reply 7 10) && is_read (Configure config.idle config.retry 0) (slice_range reply 10 12)) around)
+  first_read = read_some _ (first_true (is_read (Configure config.idle config.retry (ask.turns - 1)) (slice_range reply 2 4)) (is_read (Transfer clear_mask) (slice_range reply 7 10) && is_read (Configure config.idle config.retry 0) (slice_range reply 10 12)) around)
 
   clear_read : (s : Shown) × (reply_read (Transfer clear_mask) (slice_range reply 7 10) ≡ Ok s)
-  clear_read = read_some _ (and_first (is_read (Transfer clear_mask) (slice_range reply 7 10)) (is_read (Configure config.idle config.retry 0) (slice_range reply 10 12)) after_it)
+  clear_read = read_some _ (first_true (is_read (Transfer clear_mask) (slice_range reply 7 10)) (is_read (Configure config.idle config.retry 0) (slice_range reply 10 12)) after_it)
 
   last_read : (s : Shown) × (reply_read (Configure config.idle config.retry 0) (slice_range reply 10 12) ≡ Ok s)
-  last_read = read_some _ (and_second (is_read (Transfer clear_mask) (slice_range reply 7 10)) (is_read (Configure config.idle config.retry 0) (slice_range reply 10 12)) after_it)
+  last_read = read_some _ (second_true (is_read (Transfer clear_mask) (slice_range reply 7 10)) (is_read (Configure config.idle config.retry 0) (slice_range reply 10 12)) after_it)
 
   joined : reply ≡ 0x7F ∷ 4 ∷ concat (slice_range reply 2 4 ∷ slice_range reply 4 7 ∷ slice_range reply 7 10 ∷ slice_range reply 10 12 ∷ [])
   joined =
       let t = twelve in
-      let zero_is : t.a ≡ 0x7F = sym (ap (λ (r : List ℕ). slice_index r 0) t.are) ∙ eqb-true (slice_index reply 0) 0x7F (and_first (slice_index reply 0 == 0x7F) (slice_index reply 1 == 4) ends_of) in
-      let one_is : t.b ≡ 4 = sym (ap (λ (r : List ℕ). slice_index r 1) t.are) ∙ eqb-true (slice_index reply 1) 4 (and_second (slice_index reply 0 == 0x7F) (slice_index reply 1 == 4) ends_of) in
+      let zero_is : t.a ≡ 0x7F = sym (ap (λ (r : List ℕ). slice_index r 0) t.are) ∙ eqb-true (slice_index reply 0) 0x7F (first_true (slice_index reply 0 == 0x7F) (slice_index reply 1 == 4) ends_of) in
+      let one_is : t.b ≡ 4 = sym (ap (λ (r : List ℕ). slice_index r 1) t.are) ∙ eqb-true (slice_index reply 1) 4 (second_true (slice_index reply 0 == 0x7F) (slice_index reply 1 == 4) ends_of) in
       t.are ∙ (λ x. zero_is x ∷ one_is x ∷ t.c ∷ t.d ∷ t.e ∷ t.f ∷ t.g ∷ t.h ∷ t.i ∷ t.j ∷ t.k ∷ t.l ∷ [])
       ∙ ap (λ (r : List ℕ). 0x7F ∷ 4 ∷ concat (slice_range r 2 4 ∷ slice_range r 4 7 ∷ slice_range r 7 10 ∷ slice_range r 10 12 ∷ [])) (sym t.are)
 
@@ -330,17 +326,17 @@ poll_shows config ask packet last end reads packets one e = by_replies last.repl
     by_replies (reply ∷ []) same long e = by_end reply same e (poll_end config ask reply end e)
     by_replies (reply ∷ other ∷ replies) same long e = absurd (omega (arith, long))
 
-bad_names : (end : FlightEnd) → end ≡ ends.ReplyBad → NamesNone end × IsCutResponse end
-bad_names end bad = subst (λ (x : FlightEnd). NamesNone x × IsCutResponse x) (sym bad) (tt, tt)
+bad_names : (end : FlightEnd) → end ≡ ends.ReplyBad → IsUnnamed end
+bad_names end bad = subst IsUnnamed (sym bad) (record { none = tt; response = tt })
 
 -- it names no access, and a cut has the response 02 or 04
-poll_names : (config : Config) (ask : PollAsk) (replies : List (List ℕ)) (end : FlightEnd) → Err end ≡ matched_read config ask replies → NamesNone end × IsCutResponse end
+poll_names : (config : Config) (ask : PollAsk) (replies : List (List ℕ)) (end : FlightEnd) → Err end ≡ matched_read config ask replies → IsUnnamed end
 poll_names config ask [] end e = bad_names end cc
 poll_names config ask (reply ∷ []) end e = by_end (poll_end config ask reply end e)
   where
-    by_end : (end ≡ ends.ReplyBad) ⊎ IsCutBy config ask reply end → NamesNone end × IsCutResponse end
+    by_end : (end ≡ ends.ReplyBad) ⊎ IsCutBy config ask reply end → IsUnnamed end
     by_end (inl bad) = bad_names end bad
-    by_end (inr cut) = subst (λ (x : FlightEnd). NamesNone x × IsCutResponse x) (sym cut.is) ((refl, refl), cut.stopped)
+    by_end (inr cut) = subst IsUnnamed (sym cut.is) (record { none = (refl, refl); response = cut.stopped })
 poll_names config ask (reply ∷ other ∷ replies) end e = bad_names end cc
 
 pub poll_cause : (config : Config) (ask : PollAsk) (result : Result Bool FlightEnd) (old new : BenchReported) (f : FlightState) → IsPoll config ask →
@@ -354,9 +350,9 @@ poll_cause config ask (Err end) old new f fits is h read packets long =
     poll_shows config ask (packet_bytes (packet_of config ask)) new.last end (reads_packet Execute (poll_commands config.idle config.retry ask.mask ask.value ask.turns) (packet_bytes (packet_of config ask)) (poll_is_packet config ask (packet_bytes (packet_of config ask)) fits refl))
     (packets there) (long there) (read there))
 
-pub poll_none : (config : Config) (ask : PollAsk) (result : Result Bool FlightEnd) (replies : List (List ℕ)) (e : Option FlightEnd) → MatchResult result (λ _. e ≡ None) (λ end. e ≡ Some end) →
-    (got_replies e ≡ true → result ≡ matched_read config ask replies) → IfErr result NamesNone × IfErr result IsCutResponse
-poll_none config ask (Ok matched) replies e is read = (tt, tt)
-poll_none config ask (Err ends.BenchFault) replies e is read = (tt, tt)
-poll_none config ask (Err ends.ReplyBad) replies e is read = (tt, tt)
-poll_none config ask (Err (ends.Cut cut)) replies e is read = poll_names config ask replies (ends.Cut cut) (read (ap got_replies is))
+pub poll_unnamed : (config : Config) (ask : PollAsk) (result : Result Bool FlightEnd) (replies : List (List ℕ)) (e : Option FlightEnd) → MatchResult result (λ _. e ≡ None) (λ end. e ≡ Some end) →
+    (got_replies e ≡ true → result ≡ matched_read config ask replies) → IfErr result IsUnnamed
+poll_unnamed config ask (Ok matched) replies e is read = tt
+poll_unnamed config ask (Err ends.BenchFault) replies e is read = record { none = tt; response = tt }
+poll_unnamed config ask (Err ends.ReplyBad) replies e is read = record { none = tt; response = tt }
+poll_unnamed config ask (Err (ends.Cut cut)) replies e is read = poll_names config ask replies (ends.Cut cut) (read (ap got_replies is))

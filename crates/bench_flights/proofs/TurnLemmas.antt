@@ -7,6 +7,7 @@ use Rattle.target_machine.specs.Plain.{Polled, Polls, dp_read_of, given, is_faul
 use Rattle.target_machine.specs.State.{TargetState}
 use Rattle.target_machine.specs.declared.access.Outcome.{Outcome}
 use Rattle.target_machine.specs.declared.access.Outcome.TheVariants.{Value, Done, Fault}
+use Rattle.target_machine.proofs.AccessLaws.{stays}
 use Rattle.target_calls.proofs.EntryLemmas.{weight_some}
 use Rattle.dap_transfer.specs.State.{Setting, grown}
 use Rattle.probe_core.specs.Bench.{BenchState, StepsTo}
@@ -58,10 +59,6 @@ read_looked mask requested value m o false h is =
     }
 
 -- ---- with another DPBANKSEL the reads change nothing
-
-stays : (b : Bool) (p q : Attempt) (t : TargetState) → p.next ≡ t → q.next ≡ t → (cond b p q).next ≡ t
-stays true p q t h k = h
-stays false p q t h k = k
 
 other_bank : (b : Bool) (p : Attempt) (t : TargetState) → b ≡ false → (cond b p (answers 0 t)).next ≡ t
 other_bank true p t e = absurd (cc)

@@ -14,7 +14,6 @@ use Rattle.batch_packer.specs.Commands.{DoneBy, HasDone, is_single}
 use Rattle.batch_packer.specs.Flying.{transfers_of}
 use Rattle.batch_packer.specs.declared.ends.FlightEnd.{FlightEnd}
 use Rattle.batch_packer.specs.declared.ends.FlightEnd.TheVariants as ends
-use Rattle.access_calls.specs.Standing.{setting_of}
 use Rattle.batch_packer.proofs.CallLemmas.{call_acts, call_gives, call_sets_nothing}
 use Rattle.bench_flights.specs.Wires.{HasMade, MadeOrNot, WasMade}
 

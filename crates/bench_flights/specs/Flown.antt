@@ -1,5 +1,6 @@
 -- What a flight, a poll or a command of the probe leaves.
-use Rattle.std.specs.Prelude.{◌≡◌, ◌⊎◌, ⊤, ℕ, ◌+◌, ◌*◌, ◌^◌, ◌<◌, ◌≤◌, ◌==◌, bit_and, Bool, true, false, if◌then◌else◌, List, slice_get, Option, Some}
+use Rattle.std.specs.Prelude.{◌≡◌, ◌⊎◌, ⊤, ℕ, ◌+◌, ◌*◌, ◌^◌, ◌<◌, ◌≤◌, ◌==◌, bit_and, Bool, true, false, if◌then◌else◌}
+use Rattle.std.specs.Prelude.{List, [], slice_get, Option, Some, None, Result, OnOk, IfErr}
 use Rattle.dap_base.specs.Bits.{has_bit}
 use Rattle.dap_base.specs.Causes.{Rose}
 use Rattle.target_machine.specs.Attempt.{bank}
@@ -12,10 +13,11 @@ use Rattle.target_machine.specs.declared.unit.ProbeCall.{ProbeCall}
 use Rattle.target_machine.specs.declared.unit.ProbeCall.TheVariants as probe
 use Rattle.dap_messages.specs.declared.request.Response.TheVariants.{Good, Wait, Fault, Mismatch}
 use Rattle.flight_forms.specs.Flights.{DoesPart, Part}
-use Rattle.probe_core.specs.Bench.{BenchState, Exchange}
+use Rattle.probe_core.specs.Bench.{BenchState, Exchange, StepsTo}
 use Rattle.probe_core.specs.Bench.{Reported as BenchReported}
 use Rattle.probe_core.specs.Probe.{ended_retries_of, target_of, work_of}
 use Rattle.probe_core.specs.Runs.{KeepsRuns}
+use Rattle.probe_core.specs.declared.job.Limits.{Limits}
 use Rattle.target_calls.specs.Weights.{weight}
 use Rattle.access_calls.specs.Causes.{HasResponse, IsBadReply}
 use Rattle.access_calls.specs.Standing.{IsOver, IsPart, idle_cycles_of, number_of, pending_of, setting_of}
@@ -25,6 +27,10 @@ use Rattle.batch_packer.specs.declared.ends.FlightEnd.{FlightEnd}
 use Rattle.batch_packer.specs.declared.ends.FlightEnd.TheVariants as ends
 use Rattle.batch_packer.specs.Actions.{DoesAction}
 use Rattle.batch_packer.specs.Flying.{Flies, transfers_of}
+
+-- the numbers of the target fit their registers and words
+abbrev pub IsTargetInRange : BenchState → Type 0
+IsTargetInRange m = IsInRange (target_of m.probe)
 
 -- at most so many starting packets came, and their count stops before 2^64
 pub record SendsFew (packets : ℕ) (m o : BenchState) : Type 0 where
@@ -76,6 +82,10 @@ pub record IsSetTo (idle retry : ℕ) (m : BenchState) : Type 0 where
 pub record CanMatch (idle retry : ℕ) (m : BenchState) : Type 0 where
   pub bank_zero : bank (target_of m.probe) ≡ 0
   pub set : IsSetTo idle retry m
+
+-- From a state over which a flight and a poll by value matches do what is said of them, this step is made.
+abbrev pub StepsMatching : ℕ → ℕ → (BenchState → BenchState → Type 0) → Option BenchState → Option BenchState → Type 0
+StepsMatching idle retry step old new = StepsTo (λ m o. CanFly m → CanMatch idle retry m → step m o) old new
 
 -- the command clears STICKYERR
 abbrev pub clears : ProbeCall → Bool
@@ -165,8 +175,36 @@ HasEndCause (ends.Cut cut) old new packet reply = (new.faults ≡ old.faults) ×
 HasEndCause ends.BenchFault old new packet reply = Rose old.faults new.faults
 HasEndCause ends.ReplyBad old new packet reply = (new.faults ≡ old.faults) × WasReplied IsBadReply old new packet reply
 
--- a cut has the response 02 or 04
+-- A cut has the response 02 or 04.
 abbrev pub IsCutResponse : FlightEnd → Type 0
 IsCutResponse (ends.Cut cut) = (cut.response ≡ 0x02) ⊎ (cut.response ≡ 0x04)
 IsCutResponse ends.BenchFault = ⊤
 IsCutResponse ends.ReplyBad = ⊤
+
+-- it names no access, and a cut has the response 02 or 04
+pub record IsUnnamed (end : FlightEnd) : Type 0 where
+  pub none : NamesNone end
+  pub response : IsCutResponse end
+
+-- What each call keeps that sends flights, polls or commands. Nothing is left that was pushed, the limits stay, the bench goes on as each of
+-- its calls does, and it is the same loan. Where the call answers there is no end, and the bench counts no fault more. An end that it answers
+-- has its cause, and a cut the response 02 or 04.
+pub record KeepsFlights {F T : Type 0} (reported : F → BenchReported) (state : F → Option BenchState) (identity : F → ℕ)
+    (accesses : F → List RegAccess) (ended : F → Option FlightEnd) (limits : F → Limits) (packet reply : F → List ℕ) (result : Result T FlightEnd)
+    (old new : F) : Type 0 where
+  pub empty : accesses new ≡ []
+  pub usable : OnOk result (ended new ≡ None)
+  pub faults : OnOk result ((reported new).faults ≡ (reported old).faults)
+  pub response : IfErr result IsCutResponse
+  pub cause : IfErr result (λ end. HasEndCause end (reported old) (reported new) (packet new) (reply new))
+  pub goes : BenchGoesOn (reported old) (reported new) (state old) (state new)
+  pub same_limits : limits new ≡ limits old
+  pub same_bench : identity new ≡ identity old
+
+-- What each call keeps that sends nothing: the bench as it is, which is the same loan, and the limits.
+pub record LeavesBench {F : Type 0} (reported : F → BenchReported) (state : F → Option BenchState) (identity : F → ℕ) (limits : F → Limits)
+    (old new : F) : Type 0 where
+  pub same_reported : reported new ≡ reported old
+  pub same_state : state new ≡ state old
+  pub same_limits : limits new ≡ limits old
+  pub same_bench : identity new ≡ identity old

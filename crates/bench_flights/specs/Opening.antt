@@ -7,6 +7,7 @@ use Rattle.dap_messages.specs.declared.command_value.CommandValue.TheVariants as
 use Rattle.probe_core.specs.Bench.{BenchState}
 use Rattle.probe_core.specs.Bench.{Reported as BenchReported}
 use Rattle.probe_core.specs.declared.job.Config.{Config}
+use Rattle.probe_core.specs.declared.job.Limits.{Limits}
 use Rattle.batch_packer.specs.declared.ends.FlightEnd.{FlightEnd}
 use Rattle.batch_packer.specs.declared.ends.FlightEnd.TheVariants as ends
 use Rattle.access_calls.specs.Causes.{IsBadReply}
@@ -23,6 +24,10 @@ least_of c = 0
 -- What an exchange leaves that did not come to its end: a call of the bench failed, as a reply of an observable bench is never bad.
 abbrev pub LeftOpen : Config → FlightEnd → BenchState → BenchState → Type 0
 LeftOpen config end m o = (end ≡ ends.BenchFault) × HasTried config m o
+
+-- a probe with these limits answers just them
+abbrev pub GivesLimits : Limits → Limits → BenchState → BenchState → Type 0
+GivesLimits limits given m o = m.probe.executor.limits ≡ limits → given ≡ limits
 
 -- no packet and no reply are handed back
 pub record ShowsNone (sent got : List ℕ) : Type 0 where

@@ -36,6 +36,12 @@ pub record KeepsWire {B T : Type 0} (reported : B → Reported) (state : B → O
   pub goes : BenchGoesOn (reported old) (reported new) (state old) (state new)
   pub same_bench : identity new ≡ identity old
 
+-- The same of a function that leaves the limits of the flight.
+pub record KeepsWireWhole {B T : Type 0} (reported : B → Reported) (state : B → Option BenchState) (identity : B → ℕ) (result : Result T FlightEnd)
+    (old new : B) (before flight : FlightState) : Type 0 where
+  pub on : KeepsWire reported state identity result old new flight
+  pub limits : flight.limits ≡ before.limits
+
 -- the accesses that were pushed are held by some form
 abbrev pub AreHeld : Limits → List RegAccess → Type 0
 AreHeld limits accesses = 0 < length accesses → is_some (form_of limits.packet_size limits.packet_count accesses) ≡ true

@@ -8,20 +8,20 @@ ghost use Rattle.access_regs.specs.Costs.{command_cost, portions};
 ghost use Rattle.access_regs.specs.Journal.{is_alone};
 ghost use Rattle.access_regs.specs.declared.planner.Planner.{Planner};
 ghost use Rattle.access_regs.specs.declared.planner.Planner.TheVariants.{Managed};
-ghost use Rattle.target_machine.specs.InRange.{IsInRange};
 ghost use Rattle.flight_forms.specs.Packing.{IsTaken};
-ghost use Rattle.probe_core.specs.Bench.{BenchState, Reported, StepsTo};
+ghost use Rattle.probe_core.specs.Bench.{BenchState, Reported};
 ghost use Rattle.probe_core.specs.Probe.{target_of, work_of};
 ghost use Rattle.probe_core.specs.declared.job.Limits.{Limits};
 ghost use Rattle.access_calls.specs.Standing.{flight_accesses};
+ghost use Rattle.batch_packer.specs.Exchanges.{StepsWhere};
 ghost use Rattle.batch_packer.specs.FlightEnds.{IsShort};
 ghost use Rattle.batch_packer.specs.Flying.{CanFly};
 ghost use Rattle.batch_packer.specs.SlotList.{slot_at};
 ghost use Rattle.batch_packer.specs.declared.ends.FlightEnd.{FlightEnd};
 ghost use Rattle.bench_flights.specs.Full.{IsFull};
 ghost use Rattle.bench_flights.specs.Clearing.{CanClear, ClearedOff, IsOneTransfer, is_fault_end};
-ghost use Rattle.bench_flights.specs.Flown.{SendsFew};
-ghost use Rattle.bench_flights.specs.Flown.{BenchGoesOn, BrokeOff, CanCommand, CanMatch, HasCome, HasDone, HasEndCause, IsCutResponse, LeftOff, NamesNone, matched_word};
+ghost use Rattle.bench_flights.specs.Flown.{BrokeOff, CanCommand, HasCome, HasDone, IsTargetInRange, KeepsFlights};
+ghost use Rattle.bench_flights.specs.Flown.{LeavesBench, LeftOff, NamesNone, SendsFew, StepsMatching, matched_word};
 
 use batch_packer::FlightEnd;
 use probe_core::Config;
@@ -92,14 +92,12 @@ pub trait Flights {
         requires taken { IsTaken next }
         requires room { has_room self.old next ≡ true }
         ensures accesses { accesses self.new ≡ accesses self.old ++ next ∷ [] }
-        ensures few { planner ≡ Managed → (next : RegAccess) → IsTaken next → length (accesses self.new) < 4 → has_room self.new next ≡ true }
-        ensures reported { reported self.new ≡ reported self.old }
-        ensures state { state self.new ≡ state self.old }
+        ensures few { planner ≡ Managed → (next : RegAccess) → IsTaken next → length (accesses self.new) < 4
+            → has_room self.new next ≡ true }
         ensures ended { ended self.new ≡ ended self.old }
         ensures packet { packet self.new ≡ packet self.old }
         ensures reply { reply self.new ≡ reply self.old }
-        ensures limits { limits self.new ≡ limits self.old }
-        ensures identity { identity self.new ≡ identity self.old };
+        ensures keeps { LeavesBench reported state identity limits self.old self.new };
 
     /// Sends the accesses that were pushed, and reads every reply. They are at most as many as a flight holds by the limits
     /// of the bench. At an error it has ended. One access, and up to four of which the first is no write of DRW, are sent as
@@ -107,21 +105,15 @@ pub trait Flights {
     fn send(&mut self) -> Result<(), FlightEnd>
         requires usable { ended self.old ≡ None }
         ensures held { length (accesses self.old) ≤ flight_accesses (reported self.new).limits }
-        ensures came { OnOk result (StepsTo (λ m o. CanFly m → HasCome (accesses self.old) (values self.new) m o) (state self.old) (state self.new)) }
-        ensures broke { IfErr result (λ end. StepsTo (λ m o. CanFly m → BrokeOff end (accesses self.old) m o) (state self.old) (state self.new)) }
+        ensures came { OnOk result (StepsWhere CanFly (HasCome (accesses self.old) (values self.new)) (state self.old) (state self.new)) }
+        ensures broke { IfErr result (λ end. StepsWhere CanFly (BrokeOff end (accesses self.old)) (state self.old) (state self.new)) }
         ensures short { IfErr result (λ end. IsShort (length (accesses self.old)) (Some end)) }
-        ensures response { IfErr result IsCutResponse }
         ensures resumable { IfErr result (λ end. IsOneTransfer (accesses self.old) → is_resumable self.new ≡ is_fault_end end) }
-        ensures clear { IfErr result (λ end. IsOneTransfer (accesses self.old) → is_fault_end end ≡ true → StepsTo (λ m o. CanFly m → CanClear o) (state self.old) (state self.new)) }
-        ensures packets { IfErr result (λ end. is_fault_end end ≡ true → StepsTo (λ m o. CanFly m → SendsFew 1 m o) (state self.old) (state self.new)) }
-        ensures empty { accesses self.new ≡ [] }
+        ensures clear { IfErr result (λ end. IsOneTransfer (accesses self.old) → is_fault_end end ≡ true
+            → StepsWhere CanFly (λ _ o. CanClear o) (state self.old) (state self.new)) }
+        ensures packets { IfErr result (λ end. is_fault_end end ≡ true → StepsWhere CanFly (SendsFew 1) (state self.old) (state self.new)) }
         ensures room { OnOk result ((next : RegAccess) → IsTaken next → has_room self.new next ≡ true) }
-        ensures ended { OnOk result (ended self.new ≡ None) }
-        ensures faults { OnOk result ((reported self.new).faults ≡ (reported self.old).faults) }
-        ensures cause { IfErr result (λ end. HasEndCause end (reported self.old) (reported self.new) (packet self.new) (reply self.new)) }
-        ensures goes { BenchGoesOn (reported self.old) (reported self.new) (state self.old) (state self.new) }
-        ensures limits { limits self.new ≡ limits self.old }
-        ensures identity { identity self.new ≡ identity self.old };
+        ensures keeps { KeepsFlights reported state identity accesses ended limits packet reply result self.old self.new };
 
     /// The value of the read at a place of the last flight, and 0 where there is none.
     fn value(&self, place: u32) -> u32
@@ -135,11 +127,8 @@ pub trait Flights {
     fn resume(&mut self)
         requires { is_resumable self.old ≡ true }
         ensures accesses { accesses self.new ≡ [] }
-        ensures reported { reported self.new ≡ reported self.old }
-        ensures state { state self.new ≡ state self.old }
         ensures ended { ended self.new ≡ None }
-        ensures limits { limits self.new ≡ limits self.old }
-        ensures identity { identity self.new ≡ identity self.old };
+        ensures keeps { LeavesBench reported state identity limits self.old self.new };
 
     /// Reads CTRL/STAT until the value under the mask is the requested one, at most so many times, by value
     /// matches of the probe. Answers whether it was. SELECT has DPBANKSEL 0, and `config` is what the probe is set to: the
@@ -154,37 +143,29 @@ pub trait Flights {
         requires usable { ended self.old ≡ None }
         requires empty { accesses self.old ≡ [] }
         requires turns { 1 ≤ turns }
-        ensures done { IfOk result (λ matched. StepsTo (λ m o. CanFly m → CanMatch config.idle config.retry m → HasDone (Polls mask requested turns) (matched_word matched) m o) (state self.old) (state self.new)) }
-        ensures packets { OnOk result (StepsTo (λ m o. CanFly m → CanMatch config.idle config.retry m → SendsFew (portions turns) m o) (state self.old) (state self.new)) }
-        ensures left { IfErr result (λ end. StepsTo (λ m o. CanFly m → CanMatch config.idle config.retry m → LeftOff (Polls mask requested turns) end m o) (state self.old) (state self.new)) }
+        ensures done { IfOk result (λ matched. StepsMatching config.idle config.retry
+            (HasDone (Polls mask requested turns) (matched_word matched)) (state self.old) (state self.new)) }
+        ensures packets { OnOk result (StepsMatching config.idle config.retry (SendsFew (portions turns))
+            (state self.old) (state self.new)) }
+        ensures left { IfErr result (λ end. StepsMatching config.idle config.retry (LeftOff (Polls mask requested turns) end)
+            (state self.old) (state self.new)) }
         ensures none { IfErr result NamesNone }
-        ensures response { IfErr result IsCutResponse }
-        ensures empty { accesses self.new ≡ [] }
-        ensures ended { OnOk result (ended self.new ≡ None) }
-        ensures faults { OnOk result ((reported self.new).faults ≡ (reported self.old).faults) }
-        ensures cause { IfErr result (λ end. HasEndCause end (reported self.old) (reported self.new) (packet self.new) (reply self.new)) }
-        ensures goes { BenchGoesOn (reported self.old) (reported self.new) (state self.old) (state self.new) }
-        ensures limits { limits self.new ≡ limits self.old }
-        ensures identity { identity self.new ≡ identity self.old };
+        ensures keeps { KeepsFlights reported state identity accesses ended limits packet reply result self.old self.new };
 
     /// The same, each read a flight of its own, whatever DPBANKSEL is.
     fn poll_by_reads(&mut self, mask: u32, requested: u32, turns: u32) -> Result<Polled, FlightEnd>
         requires usable { ended self.old ≡ None }
         requires empty { accesses self.old ≡ [] }
         requires turns { 1 ≤ turns }
-        ensures done { IfOk result (λ found. StepsTo (λ m o. CanFly m → HasDone (Polls mask requested turns) (matched_word found.matched) m o) (state self.old) (state self.new)) }
-        ensures reads { IfOk result (λ found. StepsTo (λ m o. CanFly m → found.reads ≡ (polled turns mask requested (target_of m.probe)).reads) (state self.old) (state self.new)) }
-        ensures packets { IfOk result (λ found. StepsTo (λ m o. CanFly m → SendsFew found.reads m o) (state self.old) (state self.new)) }
-        ensures left { IfErr result (λ end. StepsTo (λ m o. CanFly m → LeftOff (Polls mask requested turns) end m o) (state self.old) (state self.new)) }
+        ensures done { IfOk result (λ found. StepsWhere CanFly (HasDone (Polls mask requested turns) (matched_word found.matched))
+            (state self.old) (state self.new)) }
+        ensures reads { IfOk result (λ found. StepsWhere CanFly
+            (λ m _. found.reads ≡ (polled turns mask requested (target_of m.probe)).reads) (state self.old) (state self.new)) }
+        ensures packets { IfOk result (λ found. StepsWhere CanFly (SendsFew found.reads) (state self.old) (state self.new)) }
+        ensures left { IfErr result (λ end. StepsWhere CanFly (LeftOff (Polls mask requested turns) end)
+            (state self.old) (state self.new)) }
         ensures none { IfErr result NamesNone }
-        ensures response { IfErr result IsCutResponse }
-        ensures empty { accesses self.new ≡ [] }
-        ensures ended { OnOk result (ended self.new ≡ None) }
-        ensures faults { OnOk result ((reported self.new).faults ≡ (reported self.old).faults) }
-        ensures cause { IfErr result (λ end. HasEndCause end (reported self.old) (reported self.new) (packet self.new) (reply self.new)) }
-        ensures goes { BenchGoesOn (reported self.old) (reported self.new) (state self.old) (state self.new) }
-        ensures limits { limits self.new ≡ limits self.old }
-        ensures identity { identity self.new ≡ identity self.old };
+        ensures keeps { KeepsFlights reported state identity accesses ended limits packet reply result self.old self.new };
 
     /// Makes a command of the probe. Answers the levels of the pins, and 0 for other commands. A write of ABORT that
     /// clears all errors may follow a fault, and nothing but a bench that failed ends it.
@@ -192,20 +173,15 @@ pub trait Flights {
         requires usable { ended self.old ≡ None }
         requires empty { accesses self.old ≡ [] }
         requires sound { IsSoundProbe call }
-        ensures done { IfOk result (λ word. StepsTo (λ m o. CanCommand call m → HasDone (Commands call) word m o) (state self.old) (state self.new)) }
-        ensures packets { OnOk result (StepsTo (λ m o. IsInRange (target_of m.probe) → SendsFew (command_cost call - 1) m o) (state self.old) (state self.new)) }
-        ensures left { IfErr result (λ end. StepsTo (λ m o. CanCommand call m → LeftOff (Commands call) end m o) (state self.old) (state self.new)) }
-        ensures cleared { call ≡ forgives → IfOk result (λ word. StepsTo (λ m o. CanClear m → work_of m.probe + 1 < 2 ^ 64 → HasDone (Commands call) word m o) (state self.old) (state self.new)) }
-        ensures uncleared { call ≡ forgives → IfErr result (λ end. StepsTo (λ m o. CanClear m → work_of m.probe + 1 < 2 ^ 64 → ClearedOff end m o) (state self.old) (state self.new)) }
+        ensures done { IfOk result (λ word. StepsWhere (CanCommand call) (HasDone (Commands call) word) (state self.old) (state self.new)) }
+        ensures packets { OnOk result (StepsWhere IsTargetInRange (SendsFew (command_cost call - 1)) (state self.old) (state self.new)) }
+        ensures left { IfErr result (λ end. StepsWhere (CanCommand call) (LeftOff (Commands call) end) (state self.old) (state self.new)) }
+        ensures cleared { call ≡ forgives → IfOk result (λ word. StepsWhere CanClear (λ m o. work_of m.probe + 1 < 2 ^ 64
+            → HasDone (Commands call) word m o) (state self.old) (state self.new)) }
+        ensures uncleared { call ≡ forgives → IfErr result (λ end. StepsWhere CanClear (λ m o. work_of m.probe + 1 < 2 ^ 64
+            → ClearedOff end m o) (state self.old) (state self.new)) }
         ensures none { IfErr result NamesNone }
-        ensures response { IfErr result IsCutResponse }
-        ensures empty { accesses self.new ≡ [] }
-        ensures ended { OnOk result (ended self.new ≡ None) }
-        ensures faults { OnOk result ((reported self.new).faults ≡ (reported self.old).faults) }
-        ensures cause { IfErr result (λ end. HasEndCause end (reported self.old) (reported self.new) (packet self.new) (reply self.new)) }
-        ensures goes { BenchGoesOn (reported self.old) (reported self.new) (state self.old) (state self.new) }
-        ensures limits { limits self.new ≡ limits self.old }
-        ensures identity { identity self.new ≡ identity self.old };
+        ensures keeps { KeepsFlights reported state identity accesses ended limits packet reply result self.old self.new };
 
     /// The packet of the exchange that ended it by a cut or a bad reply.
     fn sent(&self) -> &[u8]

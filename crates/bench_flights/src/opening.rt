@@ -1,16 +1,13 @@
 //! How flights begin over a bench.
 ghost use Rattle.std.specs.Prelude.{◌≡◌, ◌≤◌, [], min, length, take, None, OnOk, IfErr, IfOk};
-ghost use Rattle.target_machine.specs.InRange.{IsInRange};
 ghost use Rattle.access_calls.specs.declared.stop.Stop.TheVariants as Stop;
-ghost use Rattle.probe_core.specs.Bench.{StepsTo};
-ghost use Rattle.probe_core.specs.Probe.{target_of};
 ghost use Rattle.probe_core.specs.Ranges.{AreLimits};
-ghost use Rattle.batch_packer.specs.Exchanges.{IsOpen};
+ghost use Rattle.batch_packer.specs.Exchanges.{IsOpen, StepsWhere};
 ghost use Rattle.batch_packer.specs.FlightStates.{item_at};
 ghost use Rattle.batch_packer.specs.Flying.{IsWithin};
-ghost use Rattle.bench_flights.specs.Flown.{BenchGoesOn};
+ghost use Rattle.bench_flights.specs.Flown.{BenchGoesOn, IsTargetInRange};
 ghost use Rattle.access_calls.specs.Opening.{HasOpened, HasTried, MayBegin};
-ghost use Rattle.bench_flights.specs.Opening.{IsRefusal, IsStopFor, LeftOpen};
+ghost use Rattle.bench_flights.specs.Opening.{GivesLimits, IsRefusal, IsStopFor, LeftOpen};
 ghost use Rattle.bench_flights.specs.Wires.{IsFree, IsNoCut, KeepsWire};
 
 use crate::flights::Flights;
@@ -36,22 +33,25 @@ pub trait FlightsOver<B: Bench>: Flights {
         requires limits { limits ≡ (B.reported bench).limits }
         requires open { IsOpen (B.reported bench) }
         // Where the bench is observable, only the settings have changed, and three starting packets were received.
-        ensures on { IfOk result (λ f. StepsTo (λ m o. IsInRange (target_of m.probe) → HasOpened config m o) (B.state bench) (Self.Flights.state f)) }
+        ensures on { IfOk result (λ f. StepsWhere IsTargetInRange (HasOpened config) (B.state bench) (Self.Flights.state f)) }
         // Nothing was pushed yet, and there is no end.
         ensures empty { IfOk result (λ f. Self.Flights.accesses f ≡ []) }
         ensures usable { IfOk result (λ f. Self.Flights.ended f ≡ None) }
         // The packets are within the limits; an observable bench answers just these.
         ensures fits { IfOk result (λ f. AreLimits (Self.Flights.limits f)) }
         ensures within { IfOk result (λ f. IsWithin (Self.Flights.limits f) limits) }
-        ensures same { IfOk result (λ f. StepsTo (λ m o. IsInRange (target_of m.probe) → m.probe.executor.limits ≡ limits → Self.Flights.limits f ≡ limits) (B.state bench) (Self.Flights.state f)) }
+        ensures same { IfOk result (λ f. StepsWhere IsTargetInRange (GivesLimits limits (Self.Flights.limits f))
+            (B.state bench) (Self.Flights.state f)) }
         ensures faults { IfOk result (λ f. (Self.Flights.reported f).faults ≡ (B.reported bench).faults) }
         ensures goes { IfOk result (λ f. BenchGoesOn (B.reported bench) (Self.Flights.reported f) (B.state bench) (Self.Flights.state f)) }
         ensures identity { IfOk result (λ f. Self.Flights.identity f ≡ B.identity bench) }
         // Why they did not begin.
-        ensures refused { IfErr result (λ n. IsRefusal n.stop (B.reported bench) (B.reported n.bench) (take n.sent_length n.sent) (take n.got_length n.got)) }
+        ensures refused { IfErr result (λ n. IsRefusal n.stop (B.reported bench) (B.reported n.bench)
+            (take n.sent_length n.sent) (take n.got_length n.got)) }
         ensures lengths { IfErr result (λ n. (n.sent_length ≤ 1024) × (n.got_length ≤ 1024)) }
         // Where the bench is observable no reply is bad, and the settings were made or not.
-        ensures left { IfErr result (λ n. StepsTo (λ m o. MayBegin m → (n.stop ≡ Stop.ReplyBad → ⊥) × HasTried config m o) (B.state bench) (B.state n.bench)) }
+        ensures left { IfErr result (λ n. StepsWhere MayBegin (λ m o. (n.stop ≡ Stop.ReplyBad → ⊥) × HasTried config m o)
+            (B.state bench) (B.state n.bench)) }
         ensures back_goes { IfErr result (λ n. BenchGoesOn (B.reported bench) (B.reported n.bench) (B.state bench) (B.state n.bench)) }
         ensures back_identity { IfErr result (λ n. B.identity n.bench ≡ B.identity bench) };
 
@@ -115,7 +115,8 @@ pub fn refuse_begin<B: Bench>(bench: B) -> NotBegun<B>
 fn end_begin<B: Bench>(flights: Wire<B>, end: FlightEnd) -> NotBegun<B>
     requires { IsNoCut end }
     ensures bench { result.bench ≡ flights.bench }
-    ensures stop { IsStopFor end result.stop (item_at flights.flight.packets flights.flight.at) (item_at flights.flight.replies flights.flight.at)
+    ensures stop { IsStopFor end result.stop
+        (item_at flights.flight.packets flights.flight.at) (item_at flights.flight.replies flights.flight.at)
         (take result.sent_length result.sent) (take result.got_length result.got) }
     ensures lengths { (result.sent_length ≤ 1024) × (result.got_length ≤ 1024) }
 {
@@ -154,11 +155,13 @@ impl<B: Bench> Wire<B> {
         requires free { IsFree self.old.flight }
         requires limits { AreLimits limits }
         requires given { self.old.flight.limits ≡ limits }
-        ensures on { OnOk result (StepsTo (λ m o. IsInRange (target_of m.probe) → HasOpened config m o) (B.state self.old.bench) (B.state self.new.bench)) }
-        ensures left { IfErr result (λ end. StepsTo (λ m o. IsInRange (target_of m.probe) → LeftOpen config end m o) (B.state self.old.bench) (B.state self.new.bench)) }
+        ensures on { OnOk result (StepsWhere IsTargetInRange (HasOpened config) (B.state self.old.bench) (B.state self.new.bench)) }
+        ensures left { IfErr result (λ end. StepsWhere IsTargetInRange (LeftOpen config end)
+            (B.state self.old.bench) (B.state self.new.bench)) }
         ensures uncut { IfErr result IsNoCut }
         ensures within { OnOk result (IsWithin self.new.flight.limits limits) }
-        ensures same { OnOk result (StepsTo (λ m o. IsInRange (target_of m.probe) → m.probe.executor.limits ≡ limits → self.new.flight.limits ≡ limits) (B.state self.old.bench) (B.state self.new.bench)) }
+        ensures same { OnOk result (StepsWhere IsTargetInRange (GivesLimits limits self.new.flight.limits)
+            (B.state self.old.bench) (B.state self.new.bench)) }
         ensures keeps { KeepsWire B.reported B.state B.identity result self.old.bench self.new.bench self.new.flight }
     {
         let Config { idle, retry } = config;

@@ -1,23 +1,22 @@
 //! Flights, polls and commands over a bench.
 ghost use Rattle.std.specs.Prelude.{◌≡◌, ◌≤◌, ◌+◌, ◌/◌, true, None, IfErr, IfOk, OnOk};
-ghost use Rattle.target_machine.specs.InRange.{IsInRange};
 ghost use Rattle.target_machine.specs.Plain.{Commands, Polls};
 ghost use Rattle.target_machine.specs.Sound.{IsSoundProbe};
 ghost use Rattle.target_machine.specs.declared.unit.ProbeCall.TheVariants as probe;
 ghost use Rattle.dap_messages.specs.Commands.{IsCommand, command_value};
-ghost use Rattle.probe_core.specs.Bench.{StepsTo};
-ghost use Rattle.probe_core.specs.Probe.{target_of};
 ghost use Rattle.probe_core.specs.Ranges.{AreLimits};
 ghost use Rattle.batch_packer.specs.Actions.{command_of, is_one};
-ghost use Rattle.batch_packer.specs.Commands.{DoneBy, is_single};
-ghost use Rattle.batch_packer.specs.Exchanges.{IsOpen};
+ghost use Rattle.batch_packer.specs.Commands.{DoneBy, IsSingle};
+ghost use Rattle.batch_packer.specs.Exchanges.{IsOpen, StepsWhere};
 ghost use Rattle.batch_packer.specs.FlightStates.{item_at, new_flight};
-ghost use Rattle.batch_packer.specs.Flying.{CanFly, IsWithin};
+ghost use Rattle.batch_packer.specs.Flying.{CanFly, IsWithin, TakesFlights};
+ghost use Rattle.batch_packer.specs.Polling.{AreTurns};
 ghost use Rattle.batch_packer.specs.SlotList.{slot_room};
-ghost use Rattle.bench_flights.specs.Flown.{CanMatch, IsCutResponse, LeftOff, NamesNone, matched_word};
+ghost use Rattle.bench_flights.specs.Flown.{IsTargetInRange, IsUnnamed, LeftOff, StepsMatching, matched_word};
 ghost use Rattle.bench_flights.specs.Opening.{least_of};
 ghost use Rattle.bench_flights.specs.Flown.{SendsFew};
-ghost use Rattle.bench_flights.specs.Wires.{AreHeld, AreSmall, HasMade, HasRead, IsFree, IsNoCut, KeepsWire, MadeOrNot, ReadOrNot, unnamed};
+ghost use Rattle.bench_flights.specs.Wires.{AreHeld, AreSmall, HasMade, HasRead, IsFree, IsNoCut};
+ghost use Rattle.bench_flights.specs.Wires.{KeepsWireWhole, MadeOrNot, ReadOrNot, unnamed};
 
 use crate::flights::{Flights, Polled};
 use batch_packer::{Config as PollConfig, Cut, Flight, FlightEnd, PollAsk, Slots};
@@ -84,9 +83,7 @@ fn name_no_access(end: FlightEnd) -> FlightEnd
 
 impl<B: Bench> Wire<B> {
     pub(crate) fn new(alloc: Global, bench: B, limits: Limits) -> Result<Wire<B>, B>
-        requires limits { AreLimits limits }
-        requires within { IsWithin limits (B.reported bench).limits }
-        requires open { IsOpen (B.reported bench) }
+        requires bench { TakesFlights limits (B.reported bench) }
         ensures bench { IfOk result (λ wire. wire.bench ≡ bench) }
         ensures flight { IfOk result (λ wire. wire.flight ≡ new_flight limits) }
         ensures back { IfErr result (λ back. back ≡ bench) }
@@ -118,13 +115,12 @@ impl<B: Bench> Wire<B> {
     // Sends a command of the probe that is no Transfer and no block, in one packet.
     pub(crate) fn exchange(&mut self, command: &Command<'_>) -> Result<u32, FlightEnd>
         requires free { IsFree self.old.flight }
-        requires command { IsCommand (command_value command.now) }
-        requires single { is_single (command_value command.now) ≡ true }
-        ensures done { StepsTo (λ m o. IsInRange (target_of m.probe) → DoneBy (command_value command.now) result m o) (B.state self.old.bench) (B.state self.new.bench) }
+        requires command { IsSingle (command_value command.now) }
+        ensures done { StepsWhere IsTargetInRange (DoneBy (command_value command.now) result)
+            (B.state self.old.bench) (B.state self.new.bench) }
         ensures least { IfOk result (λ number. least_of (command_value command.now) ≤ number) }
         ensures uncut { IfErr result IsNoCut }
-        ensures limits { self.new.flight.limits ≡ self.old.flight.limits }
-        ensures keeps { KeepsWire B.reported B.state B.identity result self.old.bench self.new.bench self.new.flight }
+        ensures keeps { KeepsWireWhole B.reported B.state B.identity result self.old.bench self.new.bench self.old.flight self.new.flight }
     {
         self.flight.command(&mut self.bench, command)
     }
@@ -134,12 +130,13 @@ impl<B: Bench> Wire<B> {
         requires free { IsFree self.old.flight }
         requires sound { IsSoundProbe call }
         requires one { is_one call ≡ true }
-        ensures done { IfOk result (λ word. StepsTo (λ m o. IsInRange (target_of m.probe) → HasMade (Commands call) word m o) (B.state self.old.bench) (B.state self.new.bench)) }
-        ensures packets { OnOk result (StepsTo (λ m o. IsInRange (target_of m.probe) → SendsFew 1 m o) (B.state self.old.bench) (B.state self.new.bench)) }
-        ensures left { IfErr result (λ end. StepsTo (λ m o. IsInRange (target_of m.probe) → MadeOrNot (Commands call) end m o) (B.state self.old.bench) (B.state self.new.bench)) }
+        ensures done { IfOk result (λ word. StepsWhere IsTargetInRange (HasMade (Commands call) word)
+            (B.state self.old.bench) (B.state self.new.bench)) }
+        ensures packets { OnOk result (StepsWhere IsTargetInRange (SendsFew 1) (B.state self.old.bench) (B.state self.new.bench)) }
+        ensures left { IfErr result (λ end. StepsWhere IsTargetInRange (MadeOrNot (Commands call) end)
+            (B.state self.old.bench) (B.state self.new.bench)) }
         ensures uncut { IfErr result IsNoCut }
-        ensures limits { self.new.flight.limits ≡ self.old.flight.limits }
-        ensures keeps { KeepsWire B.reported B.state B.identity result self.old.bench self.new.bench self.new.flight }
+        ensures keeps { KeepsWireWhole B.reported B.state B.identity result self.old.bench self.new.bench self.old.flight self.new.flight }
     {
         self.exchange(&command_of(call))
     }
@@ -148,12 +145,14 @@ impl<B: Bench> Wire<B> {
     fn delay(&mut self, micros: u32) -> Result<u32, FlightEnd>
         requires free { IsFree self.old.flight }
         requires sound { IsSoundProbe (probe.Delay micros) }
-        ensures done { IfOk result (λ word. StepsTo (λ m o. IsInRange (target_of m.probe) → HasMade (Commands (probe.Delay micros)) word m o) (B.state self.old.bench) (B.state self.new.bench)) }
-        ensures packets { OnOk result (StepsTo (λ m o. IsInRange (target_of m.probe) → SendsFew (1 + micros / 65535) m o) (B.state self.old.bench) (B.state self.new.bench)) }
-        ensures left { IfErr result (λ end. StepsTo (λ m o. CanFly m → LeftOff (Commands (probe.Delay micros)) end m o) (B.state self.old.bench) (B.state self.new.bench)) }
+        ensures done { IfOk result (λ word. StepsWhere IsTargetInRange (HasMade (Commands (probe.Delay micros)) word)
+            (B.state self.old.bench) (B.state self.new.bench)) }
+        ensures packets { OnOk result (StepsWhere IsTargetInRange (SendsFew (1 + micros / 65535))
+            (B.state self.old.bench) (B.state self.new.bench)) }
+        ensures left { IfErr result (λ end. StepsWhere CanFly (LeftOff (Commands (probe.Delay micros)) end)
+            (B.state self.old.bench) (B.state self.new.bench)) }
         ensures uncut { IfErr result IsNoCut }
-        ensures limits { self.new.flight.limits ≡ self.old.flight.limits }
-        ensures keeps { KeepsWire B.reported B.state B.identity result self.old.bench self.new.bench self.new.flight }
+        ensures keeps { KeepsWireWhole B.reported B.state B.identity result self.old.bench self.new.bench self.old.flight self.new.flight }
     {
         let mut left = micros;
         while left > 0xFFFF {
@@ -169,15 +168,15 @@ impl<B: Bench> Wire<B> {
     // One portion of a poll: at most 65,536 turns, in one packet.
     fn poll_portion(&mut self, config: PollConfig, ask: PollAsk) -> Result<bool, FlightEnd>
         requires free { IsFree self.old.flight }
-        requires low { 1 ≤ ask.turns }
-        requires high { ask.turns ≤ 65536 }
-        ensures done { IfOk result (λ matched. StepsTo (λ m o. CanFly m → CanMatch config.idle config.retry m → HasMade (Polls ask.mask ask.value ask.turns) (matched_word matched) m o) (B.state self.old.bench) (B.state self.new.bench)) }
-        ensures packets { OnOk result (StepsTo (λ m o. CanFly m → CanMatch config.idle config.retry m → SendsFew 1 m o) (B.state self.old.bench) (B.state self.new.bench)) }
-        ensures left { IfErr result (λ end. StepsTo (λ m o. CanFly m → CanMatch config.idle config.retry m → MadeOrNot (Polls ask.mask ask.value ask.turns) end m o) (B.state self.old.bench) (B.state self.new.bench)) }
-        ensures none { IfErr result NamesNone }
-        ensures response { IfErr result IsCutResponse }
-        ensures limits { self.new.flight.limits ≡ self.old.flight.limits }
-        ensures keeps { KeepsWire B.reported B.state B.identity result self.old.bench self.new.bench self.new.flight }
+        requires turns { AreTurns ask.turns }
+        ensures done { IfOk result (λ matched. StepsMatching config.idle config.retry
+            (HasMade (Polls ask.mask ask.value ask.turns) (matched_word matched)) (B.state self.old.bench) (B.state self.new.bench)) }
+        ensures packets { OnOk result (StepsMatching config.idle config.retry (SendsFew 1)
+            (B.state self.old.bench) (B.state self.new.bench)) }
+        ensures left { IfErr result (λ end. StepsMatching config.idle config.retry (MadeOrNot (Polls ask.mask ask.value ask.turns) end)
+            (B.state self.old.bench) (B.state self.new.bench)) }
+        ensures unnamed { IfErr result IsUnnamed }
+        ensures keeps { KeepsWireWhole B.reported B.state B.identity result self.old.bench self.new.bench self.old.flight self.new.flight }
     {
         self.flight.poll(&mut self.bench, config, ask)
     }
@@ -185,13 +184,11 @@ impl<B: Bench> Wire<B> {
     // Reads CTRL/STAT, in a flight of its own. At a cut it names no access.
     fn read_once(&mut self) -> Result<u32, FlightEnd>
         requires free { IsFree self.old.flight }
-        ensures done { IfOk result (λ value. StepsTo (λ m o. CanFly m → HasRead value m o) (B.state self.old.bench) (B.state self.new.bench)) }
-        ensures packets { OnOk result (StepsTo (λ m o. CanFly m → SendsFew 1 m o) (B.state self.old.bench) (B.state self.new.bench)) }
-        ensures left { IfErr result (λ end. StepsTo (λ m o. CanFly m → ReadOrNot end m o) (B.state self.old.bench) (B.state self.new.bench)) }
-        ensures none { IfErr result NamesNone }
-        ensures response { IfErr result IsCutResponse }
-        ensures limits { self.new.flight.limits ≡ self.old.flight.limits }
-        ensures keeps { KeepsWire B.reported B.state B.identity result self.old.bench self.new.bench self.new.flight }
+        ensures done { IfOk result (λ value. StepsWhere CanFly (HasRead value) (B.state self.old.bench) (B.state self.new.bench)) }
+        ensures packets { OnOk result (StepsWhere CanFly (SendsFew 1) (B.state self.old.bench) (B.state self.new.bench)) }
+        ensures left { IfErr result (λ end. StepsWhere CanFly (ReadOrNot end) (B.state self.old.bench) (B.state self.new.bench)) }
+        ensures unnamed { IfErr result IsUnnamed }
+        ensures keeps { KeepsWireWhole B.reported B.state B.identity result self.old.bench self.new.bench self.old.flight self.new.flight }
     {
         self.flight.push(RegAccess {
             ap: false,

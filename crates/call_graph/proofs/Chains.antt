@@ -17,7 +17,7 @@ is_node (cs ∷ graph) (suc v) k h = omega (arith, is_node graph v k h)
 pub caller_is_node : (graph : List (List ℕ)) (v w : ℕ) → Calls graph v w → v < length graph
 caller_is_node graph v w h = is_node graph v h.callee.0 h.callee.1
 
-chain_is_node : (graph : List (List ℕ)) (v : ℕ) (ws : List ℕ) → IsChain graph v ws → v < length graph
+pub chain_is_node : (graph : List (List ℕ)) (v : ℕ) (ws : List ℕ) → IsChain graph v ws → v < length graph
 chain_is_node graph v [] h = h
 chain_is_node graph v (w ∷ ws) h = caller_is_node graph v w h.0
 

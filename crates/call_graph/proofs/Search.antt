@@ -164,7 +164,3 @@ pub turn_on-less : (graph : List (List ℕ)) (node : ℕ) (seen : List Bool) (wo
     → length after + left graph (set seen node true) < length work + left graph seen
 turn_on-less graph node seen work rest more after popped callees appended size lt unmarked =
     omega (arith, ap length popped, length-append rest (node ∷ []), ap length appended, length-append rest more, ap length callees, left-set graph seen node size lt unmarked)
-
-pub no_items : (work : List ℕ) → length work ≡ 0 → work ≡ []
-no_items [] e = refl
-no_items (v ∷ work) e = absurd (omega arith)

@@ -17,7 +17,7 @@ use std::alloc::Global;
 pub fn ranks_of(alloc: Global, graph: &CallGraph) -> Result<Vec<usize>, OutOfMemory>
     ensures { IfOk result (λ ranks. length ranks.items ≡ length graph.now) }
 {
-    let walk = walked(alloc, graph)?;
+    let walk = walk_graph(alloc, graph)?;
     let mut ranks = Vec::new(alloc);
     for node in 0..graph.len() {
         if ranks.push(walk.rank(node)).is_err() {
@@ -27,7 +27,7 @@ pub fn ranks_of(alloc: Global, graph: &CallGraph) -> Result<Vec<usize>, OutOfMem
     Ok(ranks)
 }
 
-fn walked(alloc: Global, graph: &CallGraph) -> Result<Walk, OutOfMemory> {
+fn walk_graph(alloc: Global, graph: &CallGraph) -> Result<Walk, OutOfMemory> {
     let mut walk = Walk::new(alloc, graph)?;
     for _ in 0..steps(graph) {
         walk.step(graph)?;

@@ -1,7 +1,6 @@
 //! The line of a refusal, and the line of words that are no command.
 ghost use Rattle.std.specs.Prelude.{◌≡◌, IfOk};
-ghost use Rattle.dap_base.specs.Streams.{PutAppends};
-ghost use Rattle.text_lines.specs.Causes.{NamesFault};
+ghost use Rattle.text_lines.specs.Puts.{PutsText};
 ghost use Rattle.check_lines.specs.RefusalLines.{path_line, job_fault_line, image_line, dbgconf_line, refusal_line, too_long_line, no_sequence_line, usage_line};
 
 use crate::lines::with_place;
@@ -61,8 +60,7 @@ pub fn write_refusal<K: Sink>(
     refusal: &Refusal,
     sink: &mut K,
 ) -> Result<(), TextError>
-    ensures text { PutAppends (K.written sink.old) (K.written sink.new) result (refusal_line refusal.now) }
-    ensures sink { NamesFault TextError.Failed (K.faults sink.old) (K.faults sink.new) result }
+    ensures puts { PutsText (refusal_line refusal.now) result TextError.Failed K.written K.faults sink.old sink.new }
 {
     match refusal {
         Refusal::BadJson => put_text(b"refused BadJson\n", sink),
@@ -79,8 +77,7 @@ pub fn write_refusal<K: Sink>(
 /// Puts the line of a job of too many bytes, `refused TooLong`, by one `put`. `Failed` where the sink
 /// failed; a prefix of the line was then appended.
 pub fn write_too_long<K: Sink>(sink: &mut K) -> Result<(), TextError>
-    ensures text { PutAppends (K.written sink.old) (K.written sink.new) result too_long_line }
-    ensures sink { NamesFault TextError.Failed (K.faults sink.old) (K.faults sink.new) result }
+    ensures puts { PutsText too_long_line result TextError.Failed K.written K.faults sink.old sink.new }
 {
     put_text(b"refused TooLong\n", sink)
 }
@@ -88,8 +85,7 @@ pub fn write_too_long<K: Sink>(sink: &mut K) -> Result<(), TextError>
 /// Puts the line of a set without a sequence of the name, `refused NoSequence`, by one `put`. `Failed`
 /// where the sink failed; a prefix of the line was then appended.
 pub fn write_no_sequence<K: Sink>(sink: &mut K) -> Result<(), TextError>
-    ensures text { PutAppends (K.written sink.old) (K.written sink.new) result no_sequence_line }
-    ensures sink { NamesFault TextError.Failed (K.faults sink.old) (K.faults sink.new) result }
+    ensures puts { PutsText no_sequence_line result TextError.Failed K.written K.faults sink.old sink.new }
 {
     put_text(b"refused NoSequence\n", sink)
 }
@@ -100,8 +96,7 @@ const USAGE: &[u8] =
 /// Puts the line of words that are no command by one `put`: `usage`, the program, and its options.
 /// `Failed` where the sink failed; a prefix of the line was then appended.
 pub fn write_usage<K: Sink>(sink: &mut K) -> Result<(), TextError>
-    ensures text { PutAppends (K.written sink.old) (K.written sink.new) result usage_line }
-    ensures sink { NamesFault TextError.Failed (K.faults sink.old) (K.faults sink.new) result }
+    ensures puts { PutsText usage_line result TextError.Failed K.written K.faults sink.old sink.new }
 {
     put_text(USAGE, sink)
 }

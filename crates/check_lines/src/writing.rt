@@ -1,7 +1,6 @@
 //! Writing the texts line by line.
 ghost use Rattle.std.specs.List.{flat_map};
-ghost use Rattle.dap_base.specs.Streams.{PutAppends};
-ghost use Rattle.text_lines.specs.Causes.{NamesFault};
+ghost use Rattle.text_lines.specs.Puts.{PutsText};
 ghost use Rattle.check_lines.specs.CheckLines.{sequence_line, check_text, fault_line};
 
 use crate::lines::{fault_text, head_text, sequence_text};
@@ -18,8 +17,7 @@ fn write_sequences<K: Sink>(
     entries: &[SeqEntry],
     sink: &mut K,
 ) -> Result<(), TextError>
-    ensures text { PutAppends (K.written sink.old) (K.written sink.new) result (flat_map sequence_line entries.now) }
-    ensures sink { NamesFault TextError.Failed (K.faults sink.old) (K.faults sink.new) result }
+    ensures puts { PutsText (flat_map sequence_line entries.now) result TextError.Failed K.written K.faults sink.old sink.new }
 {
     for entry in entries {
         match put_line(sequence_text(alloc, entry), sink) {
@@ -37,8 +35,7 @@ fn write_sequences<K: Sink>(
 /// `Failed` where the sink failed, `OutOfMemory` where memory is refused, as it is for 2^64 steps; a
 /// prefix of the text was then appended.
 pub fn write_check<K: Sink>(alloc: Global, set: &SeqSet, sink: &mut K) -> Result<(), TextError>
-    ensures text { PutAppends (K.written sink.old) (K.written sink.new) result (check_text set.now) }
-    ensures sink { NamesFault TextError.Failed (K.faults sink.old) (K.faults sink.new) result }
+    ensures puts { PutsText (check_text set.now) result TextError.Failed K.written K.faults sink.old sink.new }
 {
     match put_line(head_text(alloc, set.entries.len() as u64), sink) {
         Ok(()) => write_sequences(alloc, set.entries.as_slice(), sink),
@@ -58,8 +55,7 @@ pub fn write_check_fault<K: Sink>(
     spot: &Spot,
     sink: &mut K,
 ) -> Result<(), TextError>
-    ensures text { PutAppends (K.written sink.old) (K.written sink.new) result (fault_line kind spot.now) }
-    ensures sink { NamesFault TextError.Failed (K.faults sink.old) (K.faults sink.new) result }
+    ensures puts { PutsText (fault_line kind spot.now) result TextError.Failed K.written K.faults sink.old sink.new }
 {
     put_line(fault_text(alloc, kind, spot), sink)
 }

@@ -18,11 +18,11 @@ arg_trees-take xs i x h = ap (λ ys. args_of (map arg_tree ys)) (take_more xs i 
 
 -- ---- what stands in the arguments
 
-args_to : (s : Scope) (front : List ArgTree) (a : ArgTree) (f : CodeFault) → InEither (ArgsFault s (args_of front)) (ArgFault s a) f → ArgsFault s (args_of (front ++ a ∷ [])) f
+pub args_to : (s : Scope) (front : List ArgTree) (a : ArgTree) (f : CodeFault) → InEither (ArgsFault s (args_of front)) (ArgFault s a) f → ArgsFault s (args_of (front ++ a ∷ [])) f
 args_to s [] a f h = elim h [ here p ↦ elim p [ ] | there q ↦ here q ]
 args_to s (x ∷ front) a f h = elim h [ here p ↦ elim p [ here u ↦ here u | there v ↦ there (args_to s front a f (here v)) ] | there q ↦ there (args_to s front a f (there q)) ]
 
-args_from : (s : Scope) (front : List ArgTree) (a : ArgTree) (f : CodeFault) → ArgsFault s (args_of (front ++ a ∷ [])) f → InEither (ArgsFault s (args_of front)) (ArgFault s a) f
+pub args_from : (s : Scope) (front : List ArgTree) (a : ArgTree) (f : CodeFault) → ArgsFault s (args_of (front ++ a ∷ [])) f → InEither (ArgsFault s (args_of front)) (ArgFault s a) f
 args_from s [] a f h = elim h [ here p ↦ there p | there q ↦ elim q [ ] ]
 args_from s (x ∷ front) a f h = elim h [ here p ↦ here (here p) | there q ↦ elim (args_from s front a f q) [ here u ↦ here (there u) | there v ↦ there v ] ]
 
@@ -33,19 +33,19 @@ args_more s xs i x h r a b e p q =
 
 -- ---- the kinds of the arguments
 
-kinds_to : (fn : Function) (k : ℕ) (front : List ArgTree) (a : ArgTree) (f : CodeFault) → InEither (KindsFault fn k (args_of front)) (KindFault (kind_at fn (k + length front)) a) f → KindsFault fn k (args_of (front ++ a ∷ [])) f
+pub kinds_to : (fn : Function) (k : ℕ) (front : List ArgTree) (a : ArgTree) (f : CodeFault) → InEither (KindsFault fn k (args_of front)) (KindFault (kind_at fn (k + length front)) a) f → KindsFault fn k (args_of (front ++ a ∷ [])) f
 kinds_to fn k [] a f h = let e : k + 0 ≡ k = omega arith in elim h [ here p ↦ elim p [ ] | there q ↦ here (subst (λ j. KindFault (kind_at fn j) a f) e q) ]
 kinds_to fn k (x ∷ front) a f h =
     let e : k + suc (length front) ≡ suc k + length front = omega arith in
     elim h [ here p ↦ elim p [ here u ↦ here u | there v ↦ there (kinds_to fn (suc k) front a f (here v)) ] | there q ↦ there (kinds_to fn (suc k) front a f (there (subst (λ j. KindFault (kind_at fn j) a f) e q))) ]
 
-kinds_from : (fn : Function) (k : ℕ) (front : List ArgTree) (a : ArgTree) (f : CodeFault) → KindsFault fn k (args_of (front ++ a ∷ [])) f → InEither (KindsFault fn k (args_of front)) (KindFault (kind_at fn (k + length front)) a) f
+pub kinds_from : (fn : Function) (k : ℕ) (front : List ArgTree) (a : ArgTree) (f : CodeFault) → KindsFault fn k (args_of (front ++ a ∷ [])) f → InEither (KindsFault fn k (args_of front)) (KindFault (kind_at fn (k + length front)) a) f
 kinds_from fn k [] a f h = let e : k ≡ k + 0 = omega arith in elim h [ here p ↦ there (subst (λ j. KindFault (kind_at fn j) a f) e p) | there q ↦ elim q [ ] ]
 kinds_from fn k (x ∷ front) a f h =
     let e : suc k + length front ≡ k + suc (length front) = omega arith in
     elim h [ here p ↦ here (here p) | there q ↦ elim (kinds_from fn (suc k) front a f q) [ here u ↦ here (there u) | there v ↦ there (subst (λ j. KindFault (kind_at fn j) a f) e v) ] ]
 
-length-taken : (xs : List Arg) (i : ℕ) → i < length xs → 0 + length (map arg_tree (take i xs)) ≡ i
+pub length-taken : (xs : List Arg) (i : ℕ) → i < length xs → 0 + length (map arg_tree (take i xs)) ≡ i
 length-taken xs i h = omega (arith, length-map (take i xs) arg_tree, length-take-le i xs (omega arith))
 
 pub kinds_more : (fn : Function) (xs : List Arg) (i : ℕ) (x : Arg) → i < length xs → (r a b : Option CodeFault) → r ≡ earlier a b

@@ -10,10 +10,10 @@ use Rattle.code_check.specs.ExprFaults.{Scope}
 use Rattle.code_check.specs.BlockFaults.{names_after, names_after_all, seeing, StmtFault, BlockFault}
 use Rattle.code_check.proofs.OrderLemmas.{first_of_two, first_of_same}
 
-code_trees-take : (xs : List Stmt) (i : ℕ) (x : Stmt) → i < length xs → code_trees (take (i + 1) xs) ≡ code_trees (take i xs) ++ stmt_tree (get_or xs i x) ∷ []
+pub code_trees-take : (xs : List Stmt) (i : ℕ) (x : Stmt) → i < length xs → code_trees (take (i + 1) xs) ≡ code_trees (take i xs) ++ stmt_tree (get_or xs i x) ∷ []
 code_trees-take xs i x h = ap code_trees (take_more xs i x h) ∙ map-append stmt_tree (take i xs) (get_or xs i x ∷ [])
 
-names_after_all-append : (names : List (List ℕ)) (code : List StmtTree) (st : StmtTree) → names_after_all names (code ++ st ∷ []) ≡ names_after (names_after_all names code) st
+pub names_after_all-append : (names : List (List ℕ)) (code : List StmtTree) (st : StmtTree) → names_after_all names (code ++ st ∷ []) ≡ names_after (names_after_all names code) st
 names_after_all-append names [] st = refl
 names_after_all-append names (x ∷ code) st = names_after_all-append (names_after names x) code st
 

@@ -43,11 +43,11 @@ at_message_none s fn args e is = first_of_there (first_of_where_not (no_sequence
 
 -- ---- the number of arguments
 
-not_so : (b : Bool) (P : Type 0) → (IsTrue b ↔ P) → b ≡ false → P → ⊥
+pub not_so : (b : Bool) (P : Type 0) → (IsTrue b ↔ P) → b ≡ false → P → ⊥
 not_so true P h e p = true≢false e
 not_so false P h e p = true≢false (sym (h.1 p))
 
-is_so : (b : Bool) (P : Type 0) → (IsTrue b ↔ P) → b ≡ true → P
+pub is_so : (b : Bool) (P : Type 0) → (IsTrue b ↔ P) → b ≡ true → P
 is_so true P h e = h.0 refl
 is_so false P h e = absurd (true≢false (sym e))
 
@@ -65,7 +65,7 @@ at_right_count s name args fn n b is h e r x y found kinds texts =
 
 -- ---- the function
 
-same_function : (o : Option Function) (f g : Function) → o ≡ Some f → o ≡ Some g → g ≡ f
+pub same_function : (o : Option Function) (f g : Function) → o ≡ Some f → o ≡ Some g → g ≡ f
 same_function o f g p q = cc
 
 pub at_function : (s : Scope) (name : Name) (args : ArgTrees) (fn : Function) (o : Option Function) (r : Option CodeFault) → ((f : Function) → (o ≡ Some f) ↔ (name.text ≡ name_of f)) → o ≡ Some fn

@@ -73,7 +73,8 @@ pub fn block_fault(
     in_debugvars: bool,
     code: &[Stmt],
 ) -> Result<Option<CodeFault>, OutOfMemory>
-    ensures first { IfOk result (IsFirst is_before (BlockFault (record { visible = names.old; sequences = sequences.now; in_debugvars = in_debugvars }) (code_trees code.now))) }
+    ensures first { IfOk result (IsFirst is_before
+        (BlockFault (record { visible = names.old; sequences = sequences.now; in_debugvars = in_debugvars }) (code_trees code.now))) }
     ensures names { OnOk result (names.new ≡ names_after_all names.old (code_trees code.now)) }
     ensures refused { OnErr result ((count : ℕ) × (names.new ≡ names_after_all names.old (code_trees (take count code.now)))) }
 {

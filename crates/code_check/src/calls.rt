@@ -5,7 +5,8 @@ ghost use Rattle.expr_grammar.specs.Tree.{arg_tree, arg_trees};
 ghost use Rattle.code_check.specs.Order.{earlier};
 ghost use Rattle.code_check.specs.First.{FaultWhere};
 ghost use Rattle.code_check.specs.Notes.{Notes};
-ghost use Rattle.code_check.specs.ExprFaults.{NameFault, KindFault, KindsFault, text_of, text_at, SequenceFault, IsFormatOf, FormatFault, TextsFault, KnownFault, FunctionFault, CallFault};
+ghost use Rattle.code_check.specs.ExprFaults.{NameFault, KindFault, KindsFault, text_of, text_at, SequenceFault, IsFormatOf, FormatFault};
+ghost use Rattle.code_check.specs.ExprFaults.{TextsFault, KnownFault, FunctionFault, CallFault};
 ghost use Rattle.code_check.specs.Views.{scope_view};
 
 use crate::fault::{CodeFault, FaultKind};

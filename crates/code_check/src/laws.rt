@@ -18,10 +18,12 @@ pub fn visible_by_declaration()
 
 /// An expression has one first fault, or none.
 pub fn one_expr_fault()
-    ensures { (s : Scope) (e : Tree) (first other : Option CodeFault) → IsFirst is_before (ExprFault s e) first → IsFirst is_before (ExprFault s e) other → first ≡ other }
+    ensures { (s : Scope) (e : Tree) (first other : Option CodeFault) → IsFirst is_before (ExprFault s e) first
+        → IsFirst is_before (ExprFault s e) other → first ≡ other }
 {}
 
 /// Statements have one first fault, or none.
 pub fn one_block_fault()
-    ensures { (s : Scope) (code : List StmtTree) (first other : Option CodeFault) → IsFirst is_before (BlockFault s code) first → IsFirst is_before (BlockFault s code) other → first ≡ other }
+    ensures { (s : Scope) (code : List StmtTree) (first other : Option CodeFault) → IsFirst is_before (BlockFault s code) first
+        → IsFirst is_before (BlockFault s code) other → first ≡ other }
 {}

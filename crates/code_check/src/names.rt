@@ -83,7 +83,7 @@ impl Names {
     }
 
     /// The names of the predefined variables.
-    pub fn predefined(alloc: Global) -> Result<Names, OutOfMemory>
+    pub fn predefined_names(alloc: Global) -> Result<Names, OutOfMemory>
         ensures { IfOk result (λ n. n ≡ predefined) }
     {
         let mut names = Names::new(alloc);

@@ -1,9 +1,11 @@
 -- How a command of normal requests ends.
 use Rattle.std.proofs.Common.{◌≡◌, eqb, ℕ, ◌+◌, ◌-◌, ◌≤◌, ◌&&◌, ◌||◌, not, Bool, true, false, cond, List, [], ◌∷◌, ◌++◌, take, length, refl, ap, sym, ◌∙◌, arith, suc, zero, subst, inl, inr, length-append}
+use Rattle.std.proofs.lemmas.Bool.{both_ways}
 use Rattle.target_machine.specs.State.{TargetState}
 use Rattle.target_machine.specs.Attempt.{attempt, is_free}
 use Rattle.target_machine.specs.declared.access.RegAccess.{RegAccess}
 use Rattle.dap_base.specs.Bits.{has_bit}
+use Rattle.dap_base.proofs.Basics.{or_weaker}
 use Rattle.dap_messages.specs.declared.request.Request.{Request}
 use Rattle.dap_transfer.specs.declared.notes.Notes.{Notes}
 use Rattle.dap_messages.specs.declared.request.RequestKind.{RequestKind}
@@ -24,8 +26,9 @@ use Rattle.dap_transfer.proofs.TargetFacts.{ap_waits, rdbuff_waits}
 use Rattle.dap_transfer.proofs.Words.{reads_first}
 use Rattle.target_machine.specs.Counts.{one_if}
 use Rattle.dap_transfer.specs.CommandEnds.{may_be_free, writes_ap, AreGuarded, doubted, in_doubt, target_after, EndsAt, Ends}
-use Rattle.dap_transfer.proofs.StickyFacts.{clash, stays_clear, free_may}
+use Rattle.dap_transfer.proofs.StickyFacts.{stays_clear, free_may}
 use Rattle.dap_transfer.proofs.RunEnds.{OneAs, Reports, one_ends, ReportsAs, alone_reports, back_reports, fetched_reports, gives_one}
+use Rattle.dap_transfer.proofs.ReadWords.{posted_bits, read_bits}
 
 -- ---- the bits of a request by its kind
 
@@ -55,14 +58,6 @@ write_chain false false match at_ap e = refl
 write_chain false true true at_ap e = absurd (cc)
 write_chain false true false true e = absurd (cc)
 write_chain false true false false e = absurd (cc)
-
-pub posted_bits : (r : Request) → kind r ≡ Posted → ((access_of r).ap ≡ true) × ((access_of r).read ≡ true)
-unfolding chain
-posted_bits r e = posted_chain (eqb r.byte 0x20) (has_bit r.byte 2) (has_bit r.byte 0x10) (has_bit r.byte 1) e
-
-pub read_bits : (r : Request) → kind r ≡ Read → (access_of r).ap ≡ false
-unfolding chain
-read_bits r e = read_chain (eqb r.byte 0x20) (has_bit r.byte 2) (has_bit r.byte 0x10) (has_bit r.byte 1) e
 
 read_is_chain : (mask read match at_ap : Bool) → chain mask read match at_ap ≡ Read → read ≡ true
 unfolding chain
@@ -134,22 +129,18 @@ close_pending false false s l i m e f = absurd (cc)
 -- ---- all requests
 
 implied_false : (w u : Bool) → (w ≡ true → u ≡ true) → u ≡ false → w ≡ false
-implied_false true u h e = absurd (clash u (h refl) e)
+implied_false true u h e = absurd (both_ways u e (h refl))
 implied_false false u h e = refl
 
 clear_of : (o w set : Bool) → (set ≡ true → (o || w) ≡ true) → w ≡ false → (o ≡ true → set ≡ false) → set ≡ false
 clear_of true w set owes e h = h refl
-clear_of false w true owes e h = absurd (clash w (owes refl) e)
+clear_of false w true owes e h = absurd (both_ways w e (owes refl))
 clear_of false w false owes e h = refl
 
 clear_at_end : (o u w set : Bool) → (w ≡ true → u ≡ true) → (set ≡ true → (o || w) ≡ true) → ((o || u) ≡ true → set ≡ false) → set ≡ false
 clear_at_end true u w set w_u owes h = h refl
 clear_at_end false true w set w_u owes h = h refl
 clear_at_end false false w set w_u owes h = clear_of false w set owes (implied_false w false w_u refl) (λ e. absurd (cc))
-
-owed_by : (o w u : Bool) → (w ≡ true → u ≡ true) → (o || w) ≡ true → (o || u) ≡ true
-owed_by true w u h e = refl
-owed_by false w u h e = h e
 
 at_start : (t : TargetState) (rs : List Request) (j : ℕ) → t.sticky ≡ false → j ≡ 0 → (target_after t j rs).sticky ≡ false
 at_start t rs j clear e = subst (λ n. (target_after t n rs).sticky ≡ false) (sym e) clear
@@ -178,7 +169,7 @@ wait_done false t o u w rs n w_u owes known_doubt known words last =
       fault = λ e. absurd (cc);
       words = omega arith;
       unseen = λ e. absurd (cc);
-      unproven = λ e bad. absurd (clash u e h.0);
+      unproven = λ e bad. absurd (both_ways u h.0 e);
       at_end = λ bad e. last e;
     }
 
@@ -212,7 +203,7 @@ none_done Fault t o u w waits after own rs ran pending good is w_u owes reports 
   clear = λ j h. absurd (omega arith);
   fault = λ e. reports.0;
   words = (let n = reports.1 in omega arith);
-  unseen = λ e. owed_by o w u w_u (owes reports.0);
+  unseen = λ e. or_weaker o w u w_u (owes reports.0);
   unproven = λ e bad. refl;
   at_end = λ bad e. refl;
 }
@@ -252,18 +243,18 @@ one_done t t' o u o' u' r rs came given n x doubt t_is o_is u_is clear count end
 leaves_seen : (k : RequestKind) → IsNormalKind k → (t : TargetState) (r : Request) (u : Bool) → kind r ≡ k → t.sticky ≡ false →
     (attempt t (access_of r)).next.sticky ≡ true → (is_posted k || writes_ap (access_of r)) ≡ true
 leaves_seen Posted h t r u e clear set = refl
-leaves_seen Read h t r u e clear set = absurd (clash (attempt t (access_of r)).next.sticky set (stays_clear t (access_of r) (read_bits r e) clear))
+leaves_seen Read h t r u e clear set = absurd (both_ways (attempt t (access_of r)).next.sticky (stays_clear t (access_of r) (read_bits r e) clear) set)
 leaves_seen Write h t r u e clear set = by_port (access_of r).ap refl
   where
     by_port : (b : Bool) → (access_of r).ap ≡ b → (false || writes_ap (access_of r)) ≡ true
     by_port true f = λ i. f i && not (write_bits r e i)
-    by_port false f = absurd (clash (attempt t (access_of r)).next.sticky set (stays_clear t (access_of r) f clear))
+    by_port false f = absurd (both_ways (attempt t (access_of r)).next.sticky (stays_clear t (access_of r) f clear) set)
 leaves_seen Match h t r u e clear set = absurd h
 leaves_seen Mask h t r u e clear set = absurd h
 
 writes_noted : (k : RequestKind) → IsNormalKind k → (r : Request) (u : Bool) → kind r ≡ k → writes_ap (access_of r) ≡ true → write_last k u ≡ true
-writes_noted Posted h r u e w = let bits = posted_bits r e in absurd (clash (writes_ap (access_of r)) w (λ i. bits.0 i && not (bits.1 i)))
-writes_noted Read h r u e w = absurd (clash (writes_ap (access_of r)) w (λ i. read_bits r e i && not (access_of r).read))
+writes_noted Posted h r u e w = let bits = posted_bits r e in absurd (both_ways (writes_ap (access_of r)) (λ i. bits.0 i && not (bits.1 i)) w)
+writes_noted Read h r u e w = absurd (both_ways (writes_ap (access_of r)) (λ i. read_bits r e i && not (access_of r).read) w)
 writes_noted Write h r u e w = refl
 writes_noted Match h r u e w = absurd h
 writes_noted Mask h r u e w = absurd h
@@ -272,7 +263,7 @@ waits_then : (w : Bool) (t : TargetState) (a : RegAccess) → (w && may_be_free 
 waits_then true t a h e = by_free (is_free t a) refl
   where
     by_free : (b : Bool) → is_free t a ≡ b → b ≡ false
-    by_free true f = absurd (clash (may_be_free a) (free_may t a f) h)
+    by_free true f = absurd (both_ways (may_be_free a) h (free_may t a f))
     by_free false f = refl
 waits_then false t a h e = absurd (cc)
 
@@ -368,7 +359,7 @@ reaches p words notes (r ∷ rs) w normal guarded one w_u owes =
 pub command_ends : (p : TransferState) (rs : List Request) → AreNormal rs → AreGuarded false rs → p.line.target.sticky ≡ false → Ends p rs
 command_ends p rs normal guarded clear =
     let d : Transferred = continued p [] start_notes rs in
-    let reached = reaches p [] start_notes rs false normal guarded refl (λ e. absurd (cc)) (λ set. absurd (clash p.line.target.sticky set clear)) in
+    let reached = reaches p [] start_notes rs false normal guarded refl (λ e. absurd (cc)) (λ set. absurd (both_ways p.line.target.sticky clear set)) in
     let all : d.executed - 0 ≡ d.executed = omega arith in
     let given : reached.given ≡ length d.words = (let h = reached.more in omega arith) in
     subst (λ (x : Transferred). EndsAt p.line.target false false rs (length x.words) x.executed x.response (in_doubt x)) (from_start p rs)

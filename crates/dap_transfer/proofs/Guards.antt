@@ -12,7 +12,7 @@ use Rattle.dap_messages.specs.declared.request.Response.{Response}
 use Rattle.dap_messages.specs.declared.request.Response.TheVariants.{Good, Wait, Fault, Mismatch}
 use Rattle.dap_messages.specs.Requests.{mask_request, match_request}
 use Rattle.dap_transfer.specs.Wires.{Wire, Matches, item, access_of}
-use Rattle.dap_transfer.specs.State.{Setting, TransferState, Transferred, WireState, grown}
+use Rattle.dap_transfer.specs.State.{Setting, TransferState, Transferred, WireState}
 use Rattle.dap_transfer.specs.Transfer.{RunResult, ending, transferred}
 use Rattle.dap_transfer.specs.ValueMatch.{match_ending, match_ending_as}
 use Rattle.dap_transfer.specs.WireTransfer.{Ending, ends, made, value, value_of}
@@ -20,6 +20,7 @@ use Rattle.dap_transfer.specs.Private.{first_then, mask_if, request_ran, run, se
 use Rattle.dap_transfer.specs.CommandEnds.{counted_from}
 use Rattle.dap_transfer.proofs.Counting.{counts_from}
 use Rattle.dap_transfer.proofs.Steps.{continued, start_notes, from_start, goes_on, breaks_off, ended_here}
+use Rattle.dap_transfer.proofs.Blocks.{grown_none}
 
 -- a value match of DPIDR
 abbrev dpidr_match : ℕ → Request
@@ -84,9 +85,6 @@ ran_match p v hit no_retry h =
     ap (λ (d : Ending). first_then d.response false p.line w d (run p.setting false d.line [])) (did_match p.setting p.line v 0 p.mask hit no_retry h)
     ∙ ran_by hit p.setting p.line v p.mask
 
-same_work : (w : ℕ) → grown w 0 ≡ w
-same_work w = omega arith
-
 abbrev two_notes : Notes
 two_notes = record { outstanding = false; unchecked = false; executed = 2 }
 
@@ -103,9 +101,9 @@ match_opens p v mask rs hit =
     sym (from_start p (dpidr_match v ∷ rest))
     ∙ goes_on p [] start_notes (dpidr_match v) rest good refl
     ∙ ap (λ (ran : RunResult). continued (served p ran Match (dpidr_match v)) ran.words (record { outstanding = false; unchecked = ran.written; executed = 1 }) rest) is
-    ∙ ap (λ (n : ℕ). continued (record p { work = n }) [] one_note rest) (same_work p.work)
+    ∙ ap (λ (n : ℕ). continued (record p { work = n }) [] one_note rest) (grown_none p.work)
     ∙ goes_on p [] one_note (mask_request mask) rs refl refl
-    ∙ ap (λ (n : ℕ). continued (record p { work = n; mask = mask }) [] two_notes rs) (same_work p.work)
+    ∙ ap (λ (n : ℕ). continued (record p { work = n; mask = mask }) [] two_notes rs) (grown_none p.work)
     ∙ counts_from (record p { mask = mask }) [] false false 2 0 rs
     ∙ ap (counted_from 2) (from_start (record p { mask = mask }) rs)
 
@@ -121,7 +119,7 @@ match_shuts p v rs no_retry miss =
     sym (from_start p (dpidr_match v ∷ rs))
     ∙ breaks_off p [] start_notes (dpidr_match v) rs bad
     ∙ ap (λ (ran : RunResult). ended_here (record p { mask = mask_if ran.response Match p.mask (dpidr_match v) }) [] 0 ran) is
-    ∙ ap (λ (n : ℕ). mismatched (record p { work = n })) (same_work p.work)
+    ∙ ap (λ (n : ℕ). mismatched (record p { work = n })) (grown_none p.work)
   where
     not_both : Mismatch ≡ Good → ⊥
     not_both e = cc

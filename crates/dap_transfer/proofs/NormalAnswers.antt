@@ -2,6 +2,7 @@
 use Rattle.std.proofs.Common.{◌≡◌, eqb, ltb, ℕ, ◌+◌, ◌^◌, ◌≤◌, ◌<◌, ◌&&◌, ◌||◌, not, Bool, true, false, cond, List, [], ◌∷◌, take, length, refl, ap, sym, ◌∙◌, arith, suc, zero, IsTrue}
 use Rattle.std.specs.List.{AllByRecursion}
 use Rattle.std.proofs.lemmas.Bool.{eq-eqb, ltb-false, ltb-true}
+use Rattle.std.proofs.Math.Seq.{take-length}
 use Rattle.target_machine.specs.State.{TargetState}
 use Rattle.dap_messages.specs.declared.request.Request.{Request}
 use Rattle.dap_messages.specs.declared.request.RequestKind.{RequestKind}
@@ -37,10 +38,6 @@ next_waits n [] normal h = absurd (omega arith)
 next_waits zero (r ∷ rs) normal h = no_mask (kind r) normal.0
 next_waits (suc n) (r ∷ rs) normal h = next_waits n rs normal.1 (omega arith)
 
-pub take_length : (rs : List Request) → take (length rs) rs ≡ rs
-take_length [] = refl
-take_length (r ∷ rs) = ap (λ xs. r ∷ xs) (take_length rs)
-
 pub or_first : (x y z : Bool) → x ≡ true → (x || y || z) ≡ true
 or_first true y z e = refl
 or_first false y z e = absurd (cc)
@@ -64,7 +61,7 @@ may_stop_at t rs given n x doubt normal ends bad = by_end (ltb n (length rs)) re
     at_end e =
         let sure : doubt ≡ true = ends.at_end bad e in
         let seen : (posted_last false (take n rs) || write_after false (take n rs)) ≡ true = ends.unseen sure in
-        let all : take n rs ≡ rs = ap (λ k. take k rs) e ∙ take_length rs in
+        let all : take n rs ≡ rs = ap (λ k. take k rs) e ∙ take-length rs in
         let either : (missing || ends_in_write rs) ≡ true =
         ap (λ b. (b && posted_last false (take n rs)) || ends_in_write rs) sure ∙ ap (λ xs. posted_last false (take n rs) || write_after false xs) (sym all) ∙ seen in
         stops_whole (passes (λ k. not (is_mask k)) (kind_at rs n)) missing (eqb n (length rs)) (ends_in_write rs) either (eq-eqb n (length rs) e)

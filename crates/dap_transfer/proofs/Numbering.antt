@@ -2,6 +2,7 @@
 use Rattle.std.proofs.Common.{◌≡◌, ℕ, ◌+◌, ◌-◌, ◌^◌, ◌≤◌, ◌&&◌, not, Bool, true, false, cond, List, [], ◌∷◌, ◌++◌, take, length, min, suc, refl, ap, sym, ◌∙◌, arith, subst, inl, inr}
 use Rattle.std.specs.Prelude.{count_by}
 use Rattle.std.proofs.lemmas.List.Sums.{sum_by-cons}
+use Rattle.std.proofs.lemmas.Bool.{both_ways}
 use Rattle.target_machine.specs.Attempt.{is_free}
 use Rattle.target_machine.specs.declared.access.RegAccess.{RegAccess}
 use Rattle.dap_messages.specs.declared.request.Request.{Request}
@@ -22,7 +23,7 @@ use Rattle.dap_transfer.specs.CommandEnds.{IsNumbered, NumbersTransfers, posted_
 use Rattle.dap_transfer.proofs.Runs.{run-append}
 use Rattle.dap_transfer.proofs.ReadWords.{not_sticky}
 use Rattle.dap_transfer.proofs.RunEnds.{OneAs, one_ends}
-use Rattle.dap_transfer.proofs.StickyFacts.{clash, fault_sticky}
+use Rattle.dap_transfer.proofs.StickyFacts.{fault_sticky}
 use Rattle.dap_transfer.proofs.TargetFacts.{rdbuff_waits}
 use Rattle.dap_transfer.proofs.Steps.{continued, start_notes, from_start, goes_on, one_after, breaks_off, closes, ended_here, run_written, between_written}
 use Rattle.dap_transfer.proofs.Prefix.{IsPlain, plain_once, one_line, run_one, leaves_rdbuff, good_or_not}
@@ -84,7 +85,7 @@ then_grows Good a s w before e most clear plain =
     let b : RunResult = run s a.written a.line (w ∷ []) in
     let more : b.line.number ≤ a.line.number + 1 = run_at_most s a.written a.line w plain in
     grows_two b.response before b.line.number
-    (λ f. clash a.line.target.sticky (fault_sticky s a.line w.access (sym (run_response s a.written a.line w plain) ∙ f)) (clear refl)) (omega arith)
+    (λ f. both_ways a.line.target.sticky (clear refl) (fault_sticky s a.line w.access (sym (run_response s a.written a.line w plain) ∙ f))) (omega arith)
 then_grows Wait a s w before e most clear plain = grows_one a.response true before a.line.number most
 then_grows Fault a s w before e most clear plain = grows_one a.response true before a.line.number most
 then_grows Mismatch a s w before e most clear plain = grows_one a.response true before a.line.number most
@@ -148,11 +149,11 @@ good_grows Wait o before number e h = absurd (cc)
 good_grows Fault o before number e h = absurd (cc)
 good_grows Mismatch o before number e h = absurd (cc)
 
-one_is : (b : Bool) → cond {A = ℕ} b 1 0 ≡ one_if b
+pub one_is : (b : Bool) → cond {A = ℕ} b 1 0 ≡ one_if b
 one_is true = refl
 one_is false = refl
 
-posted_first : (r : Request) (rs : List Request) → posted_in (r ∷ rs) ≡ one_if (is_posted (kind r)) + posted_in rs
+pub posted_first : (r : Request) (rs : List Request) → posted_in (r ∷ rs) ≡ one_if (is_posted (kind r)) + posted_in rs
 posted_first r rs = sum_by-cons _ r rs ∙ ap (λ n. n + posted_in rs) (one_is (is_posted (kind r)))
 
 one_numbered : (before now number n : ℕ) (o u u' : Bool) (r : Request) (rs : List Request) (x : Response) → now ≤ before + 1 + one_if o → u' ≡ write_last (kind r) u →

@@ -25,6 +25,7 @@ use Rattle.dap_transfer.specs.Wires.{Matches, Wire, access_of, item}
 use Rattle.dap_transfer.specs.declared.notes.Notes.{Notes}
 use Rattle.dap_transfer.proofs.Counting.{counts_from}
 use Rattle.dap_transfer.proofs.Steps.{breaks_off, closes, continued, ended_here, from_start, goes_on, start_notes}
+use Rattle.dap_transfer.proofs.Blocks.{grown_none as grown_same}
 
 -- ---- one read of CTRL/STAT with DPBANKSEL 0
 
@@ -48,7 +49,7 @@ reads_ctrl : (t : TargetState) (v : ℕ) → bank t ≡ 0 → attempt t (ctrl_re
 unfolding attempt is_free
 reads_ctrl t v e = reads_plain t e
 
-first_good : (f : Bool) (x : Response) → f ≡ true → cond f Good x ≡ Good
+pub first_good : (f : Bool) (x : Response) → f ≡ true → cond f Good x ≡ Good
 first_good true x e = refl
 first_good false x e = absurd (cc)
 
@@ -188,9 +189,6 @@ poll_end false p x = record { executed = 0; response = Mismatch; words = []; nex
 
 grown_none : (w n : ℕ) → grown (grown w (n + 0)) 0 ≡ grown w n
 grown_none w n = omega arith
-
-grown_same : (w : ℕ) → grown w 0 ≡ w
-grown_same w = omega arith
 
 abbrev one_note : Notes
 one_note = record { outstanding = false; unchecked = false; executed = 1 }

@@ -1,5 +1,7 @@
 -- Runs of one or two wire transfers: how they end.
 use Rattle.std.proofs.Common.{◌≡◌, ℕ, ◌+◌, ◌&&◌, ◌||◌, Bool, true, false, [], ◌∷◌, ◌++◌, length, refl, ap, sym, ◌∙◌, arith, subst, length-append}
+use Rattle.std.proofs.lemmas.Bool.{both_ways}
+use Rattle.std.proofs.Math.Bool.{and-true}
 use Rattle.target_machine.specs.State.{TargetState}
 use Rattle.target_machine.specs.Attempt.{is_free}
 use Rattle.dap_messages.specs.declared.request.Response.{Response}
@@ -12,7 +14,7 @@ use Rattle.dap_transfer.specs.Private.{first_then, front, run, run_then}
 use Rattle.dap_transfer.proofs.Prefix.{IsPlain, plain_once}
 use Rattle.dap_transfer.proofs.ReadWords.{not_sticky}
 use Rattle.target_machine.specs.Counts.{one_if}
-use Rattle.dap_transfer.proofs.StickyFacts.{clash, fault_sticky, no_mismatch}
+use Rattle.dap_transfer.proofs.StickyFacts.{fault_sticky, no_mismatch}
 
 abbrev pub gives_one : Role → ℕ
 gives_one Moves = 1
@@ -64,22 +66,18 @@ ReportsAs Mismatch outstanding before t waits after own ran = ⊥
 abbrev pub Reports : Bool → Bool → TargetState → Bool → ℕ → ℕ → RunResult → Type 0
 Reports outstanding before t waits after own ran = ReportsAs ran.response outstanding before t waits after own ran
 
-and_same : (b : Bool) → (b && true) ≡ b
-and_same true = refl
-and_same false = refl
-
 or_false : (b : Bool) → (false || b) ≡ b
 or_false true = refl
 or_false false = refl
 
 never_pending : (role : Role) (before : Bool) → reads_back role ≡ false → is_pending role before 0 ≡ before
-never_pending Posts before e = and_same before
+never_pending Posts before e = and-true before
 never_pending Moves before e = absurd (cc)
 never_pending Fetches before e = absurd (cc)
-never_pending Reads before e = and_same before
-never_pending (Matches w) before e = and_same before
-never_pending Writes before e = and_same before
-never_pending Checks before e = and_same before
+never_pending Reads before e = and-true before
+never_pending (Matches w) before e = and-true before
+never_pending Writes before e = and-true before
+never_pending Checks before e = and-true before
 
 pub reports_by : (x : Response) (o before : Bool) (t : TargetState) (waits : Bool) (after own : ℕ) (ran : RunResult) → ran.response ≡ x → ReportsAs x o before t waits after own ran → Reports o before t waits after own ran
 reports_by x o before t waits after own ran e h = subst (λ (y : Response). ReportsAs y o before t waits after own ran) (sym e) h
@@ -165,7 +163,7 @@ fetched_reports Good a s w t waits after own e h same written plain back count =
         ((λ e. absurd (cc)), (λ _. (refl, (λ _. clear))), (let n = one.1 in let m = words in let k = ap (λ b. one_if (b && true)) pending in omega arith))
     by_end Fault f one =
         let set : t.sticky ≡ true = ap (λ (u : TargetState). u.sticky) (sym same) ∙ fault_sticky s a.line w.access f in
-        absurd (clash t.sticky set clear)
+        absurd (both_ways t.sticky clear set)
     by_end Mismatch f one = absurd (no_mismatch s a.line w.access f)
 fetched_reports Wait a s w t waits after own e h same written plain back count =
     reports_by Wait true false t waits after own a e h

@@ -11,10 +11,6 @@ use Rattle.dap_transfer.specs.State.{Setting, WireState}
 use Rattle.dap_transfer.specs.WireTransfer.{ends}
 use Rattle.dap_transfer.specs.CommandEnds.{may_be_free}
 
-pub clash : (b : Bool) → b ≡ true → b ≡ false → ⊥
-clash true e f = cc
-clash false e f = cc
-
 -- STICKYERR is clear after it
 record Clear (x : Attempt) : Type 0 where
   is : x.next.sticky ≡ false

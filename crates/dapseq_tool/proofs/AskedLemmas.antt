@@ -1,6 +1,7 @@
 -- What the words and the bytes ask for, step by step.
-use Rattle.std.proofs.Common.{◌≡◌, ℕ, Bool, true, false, List, [], Option, None, Some, Result, Ok, Err, length, nat_le, ◌<◌, ◌≤◌, ◌∙◌, ◌⊎◌, ap, inl, inr, sym, subst, refl, arith}
+use Rattle.std.proofs.Common.{◌≡◌, ℕ, Bool, true, false, List, Option, None, Some, Result, Ok, Err, length, nat_le, ◌<◌, ◌≤◌, ◌∙◌, ◌⊎◌, ap, inl, inr, sym, subst, refl, arith}
 use Rattle.std.specs.Prelude.{⊤, IfErr, IfOk, IsErrOf, MatchBool, OnOk, ◌≢◌}
+use Rattle.std.proofs.lemmas.Option.{same_Some}
 use Rattle.dap_base.specs.Causes.{Rose}
 use Rattle.text_lines.specs.Causes.{NamesFault}
 use Rattle.command_words.specs.declared.answer.Command.{Command}
@@ -13,6 +14,7 @@ use Rattle.job_check.specs.declared.running.RunRefusal.{RunRefusal}
 use Rattle.job_check.specs.declared.running.RunRefusal.TheVariants as refusals
 use Rattle.dapseq_tool.specs.Asked.{IsSoundAnswer, of_refused, OnRun, Asks, AsksOfBytes, AsksOfCommand, AsksOfRun, IsReadLine, IsRunCommand, IsRunLine, IsUsage, ReadsSource, command, generated, own_of, usage}
 use Rattle.job_source.specs.Source.{AreBytesOf, limit}
+use Rattle.job_source.proofs.SourceLemmas.{some_bytes}
 use Rattle.dapseq_tool.specs.Frame.{IsAsked, IsFit}
 use Rattle.dapseq_tool.proofs.FrameLemmas.{fit_answer, on_run_so, plain}
 use Rattle.dapseq_tool.specs.Generated.{its_device, its_sequence, job_text}
@@ -26,11 +28,6 @@ use Rattle.dapseq_tool.specs.declared.asking.Unasked.{Unasked}
 use Rattle.dapseq_tool.specs.declared.asking.Unasked.TheVariants as unasked
 use Rattle.dapseq_tool.specs.declared.asking.What.{What}
 use Rattle.dapseq_tool.specs.declared.asking.What.TheVariants as whats
-
--- each source has bytes
-pub some_bytes : (left : Option (List ℕ)) → (bytes : List ℕ) × AreBytesOf left bytes
-some_bytes None = ([], tt)
-some_bytes (Some bytes) = (bytes, refl)
 
 -- words that are no command ask for the usage
 pub usage_asked : (words : List (List ℕ)) (left : Option (List ℕ)) (asked : Requested) → IsUsage words → asked.number ≡ None → asked.what ≡ whats.Answer answers.Usage
@@ -66,25 +63,22 @@ none_taken words c n P (Err e) is gen = tt
 
 -- ---- where no sequence runs
 
-same_what : (x y : What) → Some x ≡ Some y → x ≡ y
-same_what x y e = cc
-
 no_what : (what : What) → None ≡ Some what → ⊥
 no_what what e = cc
 
 pub refused_asked : {E : Type 0} (s : Selection) (sequence : List ℕ) (purpose : Purpose) (bytes : List ℕ) (end : RunRefusal) (r : Result What E)
     → OnEnd (IsRefusedRun bytes (own_of purpose) s sequence) end → IfOk r (λ what. of_refused end ≡ Some what) → IfOk r (AsksOfRun s sequence purpose bytes)
 refused_asked s sequence purpose bytes end (Err e) h is = tt
-refused_asked s sequence purpose bytes (refusals.Refused f) (Ok what) h is = subst (AsksOfRun s sequence purpose bytes) (same_what (whats.Answer (answers.Refused f)) what is) h
-refused_asked s sequence purpose bytes refusals.NoSequence (Ok what) h is = subst (AsksOfRun s sequence purpose bytes) (same_what (whats.Answer answers.NoSequence) what is) h
+refused_asked s sequence purpose bytes (refusals.Refused f) (Ok what) h is = subst (AsksOfRun s sequence purpose bytes) (same_Some (whats.Answer (answers.Refused f)) what is) h
+refused_asked s sequence purpose bytes refusals.NoSequence (Ok what) h is = subst (AsksOfRun s sequence purpose bytes) (same_Some (whats.Answer answers.NoSequence) what is) h
 refused_asked s sequence purpose bytes refusals.OutOfMemory (Ok what) h is = absurd (no_what what is)
 
 -- it is in its ranges, and neither a run nor the usage
 pub refused_fit : {E : Type 0} (end : RunRefusal) (r : Result What E) → IfOk r (λ what. of_refused end ≡ Some what) → IfOk r (IsFit ⊤)
 unfolding IsSoundAnswer
 refused_fit end (Err e) is = tt
-refused_fit (refusals.Refused f) (Ok what) is = subst (IsFit ⊤) (same_what (whats.Answer (answers.Refused f)) what is) (fit_answer ⊤ (answers.Refused f) tt (λ e. cc e))
-refused_fit refusals.NoSequence (Ok what) is = subst (IsFit ⊤) (same_what (whats.Answer answers.NoSequence) what is) (fit_answer ⊤ answers.NoSequence tt (λ e. cc e))
+refused_fit (refusals.Refused f) (Ok what) is = subst (IsFit ⊤) (same_Some (whats.Answer (answers.Refused f)) what is) (fit_answer ⊤ (answers.Refused f) tt (λ e. cc e))
+refused_fit refusals.NoSequence (Ok what) is = subst (IsFit ⊤) (same_Some (whats.Answer answers.NoSequence) what is) (fit_answer ⊤ answers.NoSequence tt (λ e. cc e))
 refused_fit refusals.OutOfMemory (Ok what) is = absurd (no_what what is)
 
 -- ---- the bytes

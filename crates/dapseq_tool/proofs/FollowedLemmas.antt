@@ -1,7 +1,6 @@
 -- Runs with a load or a scan after the sequence.
 use Rattle.std.proofs.Common.{◌≡◌, ◌∙◌, ℕ, ◌^◌, ◌<◌, List, Option, Some, None, sym, ap, ap₂, subst}
 use Rattle.target_machine.specs.Start.{start}
-use Rattle.target_machine.specs.State.{Agree, TargetState}
 use Rattle.probe_core.specs.Bench.{BenchState}
 use Rattle.probe_core.specs.Probe.{target_of}
 use Rattle.access_calls.specs.declared.ended.Ending.{Ending}
@@ -27,10 +26,7 @@ use Rattle.dapseq_tool.specs.declared.asking.Purpose.{Purpose}
 use Rattle.dapseq_tool.specs.declared.asking.Purpose.TheVariants as purposes
 use Rattle.dapseq_tool.specs.declared.asking.Run.{Run}
 use Rattle.dapseq_tool.proofs.TwoLemmas.{came_whole}
-
--- a run that is done, whose task is this one: its target has the words of the outcome, its lines and its close
-words_of : (t u : TargetState) → Agree t u → t.words ≡ u.words
-words_of t u same = ap (λ (x : TargetState). x.words) same.same
+use Rattle.flight_laws.proofs.MadeLemmas.{agree_words}
 
 module _ (access : AccessKind) (run : Run) (before : Option (List ℕ)) (r : RunEnd) (a : After) (n : BenchState)
     (to : IsRunTo access run before r a n) (done : r.ended.ending ≡ e.Done) (k : Task) (is : task_by run ≡ k) where
@@ -41,7 +37,7 @@ module _ (access : AccessKind) (run : Run) (before : Option (List ℕ)) (r : Run
   outcome_is = ap (λ (x : Task). task_outcome x (start run.valid.job.bench.target) before) is
 
   words_are : (target_of n.probe).words ≡ (task_outcome k (start run.valid.job.bench.target) before).target.words
-  words_are = words_of (target_of n.probe) (outcome_in (run_from access run before)).target so.target ∙ ap (λ (o : Outcome). o.target.words) outcome_is
+  words_are = agree_words (target_of n.probe) (outcome_in (run_from access run before)).target so.target ∙ ap (λ (o : Outcome). o.target.words) outcome_is
 
   written_is : (left_by before r n).written ≡ (task_outcome k (start run.valid.job.bench.target) before).written
   written_is = so.written ∙ ap (λ (o : Outcome). o.written) outcome_is

@@ -1,7 +1,8 @@
 -- What calls keep: how faults are counted, and what follows for a whole call.
-use Rattle.std.proofs.Common.{◌≡◌, ◌∙◌, ◌⊎◌, inl, inr, ℕ, ◌+◌, ◌-◌, ◌^◌, ◌<◌, ◌≤◌, min, List, Option, Result, Ok, Err, refl, sym, ap, subst, arith}
+use Rattle.std.proofs.Common.{◌≡◌, ◌∙◌, ◌⊎◌, inl, inr, ℕ, ◌+◌, ◌-◌, ◌^◌, ◌<◌, ◌≤◌, min, List, Option, Result, Ok, Err, refl, sym, ap, subst}
 use Rattle.std.specs.Prelude.{◌≢◌, IfOk, IsErrOf, OnOk}
-use Rattle.dap_base.specs.Causes.{IsQuiet, Rose}
+use Rattle.dap_base.specs.Causes.{Rose}
+use Rattle.dap_base.proofs.Basics.{not_rose}
 use Rattle.text_lines.specs.Causes.{NamesFault}
 use Rattle.text_lines.specs.declared.putting.TextError.{TextError}
 use Rattle.text_lines.specs.declared.putting.TextError.TheVariants as errors
@@ -80,7 +81,7 @@ status_of_usage : answer_status answers.Usage ≡ status.Usage
 unfolding answer_status
 status_of_usage = refl
 
-inner : (a b : Answer) → whats.Answer a ≡ whats.Answer b → a ≡ b
+pub inner : (a b : Answer) → whats.Answer a ≡ whats.Answer b → a ≡ b
 inner a b e = cc
 
 module _ (old new : Option (List ℕ)) (text : List ℕ) (a : Answer) (end : Status) (put : IsPut old new text (answer_status a) end) where
@@ -225,9 +226,6 @@ pub sound_by_run : (what : What) (run : Run) → what ≡ whats.Run run → IsSo
 sound_by_run what run is h = sound_run run (subst IsSound is h)
 
 -- ---- a whole call
-
-not_rose : (a b : ℕ) → IsQuiet a b → Rose a b → ⊥
-not_rose a b quiet rose = let same = quiet.same in let below = quiet.below in omega (arith, same, below, rose)
 
 module _ (call : Call) (untaken unchanged : Type 0) where
   -- The bench is the one that it was, the source did not fail, and a line was not written whole, or memory was refused.

@@ -1,6 +1,7 @@
 -- Words and bytes ask for one thing at most.
 use Rattle.std.proofs.Common.{◌≡◌, ◌∙◌, ℕ, Bool, true, false, List, Option, None, Some, Result, Ok, Err, length, nat_le, sym, ap, subst, refl}
 use Rattle.std.specs.Prelude.{MatchBool}
+use Rattle.std.proofs.lemmas.Option.{same_Some}
 use Rattle.command_words.specs.declared.answer.Command.{Command}
 use Rattle.command_words.specs.declared.answer.Command.TheVariants as commands
 use Rattle.command_words.specs.Table.{IsCommand}
@@ -24,6 +25,7 @@ use Rattle.dapseq_tool.specs.declared.asking.Requested.{Requested}
 use Rattle.dapseq_tool.specs.declared.asking.Run.{Run}
 use Rattle.dapseq_tool.specs.declared.asking.What.{What}
 use Rattle.dapseq_tool.specs.declared.asking.What.TheVariants as whats
+use Rattle.dapseq_tool.proofs.FrameLemmas.{inner}
 
 -- ---- the same
 
@@ -35,12 +37,6 @@ same_by : (x y : What) → x ≡ y → IsSameWhat x y
 same_by x y is = subst (IsSameWhat x) is (itself x)
 
 -- ---- a run
-
-same_some : (x y : What) → Some x ≡ Some y → x ≡ y
-same_some x y e = cc
-
-same_answer : (a b : Answer) → whats.Answer a ≡ whats.Answer b → a ≡ b
-same_answer a b e = cc
 
 -- the reason of an answer
 reason : (s : Selection) (sequence : List ℕ) (purpose : Purpose) (bytes : List ℕ) (a : Answer) → IsNoRunOf s sequence purpose bytes a
@@ -54,7 +50,7 @@ one_no_run s sequence purpose bytes a b p q =
     let x = reason s sequence purpose bytes a p in
     let y = reason s sequence purpose bytes b q in
     let same = one.one_refusal bytes (own_of purpose) s sequence x.0 y.0 x.1 y.1 in
-    same_answer a b (same_some (whats.Answer a) (whats.Answer b) (sym x.2 ∙ ap of_refused same ∙ y.2))
+    inner a b (same_Some (whats.Answer a) (whats.Answer b) (sym x.2 ∙ ap of_refused same ∙ y.2))
 
 of_run : (s : Selection) (sequence : List ℕ) (purpose : Purpose) (bytes : List ℕ) (x y : What) → AsksOfRun s sequence purpose bytes x → AsksOfRun s sequence purpose bytes y → IsSameWhat x y
 of_run s sequence purpose bytes (whats.Run a) (whats.Run b) p q = record {

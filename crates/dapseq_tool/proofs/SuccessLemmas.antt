@@ -1,9 +1,9 @@
 -- What was done by a call that nothing outside disturbed.
-use Rattle.std.proofs.Common.{◌≡◌, ◌∙◌, ◌⊎◌, inl, inr, ℕ, ◌+◌, ◌-◌, ◌^◌, ◌<◌, ◌≤◌, min, List, ◌++◌, Bool, false, true, Option, None, Some, refl, sym, ap, subst, arith}
+use Rattle.std.proofs.Common.{◌≡◌, ◌∙◌, ◌⊎◌, inl, inr, ℕ, ◌+◌, ◌-◌, ◌^◌, ◌<◌, ◌≤◌, min, List, ◌++◌, Bool, false, true, Option, None, Some, refl, sym, ap, subst}
 use Rattle.std.specs.Prelude.{IsSome}
 use Rattle.std.specs.Io.KnownBytes.{Appends}
-use Rattle.dap_base.specs.Causes.{IsQuiet, Rose}
 use Rattle.dap_base.specs.Streams.{AppendsPrefix}
+use Rattle.dap_base.proofs.Basics.{not_rose}
 use Rattle.probe_core.specs.Bench.{BenchState}
 use Rattle.access_calls.specs.declared.ended.Ending.{Ending}
 use Rattle.access_calls.specs.declared.ended.Ending.TheVariants as e
@@ -23,9 +23,6 @@ use Rattle.dapseq_tool.specs.declared.status.Status.{Status}
 use Rattle.dapseq_tool.specs.declared.status.Status.TheVariants as status
 
 -- ---- a quiet call
-
-not_rose : (a b : ℕ) → IsQuiet a b → Rose a b → ⊥
-not_rose a b quiet rose = let same = quiet.same in let below = quiet.below in omega (arith, same, below, rose)
 
 fails_by : (end : Status) → (end ≡ status.BenchFault → ⊥) → (end ≡ status.WriteFault → ⊥) → (end ≡ status.OutOfMemory → ⊥) → FailsWriting end → ⊥
 fails_by status.Done b w m h = h

@@ -1,7 +1,6 @@
 //! What is written where no sequence runs, and before one runs.
 ghost use Rattle.std.specs.Prelude.{◌≡◌, ◌≢◌, ◌⊎◌, ◌↔◌, Some, IfErr, IfOk, IsSome};
-ghost use Rattle.dap_base.specs.Streams.{PutAppends};
-ghost use Rattle.text_lines.specs.Causes.{NamesFault};
+ghost use Rattle.text_lines.specs.Puts.{PutsText};
 ghost use Rattle.report_lines.specs.Audit.{audit_fault_line, audited_lines};
 ghost use Rattle.dapseq_tool.specs.Answers.{answer_text, answer_status, head_text};
 ghost use Rattle.dapseq_tool.specs.Asked.{IsSoundAnswer, IsSoundAudit};
@@ -44,8 +43,7 @@ fn text_error(end: TextEnd) -> TextError
 // Writes the text of a trace that is accepted.
 fn write_audited<K: Sink>(alloc: Global, audit: &Audit, sink: &mut K) -> Result<(), TextError>
     requires { IsSoundAudit audit.now }
-    ensures text { PutAppends (K.written sink.old) (K.written sink.new) result (audited_lines audit.now.audited audit.now.job) }
-    ensures sink { NamesFault TextError.Failed (K.faults sink.old) (K.faults sink.new) result }
+    ensures puts { PutsText (audited_lines audit.now.audited audit.now.job) result TextError.Failed K.written K.faults sink.old sink.new }
 {
     match audit_text(alloc, &audit.audited, &audit.job, sink) {
         Ok(()) => Ok(()),
@@ -59,8 +57,7 @@ fn write_audit_fault<K: Sink>(
     fault: AuditFault,
     sink: &mut K,
 ) -> Result<(), TextError>
-    ensures text { PutAppends (K.written sink.old) (K.written sink.new) result (audit_fault_line fault) }
-    ensures sink { NamesFault TextError.Failed (K.faults sink.old) (K.faults sink.new) result }
+    ensures puts { PutsText (audit_fault_line fault) result TextError.Failed K.written K.faults sink.old sink.new }
 {
     match audit_fault_text(alloc, fault, sink) {
         Ok(()) => Ok(()),
@@ -71,8 +68,7 @@ fn write_audit_fault<K: Sink>(
 /// Writes the text of an answer. At an error a part of it was written, from its front.
 pub fn write_answer<K: Sink>(alloc: Global, answer: &Answer, sink: &mut K) -> Result<(), TextError>
     requires { IsSoundAnswer answer.now }
-    ensures text { PutAppends (K.written sink.old) (K.written sink.new) result (answer_text answer.now) }
-    ensures sink { NamesFault TextError.Failed (K.faults sink.old) (K.faults sink.new) result }
+    ensures puts { PutsText (answer_text answer.now) result TextError.Failed K.written K.faults sink.old sink.new }
 {
     match answer {
         Answer::Usage => write_usage(sink),
@@ -103,9 +99,8 @@ pub fn write_head<K: Sink>(
     number: Option<u16>,
     sink: &mut K,
 ) -> Result<(), TextError>
-    ensures text { PutAppends (K.written sink.old) (K.written sink.new) result (head_text number) }
+    ensures puts { PutsText (head_text number) result TextError.Failed K.written K.faults sink.old sink.new }
     ensures some { IfErr result (λ e. IsSome number) }
-    ensures sink { NamesFault TextError.Failed (K.faults sink.old) (K.faults sink.new) result }
 {
     match number {
         Some(number) => put_line(head_line(alloc, number), sink),

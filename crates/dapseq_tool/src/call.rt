@@ -58,7 +58,8 @@ fn perform<B: Bench, K: Sink, A: OverBench<B>>(
     sink: &mut K,
 ) -> Over<B>
     requires { IsSound what.now }
-    ensures does { DoesAfter (access_kind A.Access.journal A.Access.cost A.Access.is_sparing) what.now (seen B.reported B.state bench) (result.bench ≡ bench) (K.written sink.old)
+    ensures does { DoesAfter (access_kind A.Access.journal A.Access.cost A.Access.is_sparing) what.now (seen B.reported B.state bench)
+        (result.bench ≡ bench) (K.written sink.old)
         (record { written = K.written sink.new; end = result.status; bench = seen B.reported B.state result.bench }) }
     ensures identity { B.identity result.bench ≡ B.identity bench }
     ensures sink { CountsSink (K.faults sink.old) (K.faults sink.new) result.status }
@@ -94,7 +95,8 @@ fn fulfil<B: Bench, K: Sink, A: OverBench<B>>(
     sink: &mut K,
 ) -> Over<B>
     requires { IsSound asked.now.what }
-    ensures done { IsFulfilled (access_kind A.Access.journal A.Access.cost A.Access.is_sparing) asked.now (seen B.reported B.state bench) (result.bench ≡ bench) (K.written sink.old)
+    ensures done { IsFulfilled (access_kind A.Access.journal A.Access.cost A.Access.is_sparing) asked.now (seen B.reported B.state bench)
+        (result.bench ≡ bench) (K.written sink.old)
         (record { written = K.written sink.new; end = result.status; bench = seen B.reported B.state result.bench }) }
     ensures identity { B.identity result.bench ≡ B.identity bench }
     ensures sink { CountsSink (K.faults sink.old) (K.faults sink.new) result.status }
@@ -128,7 +130,8 @@ fn finish<B: Bench, K: Sink, A: OverBench<B>>(
     sink: &mut K,
 ) -> Over<B>
     requires { IfOk asked.now (λ asked. IsSound asked.what) }
-    ensures done { IsFinished (access_kind A.Access.journal A.Access.cost A.Access.is_sparing) asked.now (seen B.reported B.state bench) (result.bench ≡ bench) (K.written sink.old)
+    ensures done { IsFinished (access_kind A.Access.journal A.Access.cost A.Access.is_sparing) asked.now (seen B.reported B.state bench)
+        (result.bench ≡ bench) (K.written sink.old)
         (record { written = K.written sink.new; end = result.status; bench = seen B.reported B.state result.bench }) }
     ensures identity { B.identity result.bench ≡ B.identity bench }
     ensures sink { CountsSink (K.faults sink.old) (K.faults sink.new) result.status }
@@ -152,9 +155,12 @@ pub fn make_call<S: Source, K: Sink, B: Bench, A: OverBench<B>>(
     bench: B,
 ) -> Over<B>
     ensures asked { let at = moment S.left S.faults K.written K.faults B.reported B.state in
-        Does (access_kind A.Access.journal A.Access.cost A.Access.is_sparing) (record { words = words.now; old = at source.old sink.old bench; new = at source.new sink.new result.bench; end = result.status }) (result.bench ≡ bench) }
+        Does (access_kind A.Access.journal A.Access.cost A.Access.is_sparing)
+        (record { words = words.now; old = at source.old sink.old bench; new = at source.new sink.new result.bench; end = result.status })
+        (result.bench ≡ bench) }
     ensures frame { let at = moment S.left S.faults K.written K.faults B.reported B.state in
-        IsFramed (record { words = words.now; old = at source.old sink.old bench; new = at source.new sink.new result.bench; end = result.status }) (source.new ≡ source.old) (result.bench ≡ bench) }
+        IsFramed (record { words = words.now; old = at source.old sink.old bench; new = at source.new sink.new result.bench; end = result.status })
+        (source.new ≡ source.old) (result.bench ≡ bench) }
     ensures identity { B.identity result.bench ≡ B.identity bench }
 {
     let asked = ask(alloc, words, source);
@@ -176,13 +182,16 @@ pub fn dapseq_over<S: Source, K: Sink, B: Bench, A: OverBench<B>>(
 ) -> Over<B>
     // What the words and the bytes ask for was done.
     ensures asked { let at = moment S.left S.faults K.written K.faults B.reported B.state in
-        Does (access_kind A.Access.journal A.Access.cost A.Access.is_sparing) (record { words = words.now; old = at source.old sink.old bench; new = at source.new sink.new result.bench; end = result.status }) (result.bench ≡ bench) }
+        Does (access_kind A.Access.journal A.Access.cost A.Access.is_sparing)
+        (record { words = words.now; old = at source.old sink.old bench; new = at source.new sink.new result.bench; end = result.status })
+        (result.bench ≡ bench) }
 
     // The words alone decide on the usage, and whether the source is read: to its end, or one byte too far.
     ensures usage { result.status ≡ Status.Usage → IsUsage words.now }
     ensures usage_only { IsUsage words.now → (result.status ≡ Status.Usage) ⊎ (result.status ≡ Status.WriteFault) ⊎ (result.status ≡ Status.OutOfMemory) }
     ensures unread { (IsReadLine words.now → ⊥) → source.new ≡ source.old }
-    ensures taken { IsReadLine words.now → IsQuiet (S.faults source.old) (S.faults source.new) → result.status ≢ Status.OutOfMemory → AreTaken (S.left source.old) (S.left source.new) }
+    ensures taken { IsReadLine words.now → IsQuiet (S.faults source.old) (S.faults source.new) → result.status ≢ Status.OutOfMemory
+        → AreTaken (S.left source.old) (S.left source.new) }
 
     // The bench is called in the modes that run alone, and is the one that it was where the job is refused or the source failed.
     ensures bench_only_in_run { (result.bench ≡ bench) ⊎ IsRunLine words.now }

@@ -57,7 +57,8 @@ pub fn a_kept_trace_is_accepted()
     ensures printed { (log : Log) → trace log ≡ flat_map (λ text. text ++ codes "\n") (kept_texts log) ++ kept_line (length log.kept) log.count }
     // The audit of the job accepts them; they lead to the probe as the run left it.
     ensures accepted { (access : AccessKind) (run : Run) (before : Option (List ℕ)) (r : RunEnd) (a : After) (n : BenchState) (job : Job) (bytes : List ℕ)
-        → IsRunTo access run before r a n → n.log.whole ≡ true → HasKept run n.log job → Describes bytes job → AsksOfAudit bytes (What.Answer (Answer.Audited (kept_audit job n))) }
+        → IsRunTo access run before r a n → n.log.whole ≡ true → HasKept run n.log job → Describes bytes job
+        → AsksOfAudit bytes (What.Answer (Answer.Audited (kept_audit job n))) }
     // The target is written as in the report of the run.
     ensures target { (run : Run) (n : BenchState) (job : Job) → HasKept run n.log job
         → answer_text (Answer.Audited (kept_audit job n)) ≡ audit_ok_line (kept_audit job n).audited ++ target_part true run.valid.job (target_of n.probe) }

@@ -24,7 +24,8 @@ fn call_lent<S: Source, K: Sink, B: Bench>(
     bench: &mut B,
 ) -> Status
     ensures { let at = moment S.left S.faults K.written K.faults B.reported B.state in
-        IsCall packed (record { words = words.now; old = at source.old sink.old bench.old; new = at source.new sink.new bench.new; end = result }) (source.new ≡ source.old) (bench.new ≡ bench.old) }
+        IsCall packed (record { words = words.now; old = at source.old sink.old bench.old; new = at source.new sink.new bench.new; end = result })
+        (source.new ≡ source.old) (bench.new ≡ bench.old) }
 {
     let over = make_call::<S, K, &mut B, Packed<&mut B>>(alloc, words, source, sink, &mut *bench);
     over.status
@@ -67,13 +68,15 @@ pub fn dapseq<S: Source, K: Sink, B: Bench>(
 
     // A bad reply is one that was received, and its bench is not observable.
     ensures bad_reply { let at = moment S.left S.faults K.written K.faults B.reported B.state in
-        result ≡ Status.ReplyBad → HasGotBadReply (record { words = words.now; old = at source.old sink.old bench.old; new = at source.new sink.new bench.new; end = result }) }
+        result ≡ Status.ReplyBad → HasGotBadReply
+        (record { words = words.now; old = at source.old sink.old bench.old; new = at source.new sink.new bench.new; end = result }) }
 
     // The words alone decide on the usage, and whether the source is read: to its end, or one byte too far.
     ensures usage { result ≡ Status.Usage → IsUsage words.now }
     ensures usage_only { IsUsage words.now → (result ≡ Status.Usage) ⊎ (result ≡ Status.WriteFault) ⊎ (result ≡ Status.OutOfMemory) }
     ensures unread { (IsReadLine words.now → ⊥) → source.new ≡ source.old }
-    ensures taken { IsReadLine words.now → IsQuiet (S.faults source.old) (S.faults source.new) → result ≢ Status.OutOfMemory → AreTaken (S.left source.old) (S.left source.new) }
+    ensures taken { IsReadLine words.now → IsQuiet (S.faults source.old) (S.faults source.new) → result ≢ Status.OutOfMemory
+        → AreTaken (S.left source.old) (S.left source.new) }
 
     // The bench is called in the modes that run alone, and is the one that it was where the job is refused or the source failed.
     ensures bench_only_in_run { (bench.new ≡ bench.old) ⊎ IsRunLine words.now }

@@ -99,7 +99,8 @@ fn run_loaded<B: Bench, K: Sink, A: OverBench<B>>(
     requires sound { IsSoundRun run.now }
     requires idle { IsIdle (B.reported bench) }
     requires limits { run.now.valid.job.bench.limits ≡ (B.reported bench).limits }
-    ensures run { (r : RunEnd) × HasRun (access_kind A.Access.journal A.Access.cost A.Access.is_sparing) run.now (B.state bench ≡ Some (fresh run.now.valid.job.bench)) (B.reported bench) (K.written sink.old) r
+    ensures run { (r : RunEnd) × HasRun (access_kind A.Access.journal A.Access.cost A.Access.is_sparing) run.now
+        (B.state bench ≡ Some (fresh run.now.valid.job.bench)) (B.reported bench) (K.written sink.old) r
         (record { written = K.written sink.new; end = result.status; bench = seen B.reported B.state result.bench }) }
     ensures identity { B.identity result.bench ≡ B.identity bench }
     ensures sink { CountsSink (K.faults sink.old) (K.faults sink.new) result.status }

@@ -9,14 +9,14 @@ use std::io::ErrorKind;
 use std::process::ExitCode;
 use std::{env, io};
 use trace_compare::{FileSource, Status, dapseq_words};
-use words::{unreadable, words_of};
+use words::{unreadable_words, words_of};
 
 // The words after the program's name. One word where they cannot be read as text, so that the call is a wrong one.
 fn read_words(rt: &HostRuntime, alloc: Global) -> Result<Words, OutOfMemory> {
     let arguments = match env::args(rt) {
         Ok(arguments) => arguments,
         Err(error) if error.kind() == ErrorKind::OutOfMemory => return Err(OutOfMemory),
-        Err(_) => return unreadable(alloc),
+        Err(_) => return unreadable_words(alloc),
     };
     let Ok(arguments) = arguments.collect::<Vec<String>>(alloc) else {
         return Err(OutOfMemory);

@@ -20,7 +20,7 @@ pub fn words_of(alloc: Global, arguments: &[String]) -> Result<Words, OutOfMemor
 }
 
 /// One empty word, in place of words that cannot be read as text. `OutOfMemory` where memory is refused.
-pub fn unreadable(alloc: Global) -> Result<Words, OutOfMemory>
+pub fn unreadable_words(alloc: Global) -> Result<Words, OutOfMemory>
     ensures { IfOk result (λ words. words ≡ [] ∷ []) }
 {
     let mut words = Words::new(alloc);

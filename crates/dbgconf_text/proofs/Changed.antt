@@ -2,6 +2,7 @@
 use Rattle.std.proofs.Common.{◌≡◌, ℕ, ◌+◌, ◌^◌, ◌<◌, Bool, true, false, List, [], ◌∷◌, ◌++◌, Option, Some, None, refl, sym, ap, subst, ◌∙◌, append_assoc, arith}
 use Rattle.std.specs.Prelude.{codes}
 use Rattle.std.specs.Str.{bytes_eq}
+use Rattle.std.proofs.lemmas.Option.{same_Some}
 use Rattle.text_lines.specs.Hex.{hex}
 use Rattle.expr_grammar.specs.declared.code.Name.{Name}
 use Rattle.expr_grammar.specs.declared.token.TokenKind.TheVariants as kinds
@@ -27,13 +28,10 @@ small_without : (name : List ℕ) (set : List Setting) → AreSmall set → AreS
 small_without name [] h = tt
 small_without name (s ∷ more) h = small_by name s more (bytes_eq s.name name) refl h.0 (small_without name more h.1)
 
-some_is : (x y : ℕ) → Some x ≡ Some y → x ≡ y
-some_is x y e = cc
-
 value_by : (name : List ℕ) (s : Setting) (more : List Setting) (v : ℕ) (b : Bool) → bytes_eq s.name name ≡ b → s.value < 2 ^ 64 → (value_of name more ≡ Some v → v < 2 ^ 64) → value_of name (s ∷ more) ≡ Some v → v < 2 ^ 64
 value_by name s more v true is small rest e =
     let here : value_of name (s ∷ more) ≡ Some s.value = rw is refl in
-    subst (λ (x : ℕ). x < 2 ^ 64) (some_is s.value v (sym here ∙ e)) small
+    subst (λ (x : ℕ). x < 2 ^ 64) (same_Some s.value v (sym here ∙ e)) small
 value_by name s more v false is small rest e =
     let there : value_of name (s ∷ more) ≡ value_of name more = rw is refl in
     rest (sym there ∙ e)

@@ -3,6 +3,7 @@ use Rattle.std.proofs.Common.{◌≡◌, ◌≢◌, ℕ, ◌+◌, ◌*◌, ◌<�
 use Rattle.std.specs.Prelude.{codes}
 use Rattle.std.proofs.Math.Seq.{take-append-add}
 use Rattle.std.proofs.lemmas.List.{length-append, append-nil, take_at}
+use Rattle.std.proofs.lemmas.Option.{same_Some}
 use Rattle.dap_base.specs.declared.text.Place.{Place}
 use Rattle.dap_base.specs.Number.{number_value}
 use Rattle.expr_grammar.specs.declared.code.Name.{Name}
@@ -16,7 +17,7 @@ use Rattle.dbgconf_text.specs.Conf.{ReadsConf}
 
 -- ---- lists that are read
 
-nil_cons : (k : Lexeme) (ts : List Lexeme) → k ∷ ts ≡ [] → ⊥
+pub nil_cons : (k : Lexeme) (ts : List Lexeme) → k ∷ ts ≡ [] → ⊥
 nil_cons k ts e = cc
 
 four_tail : (a b c d e f g h : Lexeme) (x y : List Lexeme) → a ∷ b ∷ c ∷ d ∷ x ≡ e ∷ f ∷ g ∷ h ∷ y → x ≡ y
@@ -97,9 +98,6 @@ pub reads_length : (conf : List ConfItem) (ts : List Lexeme) → ReadsConf ts co
 reads_length [] ts r = ap length r
 reads_length (x ∷ conf) ts r = omega (arith, ap length r.parts, length-append r.left r.right, ap length r.first.parts, reads_length conf r.right r.second)
 
-pub some_number : (a b : ℕ) → Some a ≡ Some b → a ≡ b
-some_number a b e = cc
-
 name_same : (x y : Name) → x.text ≡ y.text → x.at ≡ y.at → x ≡ y
 name_same x y text at =
     let one : x ≡ record { text = y.text; at = x.at } = ap (λ (t : List ℕ). record { text = t; at = x.at }) text in
@@ -129,7 +127,7 @@ one_conf (a ∷ x) (b ∷ y) ts r s =
     let tail = four_tail p.name p.equals p.number p.semi q.name q.equals q.number q.semi r.right s.right (sym e ∙ f) in
     let text : a.name.text ≡ b.name.text = sym p.is_name.text_is ∙ ap (λ (k : Lexeme). k.text) h.one ∙ q.is_name.text_is in
     let at : a.name.at ≡ b.name.at = sym p.is_name.at_is ∙ ap (λ (k : Lexeme). k.at) h.one ∙ q.is_name.at_is in
-    let value : a.value ≡ b.value = some_number a.value b.value (sym p.is_number.value ∙ ap (λ (k : Lexeme). number_value k.text) h.three ∙ q.is_number.value) in
+    let value : a.value ≡ b.value = same_Some a.value b.value (sym p.is_number.value ∙ ap (λ (k : Lexeme). number_value k.text) h.three ∙ q.is_number.value) in
     let here : a ≡ b = item_same a b (name_same a.name b.name text at) value in
     let rest : x ≡ y = one_conf x y r.right r.second (subst (λ (l : List Lexeme). ReadsConf l y) (sym tail) s.second) in
     ap (λ (i : ConfItem). i ∷ x) here ∙ ap (λ (l : List ConfItem). b ∷ l) rest

@@ -1,5 +1,6 @@
 -- A text and values have one replacement.
 use Rattle.std.proofs.Common.{◌≡◌, ◌⊎◌, inl, inr, ℕ, List, Option, Some, None, Result, Ok, Err, refl, sym, ap, ◌∙◌}
+use Rattle.std.proofs.lemmas.Option.{same_Some}
 use Rattle.dap_base.specs.declared.text.Place.{Place}
 use Rattle.expr_grammar.specs.Lexeme.{Lexeme}
 use Rattle.expr_grammar.specs.Lexing.{AreTokensOf}
@@ -12,9 +13,6 @@ use Rattle.dbgconf_text.specs.Replacing.{AreCode, Replaces, code, no_code, no_me
 
 none_some : (x : Place) → None ≡ Some x → ⊥
 none_some x e = cc
-
-some_is : (x y : Place) → Some x ≡ Some y → x ≡ y
-some_is x y e = cc
 
 abbrev with_text : List ℕ → Result (List ℕ) ReplaceFault
 with_text new = Ok new
@@ -48,7 +46,7 @@ one_text text conf x y (no_memory e) b = absurd (text_no_fault x OutOfMemory e)
 pub one_place : (text : List ℕ) (conf : List ConfItem) (x y : Place) → Replaces text conf (Err (UndefinedName x)) → Replaces text conf (Err (UndefinedName y)) → x ≡ y
 one_place text conf x y (code ts are is a) (code us them too b) =
     let same : ts ≡ us = gives_tokens text (Ok ts) are us them in
-    some_is x y (sym a ∙ ap (λ (l : List Lexeme). undefined l conf) same ∙ b)
+    same_Some x y (sym a ∙ ap (λ (l : List Lexeme). undefined l conf) same ∙ b)
 one_place text conf x y (code ts are is a) (no_code none e) = absurd (none ts are is)
 one_place text conf x y (code ts are is a) (no_memory e) = absurd (place_no_memory y e)
 one_place text conf x y (no_code none e) b = absurd (fault_no_text text (UndefinedName x) e)

@@ -5,6 +5,7 @@ use Rattle.std.specs.List.{list_all}
 use Rattle.std.specs.Char.{is_digit}
 use Rattle.std.specs.Str.Parse.{digits_value}
 use Rattle.std.proofs.lemmas.Bool.{and_parts, ltb-true}
+use Rattle.std.proofs.lemmas.Option.{same_Some, none-some}
 use Rattle.dap_base.specs.Number.{number_value, digits_number, after_zero, marks_hexadecimal}
 use Rattle.expr_grammar.specs.declared.token.TokenKind.{TokenKind}
 use Rattle.expr_grammar.specs.Lexeme.{Lexeme}
@@ -23,34 +24,28 @@ use Rattle.dbgconf_text.proofs.Items.{reads_length}
 
 -- ---- numbers have 64 bits
 
-some_is : (a b : ℕ) → Some a ≡ Some b → a ≡ b
-some_is a b e = cc
-
-none_some : (v : ℕ) → None ≡ Some v → ⊥
-none_some v e = cc
-
 small_by : (radix v : ℕ) (ds : List ℕ) (b : Bool) → (list_all (λ c. is_digit c radix) ds && nat_lt (digits_value radix ds) (2 ^ 64)) ≡ b → cond b (Some (digits_value radix ds)) None ≡ Some v → v < 2 ^ 64
 small_by radix v ds true is e =
     let lt = ltb-true (digits_value radix ds) (2 ^ 64) (and_parts (list_all (λ c. is_digit c radix) ds) (nat_lt (digits_value radix ds) (2 ^ 64)) is).1 in
-    subst (λ (x : ℕ). x < 2 ^ 64) (some_is (digits_value radix ds) v e) lt
-small_by radix v ds false is e = absurd (none_some v e)
+    subst (λ (x : ℕ). x < 2 ^ 64) (same_Some (digits_value radix ds) v e) lt
+small_by radix v ds false is e = absurd (none-some v e)
 
 small_digits : (radix : ℕ) (ds : List ℕ) (v : ℕ) → digits_number radix ds ≡ Some v → v < 2 ^ 64
-small_digits radix [] v e = absurd (none_some v e)
+small_digits radix [] v e = absurd (none-some v e)
 small_digits radix (d ∷ ds) v e = small_by radix v (d ∷ ds) (list_all (λ c. is_digit c radix) (d ∷ ds) && nat_lt (digits_value radix (d ∷ ds)) (2 ^ 64)) refl e
 
 zero_small : 0 < 2 ^ 64
 zero_small = omega arith
 
 small_after : (cs : List ℕ) (v : ℕ) → after_zero cs ≡ Some v → v < 2 ^ 64
-small_after [] v e = subst (λ (x : ℕ). x < 2 ^ 64) (some_is 0 v e) zero_small
+small_after [] v e = subst (λ (x : ℕ). x < 2 ^ 64) (same_Some 0 v e) zero_small
 small_after (c ∷ cs) v e = by (marks_hexadecimal c) e where
   by : (b : Bool) → cond b (digits_number 16 cs) None ≡ Some v → v < 2 ^ 64
   by true e = small_digits 16 cs v e
-  by false e = absurd (none_some v e)
+  by false e = absurd (none-some v e)
 
 pub small_number : (t : List ℕ) (v : ℕ) → number_value t ≡ Some v → v < 2 ^ 64
-small_number [] v e = absurd (none_some v e)
+small_number [] v e = absurd (none-some v e)
 small_number (c ∷ cs) v e = by (eqb c 48) e where
   by : (b : Bool) → cond b (after_zero cs) (digits_number 10 (c ∷ cs)) ≡ Some v → v < 2 ^ 64
   by true e = small_after cs v e

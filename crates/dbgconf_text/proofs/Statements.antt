@@ -7,6 +7,8 @@ use Rattle.std.proofs.iter.FirstChar.{beside_ascii}
 use Rattle.std.proofs.lemmas.Str.{IsUtf8-drop}
 use Rattle.std.proofs.lemmas.Bool.{both_ways, false_from_ne_true}
 use Rattle.std.proofs.lemmas.List.{length-append, length-drop, length-take-le, drop-drop, take_at, drop_at, take-append-drop, get_or-drop, get_or-take, drop_all}
+use Rattle.std.proofs.Math.Bool.{or-false}
+use Rattle.std.proofs.lemmas.Option.{same_Some}
 use Rattle.text_lines.specs.Hex.{hex}
 use Rattle.expr_grammar.specs.declared.code.Name.{Name}
 use Rattle.expr_grammar.specs.Lexeme.{Lexeme}
@@ -24,11 +26,10 @@ use Rattle.expr_grammar.specs.Plain.{ArePlain}
 use Rattle.expr_grammar.proofs.Plain.{name_plain, plain}
 use Rattle.dbgconf_text.proofs.Changed as changed
 use Rattle.dbgconf_text.proofs.Changed.{NoKeyword, NoKeywords, skip_all, no_keywords, keywords_append, semi_found, semi_no_keyword, equals_no_keyword, keyword_is, parts_of, semi_is, not_end, name_not_end}
+use Rattle.dbgconf_text.proofs.Items.{nil_cons}
+use Rattle.dap_base.proofs.Basics.{some_none}
 
 -- ---- values
-
-some_none : {A : Type 0} (x : A) → Some x ≡ None → ⊥
-some_none x e = cc
 
 eq_along : (a b c : List ℕ) → bytes_eq a b ≡ true → bytes_eq a c ≡ bytes_eq b c
 eq_along a b c e = ap (λ (l : List ℕ). bytes_eq l c) ((bytes_decides a b).0 e)
@@ -115,14 +116,11 @@ size_of left own front semi right e f p is =
 pos_of : (own front : List Lexeme) (semi : Lexeme) → own ≡ front ++ semi ∷ [] → 0 < length own
 pos_of own front semi f = omega (arith, ap length f, length-append front (semi ∷ []))
 
-nil_code : (k : Lexeme) (ts : List Lexeme) → k ∷ ts ≡ [] → ⊥
-nil_code k ts e = cc
-
 var_plain : (k : Lexeme) → IsMark (codes "__var") k → is_mark (codes ";") k ≡ false
 var_plain k is = not_end k (codes "__var") is refl
 
 pub first : (code : List StmtTree) (k : Lexeme) (ts : List Lexeme) → ReadsCode (k ∷ ts) code → First (k ∷ ts)
-first [] k ts r = absurd (nil_code k ts r)
+first [] k ts r = absurd (nil_cons k ts r)
 first (t.Empty at ∷ more) k ts r =
     let one = r.first in
     record {
@@ -204,13 +202,9 @@ cuts_declared set var name equals semi mid right n e a b c d f =
     let text = b.text_is in
     rw (key, text, rest_cuts) refl
 
-or_false : (b : Bool) → (b || false) ≡ b
-or_false true = refl
-or_false false = refl
-
 pending_free : (set : List Setting) (before own : List Lexeme) (m : List ℕ) → flag false before ≡ false → NoKeywords own → pending set (before ++ own) m ≡ pending set before m
 pending_free set before own m f h =
-    let e : declares false (before ++ own) m ≡ declares false before m = declares_append false before own m ∙ ap (λ (v : Bool). declares false before m || declares v own m) f ∙ ap (λ (v : Bool). declares false before m || v) (free_false own m h) ∙ or_false (declares false before m) in
+    let e : declares false (before ++ own) m ≡ declares false before m = declares_append false before own m ∙ ap (λ (v : Bool). declares false before m || declares v own m) f ∙ ap (λ (v : Bool). declares false before m || v) (free_false own m h) ∙ or-false (declares false before m) in
     ap (λ (v : Bool). cond v None (value_of m set)) e
 
 declares_one : (own : List Lexeme) (n : Name) (e : Tree) (p : changed.Parts own n e) (m : List ℕ) → declares false own m ≡ bytes_eq n.text m
@@ -219,7 +213,7 @@ declares_one own n e p m =
     let text = p.is_name.text_is in
     let name = (name_plain n p.name p.is_name).keyword in
     let rest : declares false (p.equals ∷ (p.mid ++ p.semi ∷ [])) m ≡ false = free_false (p.equals ∷ (p.mid ++ p.semi ∷ [])) m (equals_no_keyword p.equals p.is_equals, keywords_append p.mid (p.semi ∷ []) (no_keywords p.mid (plain e 0 p.mid p.value)) (semi_no_keyword p.semi p.is_semi, tt)) in
-    let whole : declares false (p.var ∷ p.name ∷ p.equals ∷ (p.mid ++ p.semi ∷ [])) m ≡ bytes_eq n.text m = rw (key, name, rest, text) (or_false (bytes_eq n.text m)) in
+    let whole : declares false (p.var ∷ p.name ∷ p.equals ∷ (p.mid ++ p.semi ∷ [])) m ≡ bytes_eq n.text m = rw (key, name, rest, text) (or-false (bytes_eq n.text m)) in
     ap (λ (l : List Lexeme). declares false l m) p.parts ∙ whole
 
 flag_one : (own : List Lexeme) (n : Name) (e : Tree) (p : changed.Parts own n e) → flag false own ≡ false
@@ -379,9 +373,6 @@ module _ (text out rest : List ℕ) (all : List Lexeme) (n : ℕ) (set : List Se
 
 -- ---- by what the code finds
 
-some_is : (c d : Cut) → Some c ≡ Some d → c ≡ d
-some_is c d e = cc
-
 -- a statement without a keyword has no cut, and leaves the values
 cut_free : (value : List ℕ → Option ℕ) (own : List Lexeme) → NoKeywords own → cut_of value own ≡ None
 cut_free value [] h = refl
@@ -467,7 +458,7 @@ module _ (text out rest : List ℕ) (all : List Lexeme) (n : ℕ) (set : List Se
       record {
         some = f.some;
         within = seen.within;
-        can = λ d same. subst (CanCut text rest) (some_is c d (sym is ∙ same)) made.can;
+        can = λ d same. subst (CanCut text rest) (same_Some c d (sym is ∙ same)) made.can;
         next = subst (λ (o : Option Cut). Splicing text (out_after text rest out o) (rest_after text rest o) all (n + length f.own) set) (sym is) made.next;
         left = λ name. left_one (pending set (take n all)) f.own m t p name ∙ sym (pending_declared set (take n all) f.own m t p name s.apart) ∙ ap (λ (l : List Lexeme). pending set l name) (sym seen.before);
       }

@@ -2,6 +2,7 @@
 use Rattle.std.proofs.Common.{◌≡◌, ℕ, Bool, true, false, cond, List, [], ◌∷◌, Option, Some, None, Ok, refl, sym, ap, ◌∙◌}
 use Rattle.std.specs.Str.{bytes_eq}
 use Rattle.std.specs.Cmp.Lexicographic.{bytes_decides}
+use Rattle.std.proofs.lemmas.Option.{none-some, same_Some}
 use Rattle.expr_grammar.specs.declared.code.Name.{Name}
 use Rattle.expr_grammar.specs.declared.limit.Span.TheVariants.{Statement}
 use Rattle.expr_grammar.specs.Lexeme.{Lexeme}
@@ -16,15 +17,7 @@ use Rattle.dbgconf_text.specs.Replacing.{Replaces, settings_of}
 use Rattle.dbgconf_text.specs.There.{AreThere, first_declared}
 use Rattle.dbgconf_text.proofs.Statements.{value_without}
 use Rattle.dbgconf_text.proofs.Replaced.{has_values}
-
-own_name : (n : List ℕ) → bytes_eq n n ≡ true
-own_name n = (bytes_decides n n).1 refl
-
-none_some : (v : ℕ) → None ≡ Some v → ⊥
-none_some v e = cc
-
-some_is : (x y : Tree) → Some x ≡ Some y → x ≡ y
-some_is x y e = cc
+use Rattle.dap_base.proofs.Basics.{text_itself}
 
 -- a declaration with its own value
 own_value : (o : Option ℕ) (e : Tree) → ((v : ℕ) → o ≡ Some v → e ≡ Number v) → new_value o e ≡ e
@@ -38,7 +31,7 @@ has_own o e v same is = sym same ∙ ap (λ (p : Option ℕ). new_value p e) is
 
 there_by : (b : Bool) (name : List ℕ) (set : List Setting) (value : ℕ) (d e : Tree) (more : Option Tree)
     → cond b None (value_of name set) ≡ Some value → more ≡ Some e → (value_of name set ≡ Some value) × (cond b (Some d) more ≡ Some e)
-there_by true name set value d e more is there = absurd (none_some value is)
+there_by true name set value d e more is there = absurd (none-some value is)
 there_by false name set value d e more is there = (is, there)
 
 there_after : (n : Name) (d : Tree) (more : List StmtTree) (set : List Setting) → AreThere set (Declare n d ∷ more) → AreThere (without n.text set) more
@@ -51,7 +44,7 @@ not_changed [] set h = refl
 not_changed (Empty at ∷ more) set h = ap (λ (c : List StmtTree). Empty at ∷ c) (not_changed more set h)
 not_changed (Plain at e ∷ more) set h = ap (λ (c : List StmtTree). Plain at e ∷ c) (not_changed more set h)
 not_changed (Declare n e ∷ more) set h =
-    let there : first_declared n.text (Declare n e ∷ more) ≡ Some e = rw (own_name n.text) refl in
+    let there : first_declared n.text (Declare n e ∷ more) ≡ Some e = rw (text_itself n.text) refl in
     let own : new_value (value_of n.text set) e ≡ e = own_value (value_of n.text set) e (λ v is. h n.text v e is there) in
     ap (λ (x : Tree). Declare n x ∷ with_values (without n.text set) more) own ∙ ap (λ (c : List StmtTree). Declare n e ∷ c) (not_changed more (without n.text set) (there_after n e more set h))
 
@@ -68,7 +61,7 @@ there_before : (n : Name) (d : Tree) (more : List StmtTree) (set : List Setting)
 there_before n d more set own rest = λ name value e. by name value e (bytes_eq n.text name) refl where
   by : (name : List ℕ) (value : ℕ) (e : Tree) (b : Bool) → bytes_eq n.text name ≡ b → value_of name set ≡ Some value → cond (bytes_eq n.text name) (Some d) (first_declared name more) ≡ Some e → e ≡ Number value
   by name value e true eq is there =
-      let same : d ≡ e = some_is d e (sym (ap (λ (b : Bool). cond b (Some d) (first_declared name more)) eq) ∙ there) in
+      let same : d ≡ e = same_Some d e (sym (ap (λ (b : Bool). cond b (Some d) (first_declared name more)) eq) ∙ there) in
       let value_is : value_of n.text set ≡ Some value = ap (λ (m : List ℕ). value_of m set) ((bytes_decides n.text name).0 eq) ∙ is in
       sym same ∙ has_own (value_of n.text set) d value own value_is
   by name value e false eq is there =

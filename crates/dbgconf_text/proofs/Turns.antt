@@ -4,13 +4,14 @@ use Rattle.std.specs.Prelude.{codes}
 use Rattle.std.specs.List.{IsDistinct, list_any}
 use Rattle.std.specs.Str.{bytes_eq}
 use Rattle.std.specs.Cmp.Lexicographic.{bytes_decides}
-use Rattle.std.proofs.lemmas.Bool.{both_ways, cases_order, or_parts, or_from, false_from_ne_true}
+use Rattle.std.proofs.lemmas.Bool.{both_ways, cases_order, or_parts, or_from}
 use Rattle.std.proofs.lemmas.List.{append-nil, drop_at, length-take-le, take_all, map_push}
-use Rattle.std.proofs.lemmas.Option.{slice_get_within}
-use Rattle.std.specs.Cmp.{IsEquivalence}
+use Rattle.std.proofs.lemmas.Option.{slice_get_within, same_Some}
+use Rattle.std.specs.Cmp.{IsEquivalence, both_ways as same_bool}
 use Rattle.std.proofs.lemmas.Map.Keys.{IsDistinct-push}
 use Rattle.dap_base.specs.declared.text.Place.{Place}
 use Rattle.dap_base.specs.Number.{number_value}
+use Rattle.dap_base.proofs.Basics.{other_text}
 use Rattle.expr_grammar.specs.declared.code.Name.{Name}
 use Rattle.expr_grammar.specs.declared.token.TokenKind.{TokenKind}
 use Rattle.expr_grammar.specs.declared.token.TokenKind.TheVariants as kinds
@@ -28,15 +29,12 @@ use Rattle.dbgconf_text.proofs.Items.{unexpected, nothing, after_name, after_equ
 
 -- ---- tokens by their index
 
-some_is : (a b : Lexeme) → Some a ≡ Some b → a ≡ b
-some_is a b e = cc
-
 none_some : {A : Type 0} (x : A) → None ≡ Some x → ⊥
 none_some x e = cc
 
 pub split : (ts : List Lexeme) (i : ℕ) (k : Lexeme) → slice_get ts i ≡ Some k → ts ≡ take i ts ++ k ∷ drop (i + 1) ts
 split [] i k e = absurd (none_some k e)
-split (x ∷ ts) zero k e = ap (λ (y : Lexeme). y ∷ ts) (some_is x k e)
+split (x ∷ ts) zero k e = ap (λ (y : Lexeme). y ∷ ts) (same_Some x k e)
 split (x ∷ ts) (suc i) k e =
     let n : suc i + 1 ≡ suc (i + 1) = omega arith in
     let same : drop (suc i + 1) (x ∷ ts) ≡ drop (i + 1) ts = ap (λ (n : ℕ). drop n (x ∷ ts)) n in
@@ -51,7 +49,7 @@ at_front (x ∷ ts) (suc n) = at_front ts n
 -- what is left from an index on, where a token stands there
 pub left_at : (ts : List Lexeme) (n : ℕ) (k : Lexeme) → slice_get ts n ≡ Some k → drop n ts ≡ k ∷ drop (n + 1) ts
 left_at [] n k e = absurd (none_some k e)
-left_at (x ∷ ts) zero k e = ap (λ (y : Lexeme). y ∷ ts) (some_is x k e)
+left_at (x ∷ ts) zero k e = ap (λ (y : Lexeme). y ∷ ts) (same_Some x k e)
 left_at (x ∷ ts) (suc n) k e =
     let m : suc n + 1 ≡ suc (n + 1) = omega arith in
     left_at ts n k e ∙ ap (λ (l : List Lexeme). k ∷ l) (sym (ap (λ (m : ℕ). drop m (x ∷ ts)) m))
@@ -101,7 +99,7 @@ number_none o k v e is n =
 fresh_here : (ts : List Lexeme) (i : ℕ) (conf : List ConfItem) (a : Lexeme) → Stands ts i conf → slice_get ts i ≡ Some a → has_name conf a.text ≡ false → IsRepeated ts i → ⊥
 fresh_here ts i conf a s at fresh r =
     let same : r.before ≡ conf = one_conf r.before conf (take i ts) r.reads s.reads in
-    let here : r.here ≡ a = some_is r.here a (sym r.at ∙ at) in
+    let here : r.here ≡ a = same_Some r.here a (sym r.at ∙ at) in
     let again : has_name conf a.text ≡ true = ap (λ (k : Lexeme). has_name conf k.text) (sym here) ∙ ap (λ (c : List ConfItem). has_name c r.here.text) (sym same) ∙ r.again in
     both_ways (has_name conf a.text) fresh again
 
@@ -203,12 +201,6 @@ distinct_nil : IsDistinct bytes_eq (names [])
 unfolding IsDistinct
 distinct_nil = tt
 
-same_bool : (a b : Bool) → (a ≡ true → b ≡ true) → (b ≡ true → a ≡ true) → a ≡ b
-same_bool true true f g = refl
-same_bool true false f g = sym (f refl)
-same_bool false true f g = g refl
-same_bool false false f g = refl
-
 bytes_eq_equiv : IsEquivalence bytes_eq
 bytes_eq_equiv = record {
   refl = λ x. (bytes_decides x x).1 refl;
@@ -219,14 +211,11 @@ bytes_eq_equiv = record {
 pub starts : (ts : List Lexeme) (conf : List ConfItem) → conf ≡ [] → Stands ts 0 conf
 starts ts conf is = subst (Stands ts 0) (sym is) (record { within = omega arith; reads = refl; distinct = distinct_nil; none = λ j lt r. absurd (omega (arith, lt)) })
 
-eq_sym : (a b : List ℕ) → bytes_eq a b ≡ false → bytes_eq b a ≡ false
-eq_sym a b e = false_from_ne_true (bytes_eq b a) (λ is. both_ways (bytes_eq a b) e ((bytes_decides a b).1 (sym ((bytes_decides b a).0 is))))
-
 fresh_names : (conf : List ConfItem) (name : List ℕ) → has_name conf name ≡ false → list_any (bytes_eq name) (names conf) ≡ false
 fresh_names [] name e = refl
 fresh_names (x ∷ conf) name e =
     let two = or_parts (bytes_eq x.name.text name) (has_name conf name) e in
-    or_from (bytes_eq name x.name.text) (list_any (bytes_eq name) (names conf)) (eq_sym x.name.text name two.0) (fresh_names conf name two.1)
+    or_from (bytes_eq name x.name.text) (list_any (bytes_eq name) (names conf)) (other_text x.name.text name two.0) (fresh_names conf name two.1)
 
 nothing_taken : (n : ℕ) → take {A = Lexeme} n [] ≡ []
 nothing_taken zero = refl

@@ -10,7 +10,7 @@ ghost use Rattle.device_tree.specs.StepsReading.{block_step, inner_steps, contro
 use crate::steps::{Step, Steps};
 use json_form::{
     Flag, JobFault, Number, Path, Reader, Text, fault_under_index, fault_under_key, member_or,
-    missing, only_keys_of, optional_of, required_of,
+    missing_fault, only_keys_of, optional_of, required_of,
 };
 use serde_json::Value;
 use std::alloc::Global;
@@ -46,7 +46,7 @@ fn inner_of(alloc: Global, value: &Value) -> Result<Steps, JobFault>
             Ok(steps) => Ok(steps),
             Err(fault) => Err(fault_under_key(alloc, fault, "control")),
         },
-        None => Err(missing(alloc, "control")),
+        None => Err(missing_fault(alloc, "control")),
     }
 }
 

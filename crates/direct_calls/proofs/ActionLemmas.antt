@@ -1,7 +1,7 @@
 -- Actions in order: what two lists in a row come to.
-use Rattle.std.proofs.Common.{◌≡◌, ◌∙◌, ℕ, Bool, true, false, cond, List, [], ◌∷◌, ◌++◌, map, drop, get_or, length, ◌<◌, ◌≤◌, ◌+◌, zero, suc, arith, sym, subst, refl, ap}
+use Rattle.std.proofs.Common.{◌≡◌, ◌∙◌, ℕ, true, false, List, [], ◌∷◌, ◌++◌, map, drop, get_or, length, ◌<◌, ◌≤◌, ◌+◌, zero, suc, arith, sym, subst, refl, ap}
 use Rattle.std.proofs.lemmas.List.{drop_more}
-use Rattle.target_machine.proofs.ActionLists.{order_from, order_fault}
+use Rattle.target_machine.proofs.ActionLists.{order_from, order_fault, order_next}
 use Rattle.target_machine.specs.Attempt.{Attempt, done}
 use Rattle.target_machine.specs.Plain.{Action, Makes, acted, then_acted, in_order, is_fault}
 use Rattle.target_machine.specs.State.{TargetState}
@@ -10,9 +10,6 @@ use Rattle.target_machine.specs.declared.access.RegAccess.{RegAccess}
 order_append : (m : Attempt) (xs ys : List Action) → order_from m (xs ++ ys) ≡ order_from (order_from m xs) ys
 order_append m [] ys = refl
 order_append m (x ∷ xs) ys = order_append (then_acted m x) xs ys
-
-pub order_next : (m : Attempt) (a : Action) (ys : List Action) → is_fault m.outcome ≡ false → order_from m (a ∷ ys) ≡ order_from (acted m.next a) ys
-order_next m a ys good = ap (λ (b : Bool). order_from (cond b m (acted m.next a)) ys) good
 
 -- the first list ends at a fault
 pub joined_fault : (t : TargetState) (xs ys : List Action) (x : Attempt) → x ≡ in_order t xs → is_fault x.outcome ≡ true → x ≡ in_order t (xs ++ ys)

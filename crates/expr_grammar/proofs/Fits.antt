@@ -18,10 +18,10 @@ use Rattle.expr_grammar.specs.Fits.{counted_after, Fits}
 
 -- ---- the definition, token by token
 
-suffix_push : (p : Lexeme → Bool) (ts : List Lexeme) (k : Lexeme) → suffix_len p (ts ++ k ∷ []) ≡ cond (p k) (1 + suffix_len p ts) 0
+pub suffix_push : (p : Lexeme → Bool) (ts : List Lexeme) (k : Lexeme) → suffix_len p (ts ++ k ∷ []) ≡ cond (p k) (1 + suffix_len p ts) 0
 suffix_push p ts k = ap (prefix_len p) (reverse-append ts (k ∷ []))
 
-after_by : (p : Lexeme → Bool) (ts : List Lexeme) (k : Lexeme) (v : Bool) → p k ≡ v → after_last p (ts ++ k ∷ []) ≡ cond v [] (after_last p ts ++ k ∷ [])
+pub after_by : (p : Lexeme → Bool) (ts : List Lexeme) (k : Lexeme) (v : Bool) → p k ≡ v → after_last p (ts ++ k ∷ []) ≡ cond v [] (after_last p ts ++ k ∷ [])
 after_by p ts k true is =
     let suffix : suffix_len (λ x. not (p x)) (ts ++ k ∷ []) ≡ 0 = suffix_push (λ x. not (p x)) ts k ∙ ap (λ v. cond (not v) (1 + suffix_len (λ x. not (p x)) ts) 0) is in
     drop_all (length (ts ++ k ∷ []) - suffix_len (λ x. not (p x)) (ts ++ k ∷ [])) (ts ++ k ∷ []) (omega (arith, suffix))

@@ -1,8 +1,8 @@
 -- What a token is, by the tests of the reader.
 use Rattle.std.proofs.Common.{◌≡◌, ℕ, Bool, true, false, cond, List, Option, Some, None, refl, sym, ap, ◌∙◌}
-use Rattle.std.specs.Prelude.{◌&&◌}
 use Rattle.std.specs.Str.{bytes_eq}
 use Rattle.std.specs.Cmp.Lexicographic.{same_text}
+use Rattle.std.proofs.lemmas.Bool.{and_parts}
 use Rattle.expr_grammar.specs.declared.code.UnaryOp.{UnaryOp}
 use Rattle.expr_grammar.specs.declared.code.UnaryOp.TheVariants as u
 use Rattle.expr_grammar.specs.declared.code.BinaryOp.{BinaryOp}
@@ -41,13 +41,9 @@ mark_kind_is kinds.Number e = absurd cc
 mark_kind_is kinds.Name e = absurd cc
 mark_kind_is kinds.Text e = absurd cc
 
-both_true : (x y : Bool) → (x && y) ≡ true → (x ≡ true) × (y ≡ true)
-both_true true y e = (refl, e)
-both_true false y e = absurd cc
-
 pub mark_from : (text : List ℕ) (k : Lexeme) → is_mark text k ≡ true → IsMark text k
 mark_from text k e =
-    let two = both_true (is_mark_kind k.kind) (bytes_eq k.text text) e in
+    let two = and_parts (is_mark_kind k.kind) (bytes_eq k.text text) e in
     record { kind = mark_kind_is k.kind two.0; text_is = same_text k.text text (sym two.1) }
 
 binary_from : (k : Lexeme) (op : BinaryOp) (v : Bool) → is_mark_kind k.kind ≡ v → cond v (operator_of k.text) None ≡ Some op → IsMark (binary_text op) k

@@ -51,10 +51,10 @@ blank_ascii c e = grind (arith, nat_tests)
 decimal_no_letter : (c : ℕ) → is_decimal c ≡ true → is_letter c ≡ false
 decimal_no_letter c e = grind (arith, nat_tests)
 
-single_no_word : (c : ℕ) → is_single c ≡ true → is_word c ≡ false
+pub single_no_word : (c : ℕ) → is_single c ≡ true → is_word c ≡ false
 single_no_word c e = grind (arith, nat_tests)
 
-pair_no_word : (a b : ℕ) → is_pair a b ≡ true → is_word a ≡ false
+pub pair_no_word : (a b : ℕ) → is_pair a b ≡ true → is_word a ≡ false
 pair_no_word a b e = grind (arith, nat_tests)
 
 pub single_ascii : (c : ℕ) → is_single c ≡ true → c < 128
@@ -271,7 +271,7 @@ no_gap_by bs no_blank no_line no_block n (blank is) = both_ways (is_blank (first
 no_gap_by bs no_blank no_line no_block n (line c) = both_ways (begins_line_comment bs) no_line c.opens
 no_gap_by bs no_blank no_line no_block n (block c) = both_ways (begins_block_comment bs) no_block c.opens
 
-decimal_no_blank : (c : ℕ) → is_decimal c ≡ true → is_blank c ≡ false
+pub decimal_no_blank : (c : ℕ) → is_decimal c ≡ true → is_blank c ≡ false
 decimal_no_blank c e = grind (arith, nat_tests)
 
 -- digits that are no number

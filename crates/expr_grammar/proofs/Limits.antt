@@ -1,9 +1,9 @@
 -- The first token that is too deep.
 use Rattle.std.proofs.Common.{◌≡◌, ℕ, zero, suc, ◌+◌, ◌-◌, ◌<◌, ◌≤◌, inl, inr, Bool, true, false, cond, eqb, List, [], ◌∷◌, ◌++◌, length, take, drop, get_or, refl, sym, ap, subst, ◌∙◌, arith, zero-add}
-use Rattle.std.specs.Prelude.{not, ◌&&◌, ◌||◌, codes}
-use Rattle.std.specs.List.{count_by, suffix_len, prefix_len, after_last}
+use Rattle.std.specs.Prelude.{◌&&◌, ◌||◌, codes}
+use Rattle.std.specs.List.{count_by}
 use Rattle.std.proofs.lemmas.Bool.{eqb-true, eq-eqb, and_parts, or_cases, both_ways, cases_lt}
-use Rattle.std.proofs.lemmas.List.{reverse-append, length-append, drop_all, drop-append-le, take_at, get_or_at, take_more, drop_more, take-append-drop, length-take-le}
+use Rattle.std.proofs.lemmas.List.{length-append, take_at, get_or_at, take_more, drop_more, take-append-drop, length-take-le}
 use Rattle.std.proofs.lemmas.List.Sums.{count_by-le-length, sum_by-append}
 use Rattle.expr_grammar.specs.declared.token.Token.{Token}
 use Rattle.expr_grammar.specs.declared.limit.Count.{Count}
@@ -15,23 +15,12 @@ use Rattle.expr_grammar.specs.Refusal.{counted_with_next, open_after, IsOneTooMa
 use Rattle.expr_grammar.specs.Counting.{IsCountOf, is_full, ends, counted, nothing_counted, with_token}
 use Rattle.expr_grammar.proofs.Found.{mark_from}
 use Rattle.expr_grammar.proofs.Levels.{mark_is}
+use Rattle.expr_grammar.proofs.Fits.{after_by}
 
 -- ---- one more token
 
 count_push : (p : Lexeme → Bool) (ts : List Lexeme) (k : Lexeme) → count_by p (ts ++ k ∷ []) ≡ count_by p ts + cond (p k) 1 0
 count_push p ts k = sum_by-append (λ x. cond (p x) 1 0) ts (k ∷ []) ∙ ap (λ (n : ℕ). count_by p ts + n) (zero-add (cond (p k) 1 0))
-
-suffix_push : (p : Lexeme → Bool) (ts : List Lexeme) (k : Lexeme) → suffix_len p (ts ++ k ∷ []) ≡ cond (p k) (1 + suffix_len p ts) 0
-suffix_push p ts k = ap (prefix_len p) (reverse-append ts (k ∷ []))
-
-after_by : (p : Lexeme → Bool) (ts : List Lexeme) (k : Lexeme) (v : Bool) → p k ≡ v → after_last p (ts ++ k ∷ []) ≡ cond v [] (after_last p ts ++ k ∷ [])
-after_by p ts k true is =
-    let suffix : suffix_len (λ x. not (p x)) (ts ++ k ∷ []) ≡ 0 = suffix_push (λ x. not (p x)) ts k ∙ ap (λ v. cond (not v) (1 + suffix_len (λ x. not (p x)) ts) 0) is in
-    drop_all (length (ts ++ k ∷ []) - suffix_len (λ x. not (p x)) (ts ++ k ∷ [])) (ts ++ k ∷ []) (omega (arith, suffix))
-after_by p ts k false is =
-    let suffix : suffix_len (λ x. not (p x)) (ts ++ k ∷ []) ≡ 1 + suffix_len (λ x. not (p x)) ts = suffix_push (λ x. not (p x)) ts k ∙ ap (λ v. cond (not v) (1 + suffix_len (λ x. not (p x)) ts) 0) is in
-    let at : length (ts ++ k ∷ []) - suffix_len (λ x. not (p x)) (ts ++ k ∷ []) ≡ length ts - suffix_len (λ x. not (p x)) ts = omega (arith, suffix, length-append ts (k ∷ [])) in
-    ap (λ (n : ℕ). drop n (ts ++ k ∷ [])) at ∙ drop-append-le (length ts - suffix_len (λ x. not (p x)) ts) ts (k ∷ []) (omega arith)
 
 counted_push : (span : Span) (ts : List Lexeme) (k : Lexeme) → counted_with_next span (ts ++ k ∷ []) ≡ cond (ends span k) [] (counted_with_next span ts ++ k ∷ [])
 counted_push Text ts k = refl

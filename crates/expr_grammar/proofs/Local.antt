@@ -1,18 +1,18 @@
 -- A piece at the front of a text depends on its own bytes and on the next one alone.
-use Rattle.std.proofs.Common.{◌≡◌, ℕ, zero, suc, ◌+◌, ◌-◌, ◌<◌, ◌≤◌, inl, inr, Bool, true, false, eqb, List, [], ◌∷◌, length, take, get_or, Some, refl, sym, ap, subst, ◌∙◌, arith}
+use Rattle.std.proofs.Common.{◌≡◌, ℕ, zero, suc, ◌+◌, ◌-◌, ◌<◌, ◌≤◌, Bool, true, false, eqb, List, [], ◌∷◌, length, take, get_or, refl, sym, ap, subst, ◌∙◌, arith}
 use Rattle.std.specs.List.{list_all}
 use Rattle.std.specs.Str.{bytes_eq}
 use Rattle.std.specs.Cmp.Lexicographic.{bytes_decides}
-use Rattle.std.proofs.lemmas.Bool.Decides.{nat_tests}
-use Rattle.std.proofs.lemmas.Bool.{both_ways, cases_lt, eqb-true, and_parts}
-use Rattle.std.proofs.lemmas.List.{length-take, length-take-le, get_or-take, take-take, get_or_past}
+use Rattle.std.proofs.lemmas.Bool.{both_ways, eqb-true, and_parts}
+use Rattle.std.proofs.lemmas.List.{length-take, length-take-le, get_or-take, take-take}
+use Rattle.std.proofs.lemmas.Option.{same_Some}
 use Rattle.expr_grammar.specs.declared.token.TokenKind.{TokenKind}
 use Rattle.expr_grammar.specs.declared.token.TokenKind.TheVariants as kinds
-use Rattle.expr_grammar.specs.Spelling.{is_letter, is_word, is_decimal, is_single, is_pair, keyword, IsMarkText, single, pair, var, IsTokenText}
+use Rattle.expr_grammar.specs.Spelling.{is_letter, is_word, is_decimal, keyword, IsMarkText, single, pair, var, IsTokenText}
 use Rattle.expr_grammar.specs.Lexing.{is_blank, is_in_line, begins_line_comment, begins_block_comment, closes, IsLineComment, IsBlockComment, IsGapFront, blank, line, block, IsTokenFront}
 use Rattle.expr_grammar.specs.Moved.{SameFront}
-use Rattle.expr_grammar.proofs.Fronts.{first, kind_is, token_some, words_of, list_all_get, decimal_is_word, letter_is_word, number_text, word_parts, single_no_quote, pair_no_quote}
-use Rattle.expr_grammar.proofs.Pieces.{string_found, text_kind, keyword_text}
+use Rattle.expr_grammar.proofs.Fronts.{first, kind_is, token_some, words_of, list_all_get, decimal_is_word, letter_is_word, number_text, word_parts, single_no_quote, pair_no_quote, single_no_word, pair_no_word}
+use Rattle.expr_grammar.proofs.Pieces.{string_found, text_kind, keyword_text, within_by}
 
 pub same_get : (n k : ℕ) (bs cs : List ℕ) → SameFront n bs cs → k < n → get_or bs k 0 ≡ get_or cs k 0
 same_get n k bs cs s lt = sym (get_or-take n bs k 0 lt) ∙ ap (λ (l : List ℕ). get_or l k 0) s ∙ get_or-take n cs k 0 lt
@@ -28,17 +28,10 @@ same_back n bs cs s = sym s
 
 -- ---- gaps
 
-some_by : (bs : List ℕ) (k c : ℕ) → get_or bs k 0 ≡ suc c → k < length bs
-some_by bs k c e =
-    elim (cases_lt k (length bs)) [
-      | inl lt ↦ lt
-      | inr ge ↦ absurd (omega (arith, e, get_or_past bs k 0 ge))
-    ]
-
 line_some : (n : ℕ) (bs : List ℕ) → IsLineComment n bs → 0 < n
 line_some zero bs c =
     let slash : get_or bs 0 0 ≡ 47 = eqb-true (get_or bs 0 0) 47 (and_parts (eqb (get_or bs 0 0) 47) (eqb (get_or bs 1 0) 47) c.opens).0 in
-    absurd (both_ways (is_in_line (get_or bs 0 0)) (c.ends (some_by bs 0 46 slash)) (rw slash refl))
+    absurd (both_ways (is_in_line (get_or bs 0 0)) (c.ends (within_by bs 0 46 slash)) (rw slash refl))
 line_some (suc n) bs c = omega arith
 
 opens_line_same : (n : ℕ) (bs cs : List ℕ) → SameFront n bs cs → 2 ≤ n → begins_line_comment bs ≡ begins_line_comment cs
@@ -108,12 +101,6 @@ longer_name n bs lt letter all w = by (bytes_eq (take (suc n) bs) keyword) refl 
     },
   )
 
-single_no_word : (c : ℕ) → is_single c ≡ true → is_word c ≡ false
-single_no_word c e = grind (arith, nat_tests)
-
-pair_no_word : (a b : ℕ) → is_pair a b ≡ true → is_word a ≡ false
-pair_no_word a b e = grind (arith, nat_tests)
-
 -- a mark but the keyword has one byte or two
 pub size_of_mark : {t : List ℕ} → IsMarkText t → is_letter (first t) ≡ false → length t ≤ 2
 size_of_mark (single is) l = omega arith
@@ -164,9 +151,6 @@ module _ (n : ℕ) (bs cs : List ℕ) (s : SameFront (suc n) bs cs) (t : IsToken
       let head : is_letter (first bs) ≡ true = ap is_letter (sym (get_or-take n bs 0 0 pos) ∙ ap first e) in
       words_longer kinds.Mark n bs cs s t head (ap (list_all is_word) e) other m lt le u
 
-some_is : (n m : ℕ) → Some n ≡ Some m → n ≡ m
-some_is n m e = cc
-
 token_pos : (kind : TokenKind) (n : ℕ) (bs : List ℕ) → IsTokenFront kind n bs → 0 < n
 token_pos kind n bs t = omega (arith, token_some kind (take n bs) t.is, length-take-le n bs t.within)
 
@@ -189,7 +173,7 @@ no_longer kinds.Text n bs cs s t other m lt le u =
     let k : other ≡ kinds.Text = text_kind other (take m cs) head u in
     let far = string_found cs m le (subst (λ (k : TokenKind). IsTokenText k (take m cs)) k u) in
     let near = string_found cs n (omega (arith, lt, le)) (subst (λ (l : List ℕ). IsTokenText kinds.Text l) (same_less (suc n) n bs cs s (omega arith)) t.is) in
-    let same : n - 1 ≡ m - 1 = some_is (n - 1) (m - 1) (sym near ∙ far) in
+    let same : n - 1 ≡ m - 1 = same_Some (n - 1) (m - 1) (sym near ∙ far) in
     absurd (omega (arith, same, pos, lt))
 no_longer kinds.Mark n bs cs s t other m lt le u = mark_longer n bs cs s t (token_pos kinds.Mark n bs t) other m lt le u t.is refl
 

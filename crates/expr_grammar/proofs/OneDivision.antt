@@ -9,17 +9,14 @@ use Rattle.expr_grammar.specs.declared.token.TokenKind.TheVariants as kinds
 use Rattle.expr_grammar.specs.declared.token_list.TokenError.{TokenError}
 use Rattle.expr_grammar.specs.declared.token_list.TokenError.TheVariants.{BadToken, OutOfMemory}
 use Rattle.expr_grammar.specs.Lexeme.{Lexeme}
-use Rattle.expr_grammar.specs.Spelling.{is_letter, is_decimal, IsMarkText, single, pair, var, IsTokenText}
+use Rattle.expr_grammar.specs.Spelling.{is_letter, IsMarkText, single, pair, var, IsTokenText}
 use Rattle.expr_grammar.specs.Lexing.{is_blank, is_in_line, place_at, begins_line_comment, begins_block_comment, closes, IsLineComment, IsBlockComment, IsGapFront, blank, line, block, IsTokenFront, Gap, nothing, more, IsTokenOf, Divides, AreTokensOf, IsStuck, IsFirstBad, Lexes, GivesTokens, GivesBad}
-use Rattle.expr_grammar.proofs.Fronts.{first, kind_is, token_some, number_text, single_no_blank, pair_no_blank}
+use Rattle.expr_grammar.proofs.Fronts.{first, kind_is, token_some, number_text, single_no_blank, pair_no_blank, decimal_no_blank}
 
 -- ---- one piece at a place
 
-slash_no_blank : (c : ℕ) → eqb c 47 ≡ true → is_blank c ≡ false
+pub slash_no_blank : (c : ℕ) → eqb c 47 ≡ true → is_blank c ≡ false
 slash_no_blank c e = grind (arith, nat_tests)
-
-decimal_no_blank : (c : ℕ) → is_decimal c ≡ true → is_blank c ≡ false
-decimal_no_blank c e = grind (arith, nat_tests)
 
 letter_no_blank : (c : ℕ) → is_letter c ≡ true → is_blank c ≡ false
 letter_no_blank c e = grind (arith, nat_tests)
@@ -172,7 +169,7 @@ one_list text ts us d e = (one_division text 0 ts us (length text) (length text)
 one_bad : (text : List ℕ) (m n : ℕ) → IsFirstBad text m → IsFirstBad text n → m ≡ n
 one_bad text m n b c = (one_division text 0 b.before c.before m n b.divides b.stuck c.divides c.stuck).end
 
-not_both : (text : List ℕ) (ts : List Lexeme) (n : ℕ) → AreTokensOf text ts → IsFirstBad text n → ⊥
+pub not_both : (text : List ℕ) (ts : List Lexeme) (n : ℕ) → AreTokensOf text ts → IsFirstBad text n → ⊥
 not_both text ts n d b =
     let end : length text ≡ n = (one_division text 0 ts b.before (length text) n d (end_stuck text) b.divides b.stuck).end in
     absurd (omega (arith, end, b.within))

@@ -13,6 +13,7 @@ use Rattle.expr_grammar.specs.Lexing.{is_blank, is_in_line, begins_line_comment,
 use Rattle.expr_grammar.specs.Front.{IsGapPiece, blanks, comment, IsCut, ClosesFirst, string_end, mark_len}
 use Rattle.expr_grammar.proofs.Strings.{ends_from, ends_at}
 use Rattle.expr_grammar.proofs.Fronts.{first, kind_is, token_some, no_gap_by, word_token, run_cut, run_pos, letter_is_word, list_all_run, first_taken, single_ascii, pair_ascii, blank_ascii}
+use Rattle.expr_grammar.proofs.OneDivision.{slash_no_blank}
 
 -- ---- names and the keyword
 
@@ -112,11 +113,8 @@ string_stuck bs e none = record {
 
 -- ---- comments
 
-slash_no_blank : (c : ℕ) → eqb c 47 ≡ true → is_blank c ≡ false
-slash_no_blank c e = grind (arith, nat_tests)
-
 -- an index whose byte is not 0 is within
-within_by : (bs : List ℕ) (k c : ℕ) → get_or bs k 0 ≡ suc c → k < length bs
+pub within_by : (bs : List ℕ) (k c : ℕ) → get_or bs k 0 ≡ suc c → k < length bs
 within_by bs k c e =
     elim (cases_lt k (length bs)) [
       | inl lt ↦ lt

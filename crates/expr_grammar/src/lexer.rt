@@ -23,11 +23,11 @@ pub fn tokens<'a>(alloc: Global, text: &'a str) -> Result<Tokens<'a>, TokenError
     ensures only { (ts : List Lexeme) → AreTokensOf text.now ts → GivesTokens ts result }
     ensures only_fault { (bad : ℕ) → IsFirstBad text.now bad → GivesBad (place_at text.now bad) result }
 {
-    cut(alloc, text)
+    cut_tokens(alloc, text)
 }
 
 // The tokens of `text`, or its first bad place.
-fn cut<'a>(alloc: Global, text: &'a str) -> Result<Tokens<'a>, TokenError>
+fn cut_tokens<'a>(alloc: Global, text: &'a str) -> Result<Tokens<'a>, TokenError>
     ensures { Lexes text.now result }
 {
     let mut items = ItemList::with_room(alloc, (text.len() / 3 + 1).min(MOST_ROOM))?;

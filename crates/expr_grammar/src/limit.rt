@@ -32,7 +32,7 @@ pub struct Count {
 
 impl Count {
     // Nothing was counted.
-    fn nothing() -> Count
+    fn new() -> Count
         ensures { result ≡ counting.nothing_counted }
     {
         Count {
@@ -58,7 +58,7 @@ impl Count {
         ensures { result ≡ counting.with_token span self.now (lexeme token.now) }
     {
         if span == Span::Statement && is_mark(token, b';') {
-            return Count::nothing();
+            return Count::new();
         }
         Count {
             tokens: self.tokens + 1,
@@ -74,7 +74,7 @@ pub fn limit_of(tokens: &[Token<'_>], span: Span) -> usize
     ensures before { NoneDeepBefore span (lexemes tokens.now) result }
     ensures here { result < length tokens.now → IsDeep span (lexemes tokens.now) result }
 {
-    let mut count = Count::nothing();
+    let mut count = Count::new();
     for (i, token) in tokens.iter().enumerate() {
         if count.is_full(token) {
             return i;

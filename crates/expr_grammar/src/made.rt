@@ -9,7 +9,7 @@ use dap_base::{OutOfMemory, Place};
 use function_table::function_of;
 use std::alloc::Global;
 
-fn boxed(alloc: Global, e: Expr) -> Result<Box<Expr>, OutOfMemory>
+fn box_expr(alloc: Global, e: Expr) -> Result<Box<Expr>, OutOfMemory>
     ensures { IfOk result (λ b. tree b.value ≡ tree e) }
 {
     Box::new(alloc, e).map_err(|_| OutOfMemory)
@@ -21,7 +21,7 @@ pub fn number(n: u64) -> Expr
     Expr::Number(n)
 }
 
-pub fn named(name: Box<Name>) -> Expr
+pub fn make_name(name: Box<Name>) -> Expr
     ensures { tree result ≡ trees.Named name.value }
 {
     Expr::Name(name)
@@ -30,31 +30,35 @@ pub fn named(name: Box<Name>) -> Expr
 pub fn group(alloc: Global, a: Expr) -> Result<Expr, OutOfMemory>
     ensures { IfOk result (λ e. tree e ≡ trees.Group (tree a)) }
 {
-    Ok(Expr::Group(boxed(alloc, a)?))
+    Ok(Expr::Group(box_expr(alloc, a)?))
 }
 
 pub fn unary(alloc: Global, op: UnaryOp, a: Expr) -> Result<Expr, OutOfMemory>
     ensures { IfOk result (λ e. tree e ≡ trees.Unary op (tree a)) }
 {
-    Ok(Expr::Unary(op, boxed(alloc, a)?))
+    Ok(Expr::Unary(op, box_expr(alloc, a)?))
 }
 
 pub fn binary(alloc: Global, op: BinaryOp, a: Expr, b: Expr) -> Result<Expr, OutOfMemory>
     ensures { IfOk result (λ e. tree e ≡ trees.Binary op (tree a) (tree b)) }
 {
-    Ok(Expr::Binary(op, boxed(alloc, a)?, boxed(alloc, b)?))
+    Ok(Expr::Binary(op, box_expr(alloc, a)?, box_expr(alloc, b)?))
 }
 
 pub fn choice(alloc: Global, test: Expr, a: Expr, b: Expr) -> Result<Expr, OutOfMemory>
     ensures { IfOk result (λ e. tree e ≡ trees.Cond (tree test) (tree a) (tree b)) }
 {
-    Ok(Expr::Cond(boxed(alloc, test)?, boxed(alloc, a)?, boxed(alloc, b)?))
+    Ok(Expr::Cond(
+        box_expr(alloc, test)?,
+        box_expr(alloc, a)?,
+        box_expr(alloc, b)?,
+    ))
 }
 
 pub fn assignment(alloc: Global, name: Box<Name>, a: Expr) -> Result<Expr, OutOfMemory>
     ensures { IfOk result (λ e. tree e ≡ trees.Assign name.value (tree a)) }
 {
-    Ok(Expr::Assign(name, boxed(alloc, a)?))
+    Ok(Expr::Assign(name, box_expr(alloc, a)?))
 }
 
 pub fn call(alloc: Global, name: Name, args: Args) -> Result<Expr, OutOfMemory>
@@ -79,7 +83,7 @@ pub fn text_arg(text: Box<TextArg>) -> Arg
     Arg::Text(text)
 }
 
-pub fn empty(at: Place) -> Stmt
+pub fn make_empty(at: Place) -> Stmt
     ensures { stmt_tree result ≡ trees.Empty at }
 {
     Stmt::Empty(at)
@@ -91,7 +95,7 @@ pub fn declaration(name: Box<Name>, value: Expr) -> Stmt
     Stmt::Declare(name, value)
 }
 
-pub fn plain(at: Place, value: Expr) -> Stmt
+pub fn make_plain(at: Place, value: Expr) -> Stmt
     ensures { stmt_tree result ≡ trees.Plain at (tree value) }
 {
     Stmt::Plain(at, value)

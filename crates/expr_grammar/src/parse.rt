@@ -14,7 +14,7 @@ ghost use Rattle.expr_grammar.specs.declared.limit.Span.TheVariants.{Text, State
 use crate::code::{Code, Expr};
 use crate::fault::Fault;
 use crate::limit::{Span, limit_of};
-use crate::parser::whole;
+use crate::parser::read_expression;
 use crate::statements::statements;
 use crate::token::Token;
 use crate::token_list::Tokens;
@@ -89,7 +89,7 @@ fn code_answer(alloc: Global, tokens: &Tokens<'_>) -> Result<Code, ParseError>
 fn expression(alloc: Global, tokens: &[Token<'_>]) -> Result<Expr, Fault>
     ensures { Gives tree result (all_of (reading.whole reading.read) (lexemes tokens.now)) }
 {
-    let (e, rest) = whole(alloc, tokens)?;
+    let (e, rest) = read_expression(alloc, tokens)?;
     if !rest.is_empty() {
         return Err(Fault::Unexpected(rest.len()));
     }

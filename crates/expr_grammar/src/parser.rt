@@ -18,7 +18,7 @@ use std::alloc::Global;
 /// An expression, and the tokens after it.
 #[cycle(parser)]
 #[tactic(auto, unfolding(crate::specs::Reading::whole, crate::specs::Reading::assigned), using(crate::proofs::Fix::fixes))]
-pub fn whole<'t, 'a>(
+pub fn read_expression<'t, 'a>(
     alloc: Global,
     tokens: &'t [Token<'a>],
 ) -> Result<(Expr, &'t [Token<'a>]), Fault>
@@ -46,10 +46,10 @@ fn assignment<'t, 'a>(
 {
     match next(tokens) {
         Some((mark, after)) if is_mark(&mark, b'=') => {
-            let (value, rest) = whole(alloc, after)?;
+            let (value, rest) = read_expression(alloc, after)?;
             Ok((made::assignment(alloc, name, value)?, rest))
         }
-        _ => Ok((made::named(name), tokens)),
+        _ => Ok((made::make_name(name), tokens)),
     }
 }
 
@@ -62,7 +62,7 @@ fn choice<'t, 'a>(alloc: Global, tokens: &'t [Token<'a>]) -> Result<(Expr, &'t [
 {
     let (test, rest) = at_level(alloc, 2, tokens)?;
     match next(rest) {
-        Some((mark, after)) if is_mark(&mark, b'?') => chosen(alloc, test, after),
+        Some((mark, after)) if is_mark(&mark, b'?') => read_choice_values(alloc, test, after),
         _ => Ok((test, rest)),
     }
 }
@@ -72,7 +72,7 @@ fn choice<'t, 'a>(alloc: Global, tokens: &'t [Token<'a>]) -> Result<(Expr, &'t [
 #[cycle(parser)]
 #[inline(never)]
 #[tactic(auto, using(crate::proofs::Fix::fixes))]
-fn chosen<'t, 'a>(
+fn read_choice_values<'t, 'a>(
     alloc: Global,
     test: Expr,
     tokens: &'t [Token<'a>],
@@ -80,7 +80,7 @@ fn chosen<'t, 'a>(
     ensures reads { Gives (λ x. (tree x.0, lexemes x.1.now)) result (reading.chosen reading.read (tree test) (lexemes tokens.now)) }
     ensures shorter { IfOk result (λ x. length x.1.now < length tokens.now) }
 {
-    let (then, rest) = whole(alloc, tokens)?;
+    let (then, rest) = read_expression(alloc, tokens)?;
     let rest = expect(rest, b':')?;
     let (other, rest) = choice(alloc, rest)?;
     Ok((made::choice(alloc, test, then, other)?, rest))
@@ -113,11 +113,14 @@ fn at_level<'t, 'a>(
 #[cycle(parser)]
 #[inline(never)]
 #[tactic(auto, using(crate::proofs::Fix::fixes))]
-fn grouped<'t, 'a>(alloc: Global, tokens: &'t [Token<'a>]) -> Result<(Expr, &'t [Token<'a>]), Fault>
+fn read_group<'t, 'a>(
+    alloc: Global,
+    tokens: &'t [Token<'a>],
+) -> Result<(Expr, &'t [Token<'a>]), Fault>
     ensures reads { Gives (λ x. (tree x.0, lexemes x.1.now)) result (reading.grouped reading.read (lexemes tokens.now)) }
     ensures shorter { IfOk result (λ x. length x.1.now < length tokens.now) }
 {
-    let (inner, rest) = whole(alloc, tokens)?;
+    let (inner, rest) = read_expression(alloc, tokens)?;
     let rest = expect(rest, b')')?;
     Ok((made::group(alloc, inner)?, rest))
 }
@@ -137,13 +140,13 @@ fn operand<'t, 'a>(alloc: Global, tokens: &'t [Token<'a>]) -> Result<(Expr, &'t 
             Some(n) => Ok((made::number(n), rest)),
             None => Err(Fault::Unexpected(tokens.len())),
         },
-        TokenKind::Name => named(alloc, name_of(alloc, &token)?, rest),
+        TokenKind::Name => read_name_or_call(alloc, name_of(alloc, &token)?, rest),
         TokenKind::Text => Err(Fault::Unexpected(tokens.len())),
         TokenKind::Mark => match unary_of(token.text) {
-            Some(op) => signed(alloc, op, rest),
+            Some(op) => read_unary(alloc, op, rest),
             None => {
                 if is_mark(&token, b'(') {
-                    grouped(alloc, rest)
+                    read_group(alloc, rest)
                 } else {
                     Err(Fault::Unexpected(tokens.len()))
                 }
@@ -156,7 +159,7 @@ fn operand<'t, 'a>(alloc: Global, tokens: &'t [Token<'a>]) -> Result<(Expr, &'t 
 #[cycle(parser)]
 #[inline(never)]
 #[tactic(auto, using(crate::proofs::Fix::fixes))]
-fn signed<'t, 'a>(
+fn read_unary<'t, 'a>(
     alloc: Global,
     op: UnaryOp,
     tokens: &'t [Token<'a>],
@@ -171,7 +174,7 @@ fn signed<'t, 'a>(
 // A name, or a call of it, after the name.
 #[cycle(parser)]
 #[tactic(auto, using(crate::proofs::Fix::fixes))]
-fn named<'t, 'a>(
+fn read_name_or_call<'t, 'a>(
     alloc: Global,
     name: Name,
     tokens: &'t [Token<'a>],
@@ -180,15 +183,15 @@ fn named<'t, 'a>(
     ensures shorter { IfOk result (λ x. length x.1.now ≤ length tokens.now) }
 {
     match next(tokens) {
-        Some((mark, after)) if is_mark(&mark, b'(') => called(alloc, name, after),
-        _ => Ok((made::named(boxed_name(alloc, name)?), tokens)),
+        Some((mark, after)) if is_mark(&mark, b'(') => read_call(alloc, name, after),
+        _ => Ok((made::make_name(boxed_name(alloc, name)?), tokens)),
     }
 }
 
 // A call, after its opening parenthesis.
 #[cycle(parser)]
 #[tactic(auto, using(crate::proofs::Fix::fixes))]
-fn called<'t, 'a>(
+fn read_call<'t, 'a>(
     alloc: Global,
     name: Name,
     tokens: &'t [Token<'a>],
@@ -222,7 +225,7 @@ fn argument<'t, 'a>(alloc: Global, tokens: &'t [Token<'a>]) -> Result<(Arg, &'t 
             None => Err(Fault::Unexpected(tokens.len())),
         },
         _ => {
-            let (value, rest) = whole(alloc, tokens)?;
+            let (value, rest) = read_expression(alloc, tokens)?;
             Ok((made::expr_arg(token.at, value), rest))
         }
     }

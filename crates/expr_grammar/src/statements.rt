@@ -12,7 +12,7 @@ use crate::cursor::{expect, expect_name, next};
 use crate::fault::Fault;
 use crate::made;
 use crate::operators::{is_declaration, is_mark};
-use crate::parser::whole;
+use crate::parser::read_expression;
 use crate::token::Token;
 use dap_base::Place;
 use std::alloc::Global;
@@ -28,14 +28,14 @@ fn declaration<'t, 'a>(
 {
     let (name, rest) = expect_name(alloc, tokens)?;
     let rest = expect(rest, b'=')?;
-    let (value, rest) = whole(alloc, rest)?;
+    let (value, rest) = read_expression(alloc, rest)?;
     let rest = expect(rest, b';')?;
     Ok((made::declaration(name, value), rest))
 }
 
 // An expression and its semicolon.
 #[tactic(auto, unfolding(crate::specs::Reading::plain))]
-fn plain<'t, 'a>(
+fn read_plain<'t, 'a>(
     alloc: Global,
     at: Place,
     tokens: &'t [Token<'a>],
@@ -43,9 +43,9 @@ fn plain<'t, 'a>(
     ensures reads { Gives (λ x. (stmt_tree x.0, lexemes x.1.now)) result (reading.plain reading.read at (lexemes tokens.now)) }
     ensures shorter { IfOk result (λ x. length x.1.now < length tokens.now) }
 {
-    let (value, rest) = whole(alloc, tokens)?;
+    let (value, rest) = read_expression(alloc, tokens)?;
     let rest = expect(rest, b';')?;
-    Ok((made::plain(at, value), rest))
+    Ok((made::make_plain(at, value), rest))
 }
 
 // A statement, and the tokens after it.
@@ -61,11 +61,11 @@ fn statement<'t, 'a>(
         return Err(Fault::Unexpected(0));
     };
     if is_mark(&token, b';') {
-        Ok((made::empty(token.at), rest))
+        Ok((made::make_empty(token.at), rest))
     } else if is_declaration(&token) {
         declaration(alloc, rest)
     } else {
-        plain(alloc, token.at, tokens)
+        read_plain(alloc, token.at, tokens)
     }
 }
 

@@ -16,30 +16,24 @@ use Rattle.pack_faults.specs.declared.answer.PackFaults.{PackFaults}
 use Rattle.sequence_trees.specs.declared.spot.Spot.{Spot}
 use Rattle.fault_lines.specs.FaultText.{name_of}
 use Rattle.std.specs.Prelude.{length}
+use Rattle.std.proofs.lemmas.Bool.{or_from}
 use Rattle.fault_json.specs.Parts.{count, counts, list, text_or_null, bytes_or_null}
 use Rattle.fault_json.specs.FaultsJson.{set_data, data_if, for_data, with_what, with_step, with_place, fault_data, with_unchecked, with_checked, faults_data, faults_json}
-
-left_of : (a b : Bool) → (a || b) ≡ false → a ≡ false
-left_of true b h = h
-left_of false b h = refl
+use Rattle.seq_check.proofs.OrderLaws.{or_first}
 
 right_of : (a b : Bool) → (a || b) ≡ false → b ≡ false
 right_of true true h = h
 right_of true false h = refl
 right_of false b h = h
 
-pub neither : (a b : Bool) → a ≡ false → b ≡ false → (a || b) ≡ false
-neither true b h k = h
-neither false b h k = k
-
 -- one member more
 with_one : (k : List ℕ) (d : Data) (ms : Members) → has_float d ≡ false → members_have_float ms ≡ false → members_have_float (put k d ms) ≡ false
-with_one k d no_members own others = neither (has_float d) false own refl
+with_one k d no_members own others = or_from (has_float d) false own refl
 with_one k d (member l e ms) own others =
     elim (slice_cmp nat_cmp k l) as (λ o. members_have_float (match_ordering o (member k d (member l e ms)) (member l d ms) (member l e (put k d ms))) ≡ false) [
-      | Less ↦ neither (has_float d) (has_float e || members_have_float ms) own others
-      | Equal ↦ neither (has_float d) (members_have_float ms) own (right_of (has_float e) (members_have_float ms) others)
-      | Greater ↦ neither (has_float e) (members_have_float (put k d ms)) (left_of (has_float e) (members_have_float ms) others) (with_one k d ms own (right_of (has_float e) (members_have_float ms) others))
+      | Less ↦ or_from (has_float d) (has_float e || members_have_float ms) own others
+      | Equal ↦ or_from (has_float d) (members_have_float ms) own (right_of (has_float e) (members_have_float ms) others)
+      | Greater ↦ or_from (has_float e) (members_have_float (put k d ms)) (or_first (has_float e) (members_have_float ms) others) (with_one k d ms own (right_of (has_float e) (members_have_float ms) others))
     ]
 
 -- members that are put one after another
@@ -61,7 +55,7 @@ no_floats (p ∷ more) ms none others = no_floats more (put p.0 p.1 ms) none.1 (
 -- a list
 pub each : {X : Type 0} (f : X → Data) → ((x : X) → has_float (f x) ≡ false) → (xs : List X) → items_have_float (items_of (map f xs)) ≡ false
 each f none [] = refl
-each f none (x ∷ xs) = neither (has_float (f x)) (items_have_float (items_of (map f xs))) (none x) (each f none xs)
+each f none (x ∷ xs) = or_from (has_float (f x)) (items_have_float (items_of (map f xs))) (none x) (each f none xs)
 
 pub text_has_none : (t : Option (List ℕ)) → has_float (text_or_null t) ≡ false
 text_has_none None = refl

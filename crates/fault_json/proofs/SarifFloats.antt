@@ -2,6 +2,7 @@
 use Rattle.std.proofs.Common.{◌≡◌, ℕ, false, List, [], ◌∷◌, ◌++◌, map, codes, Option, None, Some, Result, String, string_bytes, refl, ap, subst, ◌∙◌}
 use Rattle.std.specs.Prelude.{IfOk}
 use Rattle.std.specs.declared.alloc.Global.{Global}
+use Rattle.std.proofs.lemmas.Bool.{or_from}
 use Rattle.serde_json.specs.Data.{Data, string, object, Members, no_members, put}
 use Rattle.serde_json.specs.View.{items_of}
 use Rattle.serde_json.specs.Written.{has_float, items_have_float, members_have_float, compact_text}
@@ -17,10 +18,10 @@ use Rattle.fault_lines.specs.FaultText.{message_words}
 use Rattle.fault_json.specs.Parts.{count, list}
 use Rattle.fault_json.specs.Columns.{character_column}
 use Rattle.fault_json.specs.SarifLog.{one_member, line_text, step_name, all_kinds, rule_data, tool_data, logical_data, region_data, physical_data, with_physical, location_data, with_rule, message_data, result_data, run_data, sarif_data, faults_sarif}
-use Rattle.fault_json.proofs.NoFloats.{neither, no_floats, each}
+use Rattle.fault_json.proofs.NoFloats.{no_floats, each}
 
 pub one : (d : Data) → has_float d ≡ false → items_have_float (items_of (d ∷ [])) ≡ false
-one d none = neither (has_float d) false none refl
+one d none = or_from (has_float d) false none refl
 
 -- an object with one member
 pub only : (key : List ℕ) (d : Data) → has_float d ≡ false → has_float (one_member key d) ≡ false

@@ -2,6 +2,7 @@
 use Rattle.std.proofs.Common.{◌≡◌, ℕ, false, List, [], ◌∷◌, ◌++◌, map, slice_get, codes, Option, None, Some, Result, String, string_bytes, refl, ap, subst, ◌∙◌}
 use Rattle.std.specs.Prelude.{IfOk, length}
 use Rattle.std.specs.declared.alloc.Global.{Global}
+use Rattle.std.proofs.lemmas.Bool.{or_from}
 use Rattle.serde_json.specs.Data.{Data, string, object, Members, no_members, put}
 use Rattle.serde_json.specs.View.{items_of}
 use Rattle.serde_json.specs.Written.{has_float, items_have_float, members_have_float, compact_text}
@@ -17,14 +18,14 @@ use Rattle.fault_json.specs.FaultsJson.{data_if, for_data, with_step, fault_data
 use Rattle.fault_json.specs.SarifLog.{line_text, all_kinds, rule_data, with_physical, result_data}
 use Rattle.fault_json.specs.WarningsJson.{with_kind, with_warning_place, warning_data, warned_data, warned_json}
 use Rattle.fault_json.specs.WarningsSarif.{all_warning_kinds, warning_rule, all_rules, warned_tool, name_along, warning_logical, warning_location, warning_message_data, warning_result, all_results, warned_run, warned_log, warned_sarif}
-use Rattle.fault_json.proofs.NoFloats.{neither, no_floats, each, text_has_none, step_has_none, set_has_none, fault_has_none}
+use Rattle.fault_json.proofs.NoFloats.{no_floats, each, text_has_none, step_has_none, set_has_none, fault_has_none}
 use Rattle.fault_json.proofs.SarifFloats.{one, only, place_has_none, rule_of_kind, result_has_none}
 
 -- a list, and then another
 both : {X Y : Type 0} (f : X → Data) (g : Y → Data) → ((x : X) → has_float (f x) ≡ false) → ((y : Y) → has_float (g y) ≡ false) → (xs : List X) (ys : List Y)
     → items_have_float (items_of (map f xs ++ map g ys)) ≡ false
 both f g none other [] ys = each g other ys
-both f g none other (x ∷ xs) ys = neither (has_float (f x)) (items_have_float (items_of (map f xs ++ map g ys))) (none x) (both f g none other xs ys)
+both f g none other (x ∷ xs) ys = or_from (has_float (f x)) (items_have_float (items_of (map f xs ++ map g ys))) (none x) (both f g none other xs ys)
 
 -- ---- the value
 

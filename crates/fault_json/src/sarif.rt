@@ -1,11 +1,11 @@
 //! All faults of a pack as a log of SARIF 2.1.0, and its text.
 ghost use Rattle.std.specs.Prelude.{◌≡◌, [], ◌∷◌, IfOk, OnOk, map, string_bytes};
-ghost use Rattle.dap_base.specs.Streams.{PutAppends};
-ghost use Rattle.text_lines.specs.Causes.{NamesFault};
+ghost use Rattle.text_lines.specs.Puts.{PutsText};
 ghost use Rattle.serde_json.specs.View.{view, members_view};
 ghost use Rattle.fault_json.specs.Parts.{list};
 ghost use Rattle.fault_json.specs.SarifLog as sarif;
-ghost use Rattle.fault_json.specs.SarifLog.{one_member, line_text, all_kinds, rule_data, tool_data, logical_data, region_data, physical_data, with_physical, location_data, with_rule, message_data, result_data, run_data};
+ghost use Rattle.fault_json.specs.SarifLog.{one_member, line_text, all_kinds, rule_data, tool_data, logical_data, region_data};
+ghost use Rattle.fault_json.specs.SarifLog.{physical_data, with_physical, location_data, with_rule, message_data, result_data, run_data};
 
 use crate::columns::character_column;
 use crate::writing::{line_of, put_made};
@@ -279,8 +279,7 @@ pub fn write_sarif<K: Sink>(
     faults: &PackFaults,
     sink: &mut K,
 ) -> Result<(), TextError>
-    ensures text { PutAppends (K.written sink.old) (K.written sink.new) result (sarif.faults_sarif faults.now) }
-    ensures sink { NamesFault TextError.Failed (K.faults sink.old) (K.faults sink.new) result }
+    ensures puts { PutsText (sarif.faults_sarif faults.now) result TextError.Failed K.written K.faults sink.old sink.new }
 {
     put_made(text_of(alloc, faults), sink)
 }

@@ -1,11 +1,12 @@
 //! Faults and warnings as a log of SARIF 2.1.0.
 ghost use Rattle.std.specs.Prelude.{◌≡◌, ◌++◌, [], ◌∷◌, IfOk, OnOk, map, string_bytes};
-ghost use Rattle.dap_base.specs.Streams.{PutAppends};
-ghost use Rattle.text_lines.specs.Causes.{NamesFault};
+ghost use Rattle.text_lines.specs.Puts.{PutsText};
 ghost use Rattle.serde_json.specs.View.{view, members_view};
 ghost use Rattle.fault_json.specs.SarifLog.{all_kinds, rule_data, with_physical};
 ghost use Rattle.fault_json.specs.WarningsSarif as sarif;
-ghost use Rattle.fault_json.specs.WarningsSarif.{all_warning_kinds, warning_rule, all_rules, warned_tool, name_along, sequence_name, warning_logical, warning_location, with_warning_rule, warning_message_data, warning_result, all_results, warned_run};
+ghost use Rattle.fault_json.specs.WarningsSarif.{all_warning_kinds, warning_rule, all_rules, warned_tool, name_along, sequence_name};
+ghost use Rattle.fault_json.specs.WarningsSarif.{warning_logical, warning_location, with_warning_rule, warning_message_data};
+ghost use Rattle.fault_json.specs.WarningsSarif.{warning_result, all_results, warned_run};
 
 use crate::sarif::{
     KINDS, line_text, one_item, one_member, physical_value, results_of, rules_of, step_name,
@@ -252,8 +253,7 @@ pub fn write_warned_sarif<K: Sink>(
     warnings: &[PackWarning],
     sink: &mut K,
 ) -> Result<(), TextError>
-    ensures text { PutAppends (K.written sink.old) (K.written sink.new) result (sarif.warned_sarif faults.now warnings.now) }
-    ensures sink { NamesFault TextError.Failed (K.faults sink.old) (K.faults sink.new) result }
+    ensures puts { PutsText (sarif.warned_sarif faults.now warnings.now) result TextError.Failed K.written K.faults sink.old sink.new }
 {
     put_made(text_of(alloc, faults, warnings), sink)
 }

@@ -1,8 +1,7 @@
 //! Faults and warnings as a JSON value, and its text.
 ghost use Rattle.std.specs.Prelude.{◌≡◌, IfOk, OnOk, map, string_bytes};
-ghost use Rattle.dap_base.specs.Streams.{PutAppends};
 ghost use Rattle.serde_json.specs.View.{view, members_view};
-ghost use Rattle.text_lines.specs.Causes.{NamesFault};
+ghost use Rattle.text_lines.specs.Puts.{PutsText};
 ghost use Rattle.fault_json.specs.WarningsJson as json;
 ghost use Rattle.fault_json.specs.WarningsJson.{with_kind, with_warning_place, warned_data, warned_json};
 
@@ -124,8 +123,7 @@ pub fn write_warned_json<K: Sink>(
     warnings: &[PackWarning],
     sink: &mut K,
 ) -> Result<(), TextError>
-    ensures text { PutAppends (K.written sink.old) (K.written sink.new) result (warned_json faults.now warnings.now) }
-    ensures sink { NamesFault TextError.Failed (K.faults sink.old) (K.faults sink.new) result }
+    ensures puts { PutsText (warned_json faults.now warnings.now) result TextError.Failed K.written K.faults sink.old sink.new }
 {
     put_made(text_of(alloc, faults, warnings), sink)
 }

@@ -1,8 +1,7 @@
 //! All faults of a pack as a JSON value, and its text.
 ghost use Rattle.std.specs.Prelude.{◌≡◌, IfOk, OnOk, map, string_bytes};
-ghost use Rattle.dap_base.specs.Streams.{PutAppends};
 ghost use Rattle.serde_json.specs.View.{view, members_view};
-ghost use Rattle.text_lines.specs.Causes.{NamesFault};
+ghost use Rattle.text_lines.specs.Puts.{PutsText};
 ghost use Rattle.fault_json.specs.FaultsJson.{fault_data, with_unchecked, with_checked, faults_data, faults_json};
 
 use crate::fault::fault_value;
@@ -91,8 +90,7 @@ pub fn write_json<K: Sink>(
     faults: &PackFaults,
     sink: &mut K,
 ) -> Result<(), TextError>
-    ensures text { PutAppends (K.written sink.old) (K.written sink.new) result (faults_json faults.now) }
-    ensures sink { NamesFault TextError.Failed (K.faults sink.old) (K.faults sink.new) result }
+    ensures puts { PutsText (faults_json faults.now) result TextError.Failed K.written K.faults sink.old sink.new }
 {
     put_made(text_of(alloc, faults), sink)
 }

@@ -1,9 +1,8 @@
 //! The text of a JSON value, put into a sink.
 ghost use Rattle.std.specs.Prelude.{◌≡◌, ◌++◌, ℕ, List, false, IfOk, codes, string_bytes};
-ghost use Rattle.dap_base.specs.Streams.{PutAppends};
 ghost use Rattle.serde_json.specs.View.{view};
 ghost use Rattle.serde_json.specs.Written.{has_float, compact_text};
-ghost use Rattle.text_lines.specs.Causes.{NamesFault};
+ghost use Rattle.text_lines.specs.Puts.{PutsText};
 
 use dap_base::Sink;
 use serde_json::Value;
@@ -30,8 +29,7 @@ pub fn line_of(alloc: Global, value: &Value) -> Result<String, AllocError>
 /// refused for the text; a prefix of the text was then appended.
 #[tactic(auto, using(text_lines::proofs::PutLemmas::no_part))]
 pub fn put_made<K: Sink>(text: Result<String, AllocError>, sink: &mut K) -> Result<(), TextError>
-    ensures text { (bytes : List ℕ) → IfOk text (λ t. string_bytes t ≡ bytes) → PutAppends (K.written sink.old) (K.written sink.new) result bytes }
-    ensures sink { NamesFault TextError.Failed (K.faults sink.old) (K.faults sink.new) result }
+    ensures puts { (bytes : List ℕ) → IfOk text (λ t. string_bytes t ≡ bytes) → PutsText bytes result TextError.Failed K.written K.faults sink.old sink.new }
 {
     match text {
         Ok(text) => put_text(text.as_bytes(), sink),

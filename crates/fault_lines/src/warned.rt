@@ -1,8 +1,7 @@
 //! Writing the text of faults and warnings.
 ghost use Rattle.std.specs.Prelude.{◌≡◌, IfOk};
 ghost use Rattle.std.specs.List.{flat_map};
-ghost use Rattle.dap_base.specs.Streams.{PutAppends};
-ghost use Rattle.text_lines.specs.Causes.{NamesFault};
+ghost use Rattle.text_lines.specs.Puts.{PutsText};
 ghost use Rattle.fault_lines.specs.WarningText.{warning_text, warned_line, warnings_text, warned_text};
 
 use crate::counts::warned_counts_line;
@@ -39,8 +38,7 @@ fn write_warnings<K: Sink>(
     warnings: &[PackWarning],
     sink: &mut K,
 ) -> Result<(), TextError>
-    ensures text { PutAppends (K.written sink.old) (K.written sink.new) result (flat_map (warning_text sets.now) warnings.now) }
-    ensures sink { NamesFault TextError.Failed (K.faults sink.old) (K.faults sink.new) result }
+    ensures puts { PutsText (flat_map (warning_text sets.now) warnings.now) result TextError.Failed K.written K.faults sink.old sink.new }
 {
     for warning in warnings {
         match put_made(text_of(alloc, sets, warning), sink) {
@@ -77,8 +75,7 @@ fn write_rest<K: Sink>(
     warnings: &[PackWarning],
     sink: &mut K,
 ) -> Result<(), TextError>
-    ensures text { PutAppends (K.written sink.old) (K.written sink.new) result (warnings_text faults.now warnings.now) }
-    ensures sink { NamesFault TextError.Failed (K.faults sink.old) (K.faults sink.new) result }
+    ensures puts { PutsText (warnings_text faults.now warnings.now) result TextError.Failed K.written K.faults sink.old sink.new }
 {
     match write_warnings(alloc, faults.sets.as_slice(), warnings, sink) {
         Ok(()) => put_line(counts_of(alloc, faults, warnings), sink),
@@ -96,8 +93,7 @@ pub fn write_warned<K: Sink>(
     warnings: &[PackWarning],
     sink: &mut K,
 ) -> Result<(), TextError>
-    ensures text { PutAppends (K.written sink.old) (K.written sink.new) result (warned_text faults.now warnings.now) }
-    ensures sink { NamesFault TextError.Failed (K.faults sink.old) (K.faults sink.new) result }
+    ensures puts { PutsText (warned_text faults.now warnings.now) result TextError.Failed K.written K.faults sink.old sink.new }
 {
     match write_each(
         alloc,

@@ -1,8 +1,7 @@
 //! Writing the text fault by fault.
 ghost use Rattle.std.specs.Prelude.{◌≡◌, ◌++◌, ℕ, List, IfOk, OnOk};
 ghost use Rattle.std.specs.List.{flat_map};
-ghost use Rattle.dap_base.specs.Streams.{PutAppends};
-ghost use Rattle.text_lines.specs.Causes.{NamesFault};
+ghost use Rattle.text_lines.specs.Puts.{PutsText};
 ghost use Rattle.fault_lines.specs.FaultText as text;
 ghost use Rattle.fault_lines.specs.FaultText.{fault_text, last_line, faults_text};
 
@@ -47,8 +46,7 @@ fn text_of(alloc: Global, sets: &[SetName], fault: &PackFault) -> Result<Vec<u8>
 /// Puts a text by one `put`, if there was memory for it.
 #[tactic(auto, using(text_lines::proofs::PutLemmas::no_part))]
 pub fn put_made<K: Sink>(text: Result<Vec<u8>, OutOfMemory>, sink: &mut K) -> Result<(), TextError>
-    ensures text { (bytes : List ℕ) → IfOk text (λ t. t.items ≡ bytes) → PutAppends (K.written sink.old) (K.written sink.new) result bytes }
-    ensures sink { NamesFault TextError.Failed (K.faults sink.old) (K.faults sink.new) result }
+    ensures puts { (bytes : List ℕ) → IfOk text (λ t. t.items ≡ bytes) → PutsText bytes result TextError.Failed K.written K.faults sink.old sink.new }
 {
     match text {
         Ok(text) => put_text(&text, sink),
@@ -63,8 +61,7 @@ pub fn write_each<K: Sink>(
     faults: &[PackFault],
     sink: &mut K,
 ) -> Result<(), TextError>
-    ensures text { PutAppends (K.written sink.old) (K.written sink.new) result (flat_map (fault_text sets.now) faults.now) }
-    ensures sink { NamesFault TextError.Failed (K.faults sink.old) (K.faults sink.new) result }
+    ensures puts { PutsText (flat_map (fault_text sets.now) faults.now) result TextError.Failed K.written K.faults sink.old sink.new }
 {
     for fault in faults {
         match put_made(text_of(alloc, sets, fault), sink) {
@@ -99,8 +96,7 @@ pub fn write_faults<K: Sink>(
     faults: &PackFaults,
     sink: &mut K,
 ) -> Result<(), TextError>
-    ensures text { PutAppends (K.written sink.old) (K.written sink.new) result (faults_text faults.now) }
-    ensures sink { NamesFault TextError.Failed (K.faults sink.old) (K.faults sink.new) result }
+    ensures puts { PutsText (faults_text faults.now) result TextError.Failed K.written K.faults sink.old sink.new }
 {
     match write_each(
         alloc,

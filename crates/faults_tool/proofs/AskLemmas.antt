@@ -1,5 +1,5 @@
 -- What is asked for, by how the source was read.
-use Rattle.std.proofs.Common.{◌≡◌, ◌⊎◌, inl, inr, ℕ, ◌<◌, ◌≤◌, List, [], length, Option, None, Some, Result, Ok, Err, refl, subst}
+use Rattle.std.proofs.Common.{◌≡◌, ◌⊎◌, inl, inr, ℕ, ◌<◌, ◌≤◌, List, length, Option, None, Some, Result, Ok, Err, refl, subst}
 use Rattle.std.specs.Prelude.{IfOk}
 use Rattle.dap_base.specs.declared.text.OutOfMemory.{OutOfMemory}
 use Rattle.device_tree.specs.declared.pack.Pack.{Pack}
@@ -10,13 +10,9 @@ use Rattle.faults_words.specs.declared.answer.Asked.{Asked}
 use Rattle.faults_words.specs.Asks as words
 use Rattle.faults_tool.specs.Asked.{Asks, AsksOfBytes, AsksOfPack, IsUsage, job, no_set, of_refusal, request_of, too_long, usage}
 use Rattle.job_source.specs.Source.{AreBytesOf, limit}
+use Rattle.job_source.proofs.SourceLemmas.{some_bytes}
 use Rattle.faults_tool.specs.declared.asking.Answer.{Answer}
 use Rattle.faults_tool.specs.declared.asking.Answer.TheVariants as answers
-
--- some bytes of a source
-some_bytes : (left : Option (List ℕ)) → (bytes : List ℕ) × AreBytesOf left bytes
-some_bytes None = ([], tt)
-some_bytes (Some bytes) = (bytes, refl)
 
 -- the words ask for nothing
 pub with_usage : (given : List (List ℕ)) (left : Option (List ℕ)) → IsUsage given → (bytes : List ℕ) × AreBytesOf left bytes × Asks given bytes answers.Usage

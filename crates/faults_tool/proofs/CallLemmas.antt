@@ -1,7 +1,8 @@
 -- What a whole call does, and what follows from it.
-use Rattle.std.proofs.Common.{◌≡◌, ◌≢◌, ◌∙◌, ◌⊎◌, ℕ, Bool, List, Option, Some, None, Result, Ok, Err, inl, inr, refl, ap, sym, subst, arith}
+use Rattle.std.proofs.Common.{◌≡◌, ◌≢◌, ◌∙◌, ◌⊎◌, ℕ, Bool, List, Option, Some, Result, Ok, Err, inl, inr, refl, ap, sym, subst}
 use Rattle.std.specs.Prelude.{IfOk, OnOk}
 use Rattle.dap_base.specs.Causes.{IsQuiet, Rose}
+use Rattle.dap_base.proofs.Basics.{not_rose}
 use Rattle.text_lines.specs.Causes.{NamesFault}
 use Rattle.faults_tool.specs.Answers.{answer_status}
 use Rattle.pack_faults.specs.declared.request.PackRefusal.{PackRefusal}
@@ -13,6 +14,7 @@ use Rattle.faults_words.specs.declared.format.Format.{Format}
 use Rattle.faults_tool.specs.Asked.{AreAllValid, Asks, IsLine, IsList, IsUsage, job, no_pack, no_set, of_refusal, pack, plain, request_of, sets, too_long, usage, warned}
 use Rattle.faults_tool.specs.Calls.{Blames, Call, Does, FailsPutting, IsCallOfValid, IsDisturbed, IsDone, IsFinished, does, no_memory, unread}
 use Rattle.job_source.specs.Source.{AreBytesOf}
+use Rattle.job_source.proofs.SourceLemmas.{same_bytes}
 use Rattle.faults_tool.specs.declared.asking.Answer.{Answer}
 use Rattle.faults_tool.specs.declared.asking.Answer.TheVariants as answers
 use Rattle.faults_tool.specs.declared.asking.Unasked.{Unasked}
@@ -21,9 +23,6 @@ use Rattle.faults_tool.specs.declared.status.Status.{Status}
 use Rattle.faults_tool.specs.declared.status.Status.TheVariants as status
 use Rattle.faults_tool.proofs.AnswerLemmas.{fails_disturbed, fails_how, undisturbed, usage_status, used}
 use Rattle.faults_tool.proofs.OneAnswer.{done_of, valid_of}
-
-pub not_rose : (a b : ℕ) → IsQuiet a b → Rose a b → ⊥
-not_rose a b quiet rose = let same = quiet.same in let below = quiet.below in omega (arith, same, below, rose)
 
 -- ---- what was asked for
 
@@ -102,10 +101,6 @@ pub valid_by : (call : Call) → Does call → call.end ≡ status.Done → IsCa
 valid_by call did is =
     let found = answered call did (calm_by call.end status.Done (λ h. h) is) in
     (found.bytes, found.are, valid_of call.words found.bytes found.answer found.asks (sym found.status ∙ is))
-
-same_bytes : (left : Option (List ℕ)) (bytes found : List ℕ) → left ≡ Some bytes → AreBytesOf left found → found ≡ bytes
-same_bytes None bytes found is are = absurd (cc)
-same_bytes (Some xs) bytes found is are = are ∙ (cc)
 
 done_or : (end own : Status) → own ≡ status.Done → (end ≡ own) ⊎ FailsPutting end → (end ≡ status.Done) ⊎ IsDisturbed end
 done_or end own done (inl is) = inl (is ∙ done)

@@ -1,5 +1,6 @@
 -- Words and bytes ask for one answer, and its status is that of a success exactly where each set is valid.
-use Rattle.std.proofs.Common.{◌≡◌, ◌∙◌, ◌<◌, ◌≤◌, ℕ, Bool, true, false, true≢false, List, [], ◌∷◌, length, Option, None, Some, refl, ap, sym, subst, arith}
+use Rattle.std.proofs.Common.{◌≡◌, ◌∙◌, ℕ, Bool, List, [], ◌∷◌, length, Option, None, Some, refl, ap, sym, subst}
+use Rattle.std.proofs.lemmas.Bool.{both_ways}
 use Rattle.device_tree.specs.declared.pack.Pack.{Pack}
 use Rattle.job_check.specs.declared.answer.Refusal.{Refusal}
 use Rattle.pack_faults.specs.declared.answer.PackFault.{PackFault}
@@ -18,7 +19,7 @@ use Rattle.faults_words.specs.Asks as words
 use Rattle.faults_words.proofs.AskLemmas.{one_asked}
 use Rattle.faults_tool.specs.Answers.{answer_status, list_status}
 use Rattle.faults_tool.specs.Asked.{AreAllValid, Asks, AsksOfBytes, AsksOfPack, IsList, plain, warned, job, no_pack, no_set, of_refusal, pack, request_of, sets, too_long, usage}
-use Rattle.job_source.specs.Source.{limit}
+use Rattle.job_source.proofs.SourceLemmas.{not_both}
 use Rattle.faults_tool.specs.declared.asking.Answer.{Answer}
 use Rattle.faults_tool.specs.declared.asking.Answer.TheVariants as answers
 use Rattle.faults_tool.specs.declared.status.Status.TheVariants as status
@@ -32,13 +33,10 @@ no_some r found a b = cc
 same_some : {A : Type 0} (x y : A) (found : Option A) → found ≡ Some x → found ≡ Some y → x ≡ y
 same_some x y found a b = cc
 
-not_both_ways : (b : Bool) → b ≡ false → b ≡ true → ⊥
-not_both_ways b h k = true≢false (sym k ∙ h)
-
 one_list : (p : Pack) (r : Request) (format : Format) (b : Bool) (faults : PackFaults) (x y : Answer) → IsList p r format b faults x → IsList p r format b faults y → x ≡ y
 one_list p r format b faults x y (plain off e) (plain none f) = e ∙ sym f
-one_list p r format b faults x y (plain off e) (warned list is are f) = absurd (not_both_ways b off is)
-one_list p r format b faults x y (warned list is are e) (plain off f) = absurd (not_both_ways b off is)
+one_list p r format b faults x y (plain off e) (warned list is are f) = absurd (both_ways b off is)
+one_list p r format b faults x y (warned list is are e) (plain off f) = absurd (both_ways b off is)
 one_list p r format b faults x y (warned list is are e) (warned other also others f) =
     e ∙ ap (λ (ws : List PackWarning). answers.Warned format faults ws) (warning_lemmas.one_answer p r list other are others) ∙ sym f
 
@@ -61,9 +59,6 @@ one_of_bytes bytes a x y (no_pack r is e) (pack p says of) = absurd (no_refusal 
 one_of_bytes bytes a x y (pack p says of) (no_pack r is e) = absurd (no_refusal bytes p r says is)
 one_of_bytes bytes a x y (pack p says of) (pack q others of_others) =
     one_of_pack q a x y (subst (λ (z : Pack). AsksOfPack z a x) (one_pack bytes p q says others) of) of_others
-
-not_both : (n : ℕ) → limit < n → n ≤ limit → ⊥
-not_both n long short = omega (arith, long, short)
 
 pub one_answer : (given : List (List ℕ)) (bytes : List ℕ) (x y : Answer) → Asks given bytes x → Asks given bytes y → x ≡ y
 one_answer given bytes x y (usage none e) (usage nothing f) = e ∙ sym f

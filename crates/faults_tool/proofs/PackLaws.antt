@@ -1,13 +1,12 @@
 -- Reading gives exactly the pack that the value of a job has.
-use Rattle.std.proofs.Common.{◌≡◌, ◌∙◌, ℕ, codes, List, Some, Result, Ok, Err, refl, ap, sym}
+use Rattle.std.proofs.Common.{◌≡◌, ◌∙◌, ℕ, codes, List, Result, Ok, Err, refl, ap, sym}
 use Rattle.std.specs.Prelude.{IfOk, IfErr}
-use Rattle.serde_json.specs.Data.{Data}
 use Rattle.json_form.specs.declared.fault.JobFault.{JobFault}
 use Rattle.json_form.proofs.ReadingLaws.{Reads, bind_ok}
 use Rattle.json_form.proofs.ObjectLaws.{only_keys_sound, only_keys_complete, required_reads}
 use Rattle.device_tree.specs.declared.pack.Pack.{Pack}
 use Rattle.device_tree.proofs.PackLaws.{pack_reads}
-use Rattle.job_text.specs.Answers.{IsTextOf}
+use Rattle.job_text.proofs.AnswerLaws.{one_value}
 use Rattle.job_check.specs.declared.answer.Refusal.{Refusal}
 use Rattle.job_check.specs.declared.answer.Refusal.TheVariants as refusals
 use Rattle.job_check.specs.declared.answer.CheckRefusal.{CheckRefusal}
@@ -24,10 +23,6 @@ job_pack_reads =
     }
 
 -- ---- both ways
-
--- bytes are the text of one value
-pub one_value : (bytes : List ℕ) (d e : Data) → IsTextOf bytes d → IsTextOf bytes e → d ≡ e
-one_value bytes d e here there = (let same : Some d ≡ Some e = sym here.1 ∙ there.1 in cc)
 
 abbrev pack_ok : Pack → Result Pack JobFault
 pack_ok pack = Ok pack

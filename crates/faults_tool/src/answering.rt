@@ -1,7 +1,6 @@
 //! What is written.
 ghost use Rattle.std.specs.Prelude.{◌≡◌};
-ghost use Rattle.dap_base.specs.Streams.{PutAppends};
-ghost use Rattle.text_lines.specs.Causes.{NamesFault};
+ghost use Rattle.text_lines.specs.Puts.{PutsText};
 ghost use Rattle.faults_tool.specs.Answers.{answer_text, answer_status, formatted, warned_in, list_status, no_pname_line, usage_line};
 
 use crate::asking::Answer;
@@ -45,16 +44,14 @@ const USAGE: &[u8] =
 
 // Writes the line of words that ask for nothing.
 fn write_usage<K: Sink>(sink: &mut K) -> Result<(), TextError>
-    ensures text { PutAppends (K.written sink.old) (K.written sink.new) result usage_line }
-    ensures sink { NamesFault TextError.Failed (K.faults sink.old) (K.faults sink.new) result }
+    ensures puts { PutsText usage_line result TextError.Failed K.written K.faults sink.old sink.new }
 {
     put_text(USAGE, sink)
 }
 
 // Writes the line of a processor that no sequence is for.
 fn write_no_pname<K: Sink>(sink: &mut K) -> Result<(), TextError>
-    ensures text { PutAppends (K.written sink.old) (K.written sink.new) result no_pname_line }
-    ensures sink { NamesFault TextError.Failed (K.faults sink.old) (K.faults sink.new) result }
+    ensures puts { PutsText no_pname_line result TextError.Failed K.written K.faults sink.old sink.new }
 {
     put_text(b"refused NoPname\n", sink)
 }
@@ -66,8 +63,7 @@ fn write_formatted<K: Sink>(
     faults: &PackFaults,
     sink: &mut K,
 ) -> Result<(), TextError>
-    ensures text { PutAppends (K.written sink.old) (K.written sink.new) result (formatted format faults.now) }
-    ensures sink { NamesFault TextError.Failed (K.faults sink.old) (K.faults sink.new) result }
+    ensures puts { PutsText (formatted format faults.now) result TextError.Failed K.written K.faults sink.old sink.new }
 {
     match format {
         Format::Text => write_faults(alloc, faults, sink),
@@ -84,8 +80,7 @@ fn write_list<K: Sink>(
     warnings: &[PackWarning],
     sink: &mut K,
 ) -> Result<(), TextError>
-    ensures text { PutAppends (K.written sink.old) (K.written sink.new) result (warned_in format faults.now warnings.now) }
-    ensures sink { NamesFault TextError.Failed (K.faults sink.old) (K.faults sink.new) result }
+    ensures puts { PutsText (warned_in format faults.now warnings.now) result TextError.Failed K.written K.faults sink.old sink.new }
 {
     match format {
         Format::Text => write_warned(alloc, faults, warnings, sink),
@@ -97,8 +92,7 @@ fn write_list<K: Sink>(
 /// Writes the text of an answer. At an error a part of it was written, from its front.
 #[tactic(auto, unfolding(crate::specs::Answers::answer_text))]
 pub fn write_answer<K: Sink>(alloc: Global, answer: &Answer, sink: &mut K) -> Result<(), TextError>
-    ensures text { PutAppends (K.written sink.old) (K.written sink.new) result (answer_text answer.now) }
-    ensures sink { NamesFault TextError.Failed (K.faults sink.old) (K.faults sink.new) result }
+    ensures puts { PutsText (answer_text answer.now) result TextError.Failed K.written K.faults sink.old sink.new }
 {
     match answer {
         Answer::Usage => write_usage(sink),

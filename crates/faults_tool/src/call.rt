@@ -96,7 +96,8 @@ pub fn dapseq_faults<S: Source, K: Sink>(
     ensures usage { result ≡ Status.Usage → IsUsage words.now }
     ensures usage_only { IsUsage words.now → (result ≡ Status.Usage) ⊎ (result ≡ Status.WriteFault) ⊎ (result ≡ Status.OutOfMemory) }
     ensures unread { (IsLine words.now → ⊥) → source.new ≡ source.old }
-    ensures taken { IsLine words.now → IsQuiet (S.faults source.old) (S.faults source.new) → result ≢ Status.OutOfMemory → AreTaken (S.left source.old) (S.left source.new) }
+    ensures taken { IsLine words.now → IsQuiet (S.faults source.old) (S.faults source.new) → result ≢ Status.OutOfMemory
+        → AreTaken (S.left source.old) (S.left source.new) }
 
     // Each fault has its cause, and a fault outside is reported.
     ensures read { result ≡ Status.ReadFault → Rose (S.faults source.old) (S.faults source.new) }

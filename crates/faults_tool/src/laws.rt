@@ -22,7 +22,8 @@ pub fn done_where_valid()
 
 /// The status is by the sets that are requested. Neither the format nor the warnings change it.
 pub fn status_by_request()
-    ensures { (bytes : List ℕ) (a b : Asked) (x y : Answer) → request_of a ≡ request_of b → AsksOfBytes bytes a x → AsksOfBytes bytes b y → answer_status x ≡ answer_status y }
+    ensures { (bytes : List ℕ) (a b : Asked) (x y : Answer) → request_of a ≡ request_of b → AsksOfBytes bytes a x → AsksOfBytes bytes b y
+        → answer_status x ≡ answer_status y }
 {}
 
 /// A job that `dapseq` takes has its pack.

@@ -1,5 +1,6 @@
 -- The requests of accesses.
 use Rattle.std.proofs.Common.{◌≡◌, ℕ, ◌&&◌, not, Bool, true, false, cond, List, [], ◌∷◌, ◌++◌, take, length, map, refl, ap, sym, ◌∙◌, suc, zero, subst, append-nil, append_assoc, Some, None}
+use Rattle.std.proofs.Math.Bool.{and-false}
 use Rattle.target_machine.specs.State.{TargetState}
 use Rattle.target_machine.specs.Attempt.{attempt}
 use Rattle.target_machine.specs.declared.access.RegAccess.{RegAccess}
@@ -14,6 +15,7 @@ use Rattle.flight_forms.specs.Packing.{AreTaken, IsTaken, check_when, request_of
 use Rattle.flight_forms.specs.Flights.{AreClear, is_own, slot_values}
 use Rattle.flight_forms.proofs.OwnAccesses.{ChecksFollow}
 use Rattle.flight_forms.proofs.RequestFacts.{carries, kind_carried, same_attempt, own_carried, free_carried}
+use Rattle.dap_base.proofs.Basics.{first_true}
 
 -- ---- no value match and no mask
 
@@ -49,18 +51,14 @@ payload_normal accesses = normal-append (requests_for false accesses) (check_whe
 writes_carried : (a : RegAccess) → writes_ap (access_of (request_of a)) ≡ writes_ap a
 writes_carried a = ap writes_ap (carries a)
 
-and_none : (b : Bool) → (b && false) ≡ false
-and_none true = refl
-and_none false = refl
-
 -- with a check after all of them or not
 ending_guarded : (w last : Bool) → AreGuarded w (check_when last)
-ending_guarded w true = (and_none w, tt)
+ending_guarded w true = (and-false w, tt)
 ending_guarded w false = tt
 
 guarded_step : (c w : Bool) (a : RegAccess) (rs : List Request) → IsTaken a → (w && may_be_free a) ≡ c → AreGuarded (writes_ap (access_of (request_of a))) rs →
     AreGuarded w (check_when c ++ request_of a ∷ rs)
-guarded_step true w a rs taken e h = (and_none w, (refl, h))
+guarded_step true w a rs taken e h = (and-false w, (refl, h))
 guarded_step false w a rs taken e h = (ap (λ b. w && b) (free_carried a taken) ∙ e, h)
 
 pub are_guarded : (w last : Bool) (accesses : List RegAccess) → AreTaken accesses → AreGuarded w (requests_for w accesses ++ check_when last)
@@ -170,10 +168,6 @@ ap_is_write a e = by_port a.ap (not a.read) e
     by_port : (x y : Bool) → (x && y) ≡ true → y ≡ true
     by_port true y f = f
     by_port false y f = absurd (cc)
-
-first_true : (x y : Bool) → (x && y) ≡ true → x ≡ true
-first_true true y e = refl
-first_true false y e = absurd (cc)
 
 ending_follows : (w last : Bool) → (last ≡ true → w ≡ true) → ChecksFollow w (check_when last)
 ending_follows w true h = ((λ _. h refl), tt)

@@ -1,7 +1,7 @@
 -- A block of writes of DRW.
 use Rattle.std.proofs.Common.{◌≡◌, eqb, leb, ℕ, ◌+◌, ◌*◌, ◌&&◌, ◌||◌, not, Bool, true, false, cond, List, [], ◌∷◌, ◌++◌, length, take, refl, ap, sym, ◌∙◌, arith, suc, zero, subst, IsTrue}
 use Rattle.std.specs.Prelude.{bit_and}
-use Rattle.std.proofs.lemmas.Bool.{eq-eqb, eqb-true}
+use Rattle.std.proofs.lemmas.Bool.{eq-eqb, eqb-true, and_parts}
 use Rattle.target_machine.specs.declared.access.RegAccess.{RegAccess}
 use Rattle.dap_messages.specs.declared.request.Request.{Request}
 use Rattle.dap_messages.specs.declared.request.Response.{Response}
@@ -23,6 +23,7 @@ use Rattle.flight_forms.specs.Packing.{AreTaken, check_when, request_of, request
 use Rattle.flight_forms.proofs.AskedRequests.{all_guarded, are_normal}
 use Rattle.flight_forms.proofs.RequestSizes.{three_parts}
 use Rattle.flight_forms.proofs.Transfers.{does_transfer}
+use Rattle.dap_base.proofs.Basics.{no_items}
 
 -- ---- the requests of writes of DRW are those of a block
 
@@ -46,14 +47,10 @@ no_check w a rs e = ap (λ b. check_when (w && (not b && cond a.read (eqb a.addr
     by_write true = refl
     by_write false = refl
 
-both_true : (x y : Bool) → (x && y) ≡ true → (x ≡ true) × (y ≡ true)
-both_true true y e = (refl, e)
-both_true false y e = absurd (cc)
-
 pub drw_requests : (w : Bool) (accesses : List RegAccess) → all_write_drw accesses ≡ true → requests_for w accesses ≡ writes_of 0x0D (words_of accesses)
 drw_requests w [] e = refl
 drw_requests w (a ∷ rest) e =
-    let two = both_true (writes_drw a) (all_write_drw rest) e in
+    let two = and_parts (writes_drw a) (all_write_drw rest) e in
     let first = drw_request a two.0 in
     no_check w a (request_of a ∷ requests_for (writes_ap a) rest) first.0
     ∙ (λ i. first.1 i ∷ drw_requests (writes_ap a) rest two.1 i)
@@ -61,7 +58,7 @@ drw_requests w (a ∷ rest) e =
 pub drw_taken : (accesses : List RegAccess) → all_write_drw accesses ≡ true → AreTaken accesses
 drw_taken [] e = tt
 drw_taken (a ∷ rest) e =
-    let two = both_true (writes_drw a) (all_write_drw rest) e in
+    let two = and_parts (writes_drw a) (all_write_drw rest) e in
     let first = drw_request a two.0 in
     (record { read = λ f. absurd (let g = sym f ∙ first.0 in cc); write = λ f. absurd (let g = sym f ∙ first.0 in cc) }, drw_taken rest two.1)
 
@@ -73,10 +70,6 @@ no_reads (suc n) [] = refl
 no_reads (suc n) (w ∷ words) =
     let r : Request = record { byte = 0x0D; word = w } in
     reads_first (r ∷ take n (writes_of 0x0D words)) (take n (writes_of 0x0D words)) r refl ∙ ap (λ k. 0 + k) (no_reads n words)
-
-none_long : (words : List ℕ) → length words ≡ 0 → words ≡ []
-none_long [] e = refl
-none_long (w ∷ words) e = absurd (cc)
 
 -- ---- a block
 
@@ -98,7 +91,7 @@ some_block p a rest e clear =
     let taken : AreTaken accesses = drw_taken accesses e in
     let ends : EndsAt p.line.target false false rs (length d.words) d.executed d.response (in_doubt d) = ends_as_transfer p accesses taken clear in
     let none : reads_in (take d.executed rs) ≡ 0 = ap (λ xs. reads_in (take d.executed xs)) (drw_requests false accesses e) ∙ no_reads d.executed (words_of accesses) in
-    let words : d.words ≡ [] = none_long d.words (let h = ends.words in omega arith) in
+    let words : d.words ≡ [] = no_items d.words (let h = ends.words in omega arith) in
     let does : BlockBy p accesses d.words d = does_transfer p accesses taken clear in
     subst (BlockBy p accesses []) (is_block p a rest e) (subst (λ ws. BlockBy p accesses ws d) words does)
 

@@ -32,7 +32,7 @@ few_fit_guarded size accesses small few =
     (le-leb (reads_in rs) ((size - 9) / 4) (let a = all.reads in omega arith))
     (le-leb (length rs) 251 (let a = all.requests in omega arith))
 
-clash : {b : Bool} → b ≡ true → b ≡ false → ⊥
+pub clash : {b : Bool} → b ≡ true → b ≡ false → ⊥
 clash e f = (let g = sym e ∙ f in cc)
 
 -- so many accesses are there where they do not fit

@@ -1,6 +1,7 @@
 -- The replies to a guarded chain are ones that its commands may get.
 use Rattle.std.proofs.Common.{◌≡◌, ℕ, ◌+◌, ◌&&◌, false, List, [], ◌∷◌, take, length, refl, ap, sym, ◌∙◌, arith, suc, zero, subst, ◌⊎◌, inl, inr, length-append}
 use Rattle.std.specs.List.{AllByRecursion}
+use Rattle.std.proofs.Math.Seq.{take-length}
 use Rattle.target_machine.specs.InRange.{IsInRange, IsWord}
 use Rattle.target_machine.specs.State.{TargetState}
 use Rattle.target_machine.specs.declared.access.RegAccess.{RegAccess}
@@ -25,7 +26,6 @@ use Rattle.flight_forms.proofs.Guarded.{DoesGuarded, does_guarded, guarded_is}
 use Rattle.flight_forms.proofs.GuardedAnswers.{answers_cut, answers_shut, answers_whole}
 use Rattle.flight_forms.proofs.Ranges.{payload_words, stays_in_range}
 use Rattle.dap_transfer.proofs.WordRanges.{words_in_range}
-use Rattle.dap_transfer.proofs.NormalAnswers.{take_length}
 
 abbrev AnswersBy : List Request → Transferred → Type 0
 AnswersBy rs d = AnswersTransfer rs d.executed (code_of d.response) d.words
@@ -45,7 +45,7 @@ answers_by Good t rs d e normal checked fits ends =
     let all : d.executed ≡ length rs = ends.whole e in
     let sure : doubted d.response d.next.pending ≡ false = ap (λ y. doubted y d.next.pending) e in
     let none : one_if (doubted d.response d.next.pending && posted_last false (take d.executed rs)) ≡ 0 = ap (λ b. one_if (b && posted_last false (take d.executed rs))) sure in
-    let whole : reads_in (take d.executed rs) ≡ reads_in rs = ap (λ n. reads_in (take n rs)) all ∙ ap reads_in (take_length rs) in
+    let whole : reads_in (take d.executed rs) ≡ reads_in rs = ap (λ n. reads_in (take n rs)) all ∙ ap reads_in (take-length rs) in
     let count : length d.words ≡ reads_in rs = (let h = ends.words in omega arith) in
     let size : length (guarded rs) ≡ 2 + (d.executed + 1) = (let a = length-append rs (mask_request 0 ∷ []) in omega arith) in
     by_response Good d.response (guarded rs) (2 + (d.executed + 1)) d.words e
@@ -85,7 +85,7 @@ good_or_shut Wait q never h = inr h
 good_or_shut Fault q never h = inr h
 good_or_shut Mismatch q never h = absurd (never refl)
 
-taken_ranges : (n : ℕ) (accesses : List RegAccess) → AreWords accesses → AreWords (take n accesses)
+pub taken_ranges : (n : ℕ) (accesses : List RegAccess) → AreWords accesses → AreWords (take n accesses)
 taken_ranges zero accesses v = tt
 taken_ranges (suc n) [] v = tt
 taken_ranges (suc n) (a ∷ rest) v = (v.0, taken_ranges n rest v.1)

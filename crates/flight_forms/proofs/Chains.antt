@@ -1,5 +1,5 @@
 -- Guarded chains.
-use Rattle.std.proofs.Common.{◌≡◌, eqb, ℕ, ◌+◌, ◌-◌, ◌^◌, ◌≤◌, false, cond, List, [], ◌∷◌, ◌++◌, take, length, refl, ap, sym, ◌∙◌, arith, subst, ◌⊎◌, inl, inr, length-append}
+use Rattle.std.proofs.Common.{◌≡◌, eqb, ℕ, ◌+◌, ◌-◌, ◌^◌, ◌≤◌, false, cond, List, [], ◌∷◌, ◌++◌, take, length, refl, ap, sym, ◌∙◌, arith, subst, inl, inr, length-append}
 use Rattle.std.specs.Prelude.{bit_and, min}
 use Rattle.std.specs.List.{AllByRecursion}
 use Rattle.target_machine.specs.State.{TargetState}
@@ -12,6 +12,7 @@ use Rattle.dap_transfer.specs.Laws.{one_at_a_time}
 use Rattle.dap_transfer.specs.State.{Setting, TransferState, Transferred, grown, is_wait}
 use Rattle.dap_transfer.specs.Transfer.{transferred}
 use Rattle.dap_transfer.proofs.Guards.{match_shuts}
+use Rattle.dap_transfer.proofs.Prefix.{good_or_not}
 use Rattle.flight_forms.specs.Packing.{guarded_requests, payload}
 use Rattle.flight_forms.specs.Flights.{AreClear, DoesPart, IsOver, Part, slot_values}
 use Rattle.flight_forms.specs.Chains.{AllTaken, CutAs, DoesChain, IsCutOnce, IsGuardOpen, IsGuardShut, IsShut, LeavesGuard, all_of, chain_after, chain_part, chain_replies, guarded_part, joined_as, nothing_yet}
@@ -146,13 +147,6 @@ cut_here Fault p q r xs ys a b replies rest e bad never part guard shut =
 abbrev ChainBy : Response → TransferState → TransferState → List RegAccess → Part → Part → List Transferred → Type 0 → Type 0
 ChainBy x p r accesses a b replies rest = DoesPart p r accesses (joined_as x a b) × LeavesGuard (joined_as x a b).response r × CutAs x replies rest
 
--- where no command is cut, and where one is
-goes_or_cut : (x : Response) → (x ≡ Good) ⊎ (x ≡ Good → ⊥)
-goes_or_cut Good = inl refl
-goes_or_cut Wait = inr (λ e. cc)
-goes_or_cut Fault = inr (λ e. cc)
-goes_or_cut Mismatch = inr (λ e. cc)
-
 -- A guarded chain performs a prefix of its accesses: a command does accesses only where the one before came to its end.
 pub does_chain : (p : TransferState) (parts : List (List RegAccess)) → AllTaken parts → IsGuardOpen p → DoesChain p parts
 does_chain p [] taken opened = record { part = none_done p opened.clear; guard = opened; cut = tt }
@@ -163,7 +157,7 @@ does_chain p (accesses ∷ parts) taken opened =
     let replies : List Transferred = chain_replies d.next parts in
     let b : Part = chain_part parts replies in
     let r : TransferState = chain_after d.next parts in
-    elim (goes_or_cut d.response) [
+    elim (good_or_not d.response) [
       | inl good ↦
           let next : IsGuardOpen d.next = subst (λ x. LeavesGuard x d.next) good one.guard in
           let rest : DoesChain d.next parts = does_chain d.next parts taken.1 next in

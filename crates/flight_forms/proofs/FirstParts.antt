@@ -1,5 +1,6 @@
 -- The first part of a chain is filled access by access.
 use Rattle.std.proofs.Common.{◌≡◌, ℕ, ◌+◌, ◌≤◌, ◌<◌, ◌&&◌, Bool, true, false, cond, List, [], ◌∷◌, ◌++◌, length, take, drop, slice_index_or, refl, ap, sym, ◌∙◌, arith, suc, zero, subst}
+use Rattle.std.proofs.lemmas.List.{length-take-le}
 use Rattle.target_machine.specs.declared.access.RegAccess.{RegAccess}
 use Rattle.dap_transfer.specs.CommandEnds.{may_be_free, writes_ap}
 use Rattle.flight_forms.specs.declared.size.Tally.{Tally}
@@ -39,11 +40,6 @@ filling_begins size (a ∷ rest) d t w some t_is w_is = record {
   parts = refl;
 }
 
-taken_length : (n : ℕ) (accesses : List RegAccess) → n ≤ length accesses → length (take n accesses) ≡ n
-taken_length zero accesses h = refl
-taken_length (suc n) [] h = absurd (omega arith)
-taken_length (suc n) (a ∷ rest) h = ap suc (taken_length n rest (omega arith))
-
 -- the tally with the next access, and whether it fits
 more_counts : (size i : ℕ) (accesses : List RegAccess) (d : RegAccess) (t more : Tally) (w checked : Bool) → length accesses < 65535 → i < length accesses → IsFilling size i accesses t w →
     checked ≡ (w && may_be_free (slice_index_or accesses i d)) → more ≡ with_access t checked (slice_index_or accesses i d).read →
@@ -51,7 +47,7 @@ more_counts : (size i : ℕ) (accesses : List RegAccess) (d : RegAccess) (t more
 more_counts size i accesses d t more w checked few inside h is more_is =
     let a : RegAccess = slice_index_or accesses i d in
     subst (λ (x : Tally). Counts (requests_for false (take i accesses ++ a ∷ [])) x) (sym more_is)
-    (counts_more (take i accesses) a t checked (let n = taken_length i accesses h.within in omega arith) (is ∙ ap (λ b. b && may_be_free a) h.write) h.counts)
+    (counts_more (take i accesses) a t checked (let n = length-take-le i accesses h.within in omega arith) (is ∙ ap (λ b. b && may_be_free a) h.write) h.counts)
 
 pub filling_goes_on : (size i : ℕ) (accesses : List RegAccess) (d : RegAccess) (t more : Tally) (w checked u : Bool) → length accesses < 65535 → i < length accesses → IsFilling size i accesses t w →
     checked ≡ (w && may_be_free (slice_index_or accesses i d)) → more ≡ with_access t checked (slice_index_or accesses i d).read → tally_fits_guarded size more ≡ true →

@@ -3,6 +3,7 @@ use Rattle.std.proofs.Common.{◌≡◌, leb, ℕ, ◌+◌, ◌*◌, ◌-◌, �
 use Rattle.std.specs.List.{AllByRecursion}
 use Rattle.std.proofs.lemmas.Bool.{leb-true}
 use Rattle.target_machine.specs.declared.access.RegAccess.{RegAccess}
+use Rattle.target_machine.proofs.CountLemmas.{one_most}
 use Rattle.dap_messages.specs.declared.request.Request.{Request}
 use Rattle.dap_messages.specs.Requests.{IsRequest, mask_request, match_request, reads_in, request_bytes}
 use Rattle.dap_messages.proofs.RequestBits.{mask_is_request, match_is_request, read_is_request}
@@ -15,7 +16,7 @@ use Rattle.flight_forms.specs.Packets.{FitChain, FitsPacket, block_command, guar
 use Rattle.flight_forms.specs.Packing.{AreWords, check_when, guarded_requests, payload, request_of, requests_for, write_at_end}
 use Rattle.flight_forms.proofs.PartLists.{parts_fit, parts_have}
 use Rattle.flight_forms.proofs.RequestFacts.{request_is}
-use Rattle.flight_forms.proofs.RequestSizes.{bytes-append, bytes_first, check_bytes, check_length, check_reads, few_for, one_most, reads-append, three_parts}
+use Rattle.flight_forms.proofs.RequestSizes.{bytes-append, bytes_first, check_bytes, check_length, check_reads, few_for, reads-append, three_parts}
 
 -- ---- the requests are in their ranges
 

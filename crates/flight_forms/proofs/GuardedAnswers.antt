@@ -2,6 +2,7 @@
 use Rattle.std.proofs.Common.{◌≡◌, eqb, ltb, ℕ, ◌+◌, ◌^◌, ◌≤◌, ◌<◌, ◌&&◌, ◌||◌, not, Bool, true, false, List, [], ◌∷◌, ◌++◌, take, length, length-append, refl, ap, sym, ◌∙◌, arith, suc, zero, IsTrue}
 use Rattle.std.specs.List.{AllByRecursion}
 use Rattle.std.proofs.lemmas.Bool.{eq-eqb, ltb-false, ltb-true}
+use Rattle.std.proofs.Math.Seq.{take-length}
 use Rattle.target_machine.specs.State.{TargetState}
 use Rattle.dap_messages.specs.declared.request.Request.{Request}
 use Rattle.dap_messages.specs.declared.request.Response.{Response}
@@ -14,7 +15,7 @@ use Rattle.dap_transfer.specs.Private.{word_of}
 use Rattle.dap_transfer.proofs.Words.{reads_first}
 use Rattle.dap_transfer.specs.CommandEnds.{EndsAt, posted_last, doubted}
 use Rattle.flight_forms.specs.Packing.{guarded}
-use Rattle.dap_transfer.proofs.NormalAnswers.{count_missing, missing_posted, next_waits, or_first, take_length}
+use Rattle.dap_transfer.proofs.NormalAnswers.{count_missing, missing_posted, next_waits, or_first}
 
 pub reads_masked : (rs : List Request) (v : ℕ) → reads_in (rs ++ mask_request v ∷ []) ≡ reads_in rs
 reads_masked [] v = reads_first (mask_request v ∷ []) [] (mask_request v) refl
@@ -69,7 +70,7 @@ guarded_stops t rs given n x doubt normal checked ends bad = by_end (ltb n (leng
     at_end : n ≡ length rs → may_stop (progress_at (guarded rs) (suc (suc n))) missing ≡ true
     at_end e =
         let sure : doubt ≡ true = ends.at_end bad e in
-        let all : take n rs ≡ rs = ap (λ k. take k rs) e ∙ take_length rs in
+        let all : take n rs ≡ rs = ap (λ k. take k rs) e ∙ take-length rs in
         or_second next missing last (only_posted doubt (posted_last false (take n rs)) (write_after false (take n rs)) sure (ends.unseen sure) (ap (write_after false) all ∙ checked))
 
     by_end : (b : Bool) → ltb n (length rs) ≡ b → may_stop (progress_at (guarded rs) (suc (suc n))) missing ≡ true
@@ -112,7 +113,7 @@ answers_whole rs words fits count = record {
   given =
       (let a = reads_guarded (rs ++ mask_request 0 ∷ []) in
       let b = reads_masked rs 0 in
-      let c = ap reads_in (take_length (guarded rs)) in
+      let c = ap reads_in (take-length (guarded rs)) in
       omega arith);
   ends = ap (λ b. b && true) (eq-eqb (length (guarded rs)) (length (guarded rs)) refl);
 }

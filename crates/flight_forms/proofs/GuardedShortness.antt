@@ -1,6 +1,7 @@
 -- What the reply to a guarded command shows that may come, whatever the probe did.
 use Rattle.std.proofs.Common.{◌≡◌, eqb, ltb, ℕ, ◌+◌, ◌-◌, ◌≤◌, ◌<◌, ◌&&◌, not, Bool, true, false, List, [], ◌∷◌, ◌++◌, take, length, refl, ap, sym, ◌∙◌, arith, suc, zero, subst, ◌⊎◌, inl, inr, IsTrue, length-append}
-use Rattle.std.proofs.lemmas.Bool.{eqb-true, ltb-false, ltb-true}
+use Rattle.std.proofs.lemmas.Bool.{eqb-true, ltb-false, ltb-true, and_parts}
+use Rattle.std.proofs.Math.Seq.{take-length}
 use Rattle.target_machine.specs.declared.access.RegAccess.{RegAccess}
 use Rattle.dap_messages.specs.declared.request.Request.{Request}
 use Rattle.dap_messages.specs.declared.request.RequestKind.{RequestKind}
@@ -14,6 +15,7 @@ use Rattle.dap_messages.specs.Responses.{code_of, response_of}
 use Rattle.target_machine.specs.Counts.{one_if}
 use Rattle.dap_transfer.specs.CommandEnds.{posted_last}
 use Rattle.dap_transfer.specs.Laws.{AreNormal, accesses_in}
+use Rattle.dap_transfer.proofs.Numbering.{one_is}
 use Rattle.flight_forms.specs.Flights.{IsPartOf, Part, part_of}
 use Rattle.dap_messages.specs.Requests.{mask_request}
 use Rattle.flight_forms.specs.Chains.{joined_as}
@@ -24,8 +26,8 @@ use Rattle.flight_forms.proofs.RequestSizes.{few_for}
 use Rattle.flight_forms.proofs.AskedRequests.{accesses_asked, checks_follow, length_asked, payload_checked, payload_normal}
 use Rattle.flight_forms.proofs.OwnAccesses.{ChecksFollow}
 use Rattle.flight_forms.proofs.Rows.{take_past}
-use Rattle.dap_transfer.proofs.NormalAnswers.{take_length}
-use Rattle.flight_forms.proofs.Shortness.{Stopped, both_true, clash, count_is, normal_kind, posted_is, says_part, three_or}
+use Rattle.flight_forms.proofs.Shortness.{Stopped, normal_kind, posted_is, says_part, three_or}
+use Rattle.flight_forms.proofs.Capacity.{clash}
 
 masked_kind : (test : RequestKind → Bool) (n : ℕ) (rs : List Request) → length rs ≤ n → test Mask ≡ false → passes test (kind_at (rs ++ mask_request 0 ∷ []) n) ≡ false
 masked_kind test zero [] h e = e
@@ -34,7 +36,7 @@ masked_kind test zero (r ∷ rs) h e = absurd (omega arith)
 masked_kind test (suc n) (r ∷ rs) h e = masked_kind test n rs (omega arith) e
 
 -- the kind after the first n of the requests and of the mask after them
-normal_or_mask : (n : ℕ) (rs : List Request) → AreNormal rs → passes is_match (kind_at (rs ++ mask_request 0 ∷ []) n) ≡ false
+pub normal_or_mask : (n : ℕ) (rs : List Request) → AreNormal rs → passes is_match (kind_at (rs ++ mask_request 0 ∷ []) n) ≡ false
 normal_or_mask n rs normal = by_end (ltb n (length rs)) refl
   where
     by_end : (b : Bool) → ltb n (length rs) ≡ b → passes is_match (kind_at (rs ++ mask_request 0 ∷ []) n) ≡ false
@@ -54,7 +56,7 @@ guarded_stopped rs k missing fits e =
     by_reason (inl f) = by_end (ltb k (length rs)) refl f
     by_reason (inr (inl f)) = inr (inl f)
     by_reason (inr (inr f)) =
-        let two = both_true (eqb (suc (suc k)) (length (guarded rs))) (ends_in_write (guarded rs)) f in
+        let two = and_parts (eqb (suc (suc k)) (length (guarded rs))) (ends_in_write (guarded rs)) f in
         let whole = eqb-true (suc (suc k)) (length (guarded rs)) two.0 in
         absurd (let n = length-append rs (mask_request 0 ∷ []) in omega arith)
 
@@ -68,7 +70,7 @@ EndedBy x rs n missing = IsTrue (may_end_by (response_of (code_of x)) (progress_
 
 -- with the guard alone, or nothing, executed
 none_ended : (x : Response) (rs : List Request) (missing : Bool) → EndedBy x (guarded rs) 0 missing → x ≡ Good → ⊥
-none_ended Good rs missing e f = (let two = both_true (eqb 0 (length (guarded rs))) (not missing) e in let g = eqb-true 0 (length (guarded rs)) two.0 in absurd (cc))
+none_ended Good rs missing e f = (let two = and_parts (eqb 0 (length (guarded rs))) (not missing) e in let g = eqb-true 0 (length (guarded rs)) two.0 in absurd (cc))
 none_ended Wait rs missing e f = (let g = f in cc)
 none_ended Fault rs missing e f = (let g = f in cc)
 none_ended Mismatch rs missing e f = (let g = f in cc)
@@ -79,12 +81,12 @@ after_match rs missing held e =
       | inl f ↦ (let g = f in cc)
       | inr g ↦ elim g [
         | inl f ↦ held f
-        | inr f ↦ (let two = both_true (eqb 1 (length (guarded rs))) (ends_in_write (guarded rs)) f in let h = eqb-true 1 (length (guarded rs)) two.0 in absurd (omega arith))
+        | inr f ↦ (let two = and_parts (eqb 1 (length (guarded rs))) (ends_in_write (guarded rs)) f in let h = eqb-true 1 (length (guarded rs)) two.0 in absurd (omega arith))
       ]
     ]
 
 one_ended : (x : Response) (rs : List Request) (missing : Bool) → (missing ≡ true → ⊥) → EndedBy x (guarded rs) 1 missing → ⊥
-one_ended Good rs missing held e = (let two = both_true (eqb 1 (length (guarded rs))) (not missing) e in let g = eqb-true 1 (length (guarded rs)) two.0 in absurd (omega arith))
+one_ended Good rs missing held e = (let two = and_parts (eqb 1 (length (guarded rs))) (not missing) e in let g = eqb-true 1 (length (guarded rs)) two.0 in absurd (omega arith))
 one_ended Wait rs missing held e = after_match rs missing held e
 one_ended Fault rs missing held e = after_match rs missing held e
 one_ended Mismatch rs missing held e = (let f = e in cc)
@@ -93,7 +95,7 @@ one_ended Mismatch rs missing held e = (let f = e in cc)
 some_ended : (x : Response) (rs : List Request) (k : ℕ) (missing : Bool) → AreNormal rs → k ≤ length rs → EndedBy x (guarded rs) (suc (suc k)) missing →
     (x ≡ Good → ⊥) × Stopped k rs missing
 some_ended Good rs k missing normal fits e =
-    let two = both_true (eqb (suc (suc k)) (length (guarded rs))) (not missing) e in
+    let two = and_parts (eqb (suc (suc k)) (length (guarded rs))) (not missing) e in
     let g = eqb-true (suc (suc k)) (length (guarded rs)) two.0 in
     absurd (let n = length-append rs (mask_request 0 ∷ []) in omega arith)
 some_ended Wait rs k missing normal fits e = ((λ f. (let g = f in cc)), guarded_stopped rs k missing fits e)
@@ -107,7 +109,7 @@ past_stopped rs k missing checked past held e =
       | inl f ↦ clash f (masked_kind (λ j. not (is_mask j)) k rs (omega arith) refl)
       | inr g ↦ elim g [
         | inl f ↦ held f
-        | inr f ↦ (let two = both_true (eqb (suc (suc k)) (length (guarded rs))) (ends_in_write (guarded rs)) f in clash two.1 (write_masked false rs ∙ checked))
+        | inr f ↦ (let two = and_parts (eqb (suc (suc k)) (length (guarded rs))) (ends_in_write (guarded rs)) f in clash two.1 (write_masked false rs ∙ checked))
       ]
     ]
 
@@ -136,7 +138,7 @@ guarded_part_shows : (rs : List Request) (n : ℕ) (x : Response) (words : List 
     AnswersTransfer (guarded rs) n (code_of x) words → Shows rs (n - 2) x words
 guarded_part_shows rs zero x words normal follow checked some may =
     let bad = none_ended x rs may.missing may.ends in
-    let count = count_is may.missing in
+    let count = one_is may.missing in
     says_part rs 0 x words normal follow
     (record {
       within = omega arith;
@@ -160,7 +162,7 @@ guarded_part_shows rs (suc (suc k)) x words normal follow checked some may =
           within = fits;
           missing = may.missing;
           posted = λ e. guarded_posted rs k fits (may.posted e);
-          words = ap (λ j. length words + j) (sym (count_is may.missing)) ∙ may.given ∙ guarded_reads rs k fits;
+          words = ap (λ j. length words + j) (sym (one_is may.missing)) ∙ may.given ∙ guarded_reads rs k fits;
           whole = λ e. absurd (ended.0 e);
           stopped = λ _. ended.1;
         })
@@ -170,18 +172,18 @@ guarded_part_shows rs (suc (suc k)) x words normal follow checked some may =
         let size = length-append rs (mask_request 0 ∷ []) in
         let not_missing : may.missing ≡ true → ⊥ = λ e. past_missing rs k h (may.posted e) in
         let good : x ≡ Good = past_ended x rs k may.missing normal checked h not_missing may.ends in
-        let same : take (length rs) rs ≡ take k rs = take_length rs ∙ sym (take_past rs k (omega arith)) in
+        let same : take (length rs) rs ≡ take k rs = take-length rs ∙ sym (take_past rs k (omega arith)) in
         let none : may.missing ≡ false = is_false may.missing not_missing in
         let all : suc (suc k) ≡ length (guarded rs) = (let m = may.within in omega arith) in
         let reads : reads_in (take (suc (suc k)) (guarded rs)) ≡ reads_in (take (length rs) rs) =
-        ap (λ j. reads_in (take j (guarded rs))) all ∙ ap reads_in (take_length (guarded rs)) ∙ reads_guarded (rs ++ mask_request 0 ∷ []) ∙ reads_masked rs 0 ∙ ap reads_in (sym (take_length rs)) in
+        ap (λ j. reads_in (take j (guarded rs))) all ∙ ap reads_in (take-length (guarded rs)) ∙ reads_guarded (rs ++ mask_request 0 ∷ []) ∙ reads_masked rs 0 ∙ ap reads_in (sym (take-length rs)) in
         subst (λ (xs : List Request). IsPartOf (length (accesses_in rs)) (part_of xs x words)) same
         (says_part rs (length rs) x words normal follow
         (record {
           within = omega arith;
           missing = false;
           posted = λ e. absurd (cc);
-          words = (let g = may.given in let c = ap one_if none in let d = count_is may.missing in omega arith);
+          words = (let g = may.given in let c = ap one_if none in let d = one_is may.missing in omega arith);
           whole = λ _. refl;
           stopped = λ bad. absurd (bad good);
         }))

@@ -1,6 +1,5 @@
 -- How far the list of stalls goes on in a command whose checks follow writes.
-use Rattle.std.proofs.Common.{◌≡◌, ℕ, ◌+◌, ◌*◌, ◌≤◌, ◌||◌, Bool, true, false, cond, List, [], ◌∷◌, take, length, refl, ap, ◌∙◌, arith, suc, zero}
-use Rattle.std.proofs.lemmas.List.Sums.{sum_by-cons}
+use Rattle.std.proofs.Common.{◌≡◌, ℕ, ◌+◌, ◌*◌, ◌≤◌, ◌||◌, Bool, true, false, cond, List, [], ◌∷◌, take, length, refl, ap, arith, suc, zero}
 use Rattle.target_machine.specs.State.{TargetState}
 use Rattle.target_machine.specs.declared.access.RegAccess.{RegAccess}
 use Rattle.dap_messages.specs.declared.request.Request.{Request}
@@ -14,15 +13,9 @@ use Rattle.dap_transfer.specs.CommandEnds.{EndsAt, IsNumbered, doubted, one_at_e
 use Rattle.dap_transfer.specs.Laws.{AreNormal, IsNormalKind, accesses_in}
 use Rattle.dap_transfer.specs.State.{is_wait}
 use Rattle.dap_transfer.specs.Wires.{access_of}
+use Rattle.dap_transfer.proofs.Numbering.{posted_first}
 use Rattle.flight_forms.specs.Flights.{is_own}
 use Rattle.flight_forms.proofs.OwnAccesses.{ChecksFollow, own_posted, own_write}
-
-one_is : (b : Bool) → cond {A = ℕ} b 1 0 ≡ one_if b
-one_is true = refl
-one_is false = refl
-
-posted_first : (r : Request) (rs : List Request) → posted_in (r ∷ rs) ≡ one_if (is_posted (kind r)) + posted_in rs
-posted_first r rs = sum_by-cons _ r rs ∙ ap (λ n. n + posted_in rs) (one_is (is_posted (kind r)))
 
 one_step : (k : RequestKind) (b w : Bool) (a : RegAccess) (own : List RegAccess) (n posted : ℕ) (last : Bool) → IsNormalKind k → (k ≡ Posted → b ≡ true) → (k ≡ Write → b ≡ true) →
     (b ≡ false → w ≡ true) → n + posted + one_if last ≤ 2 * length own + one_if (write_last k w) →
@@ -52,7 +45,7 @@ taken_follow zero w rs h = tt
 taken_follow (suc n) w [] h = tt
 taken_follow (suc n) w (r ∷ rs) h = (h.0, taken_follow n (write_last (kind r) w) rs h.1)
 
-taken_normal : (n : ℕ) (rs : List Request) → AreNormal rs → AreNormal (take n rs)
+pub taken_normal : (n : ℕ) (rs : List Request) → AreNormal rs → AreNormal (take n rs)
 taken_normal zero rs h = tt
 taken_normal (suc n) [] h = tt
 taken_normal (suc n) (r ∷ rs) h = (h.0, taken_normal n rs h.1)

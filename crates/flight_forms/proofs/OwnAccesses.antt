@@ -8,6 +8,7 @@ use Rattle.dap_messages.specs.declared.request.Request.{Request}
 use Rattle.dap_messages.specs.declared.request.RequestKind.{RequestKind}
 use Rattle.dap_messages.specs.declared.request.RequestKind.TheVariants.{Posted, Read, Match, Mask, Write}
 use Rattle.std.proofs.lemmas.Bool.{eqb-true, ltb-false, ltb-true}
+use Rattle.std.proofs.Math.Seq.{take-length}
 use Rattle.dap_messages.specs.declared.request.Response.{Response}
 use Rattle.dap_messages.specs.declared.request.Response.TheVariants.{Good, Fault}
 use Rattle.dap_messages.specs.Requests.{is_posted, kind, write_after, write_last}
@@ -15,7 +16,8 @@ use Rattle.dap_transfer.specs.Wires.{access_of}
 use Rattle.dap_transfer.specs.Laws.{accesses_in, one_at_a_time, IsNormalKind, AreNormal}
 use Rattle.target_machine.specs.Counts.{one_if}
 use Rattle.dap_transfer.specs.CommandEnds.{posted_last, EndsAt, doubted, target_after}
-use Rattle.dap_transfer.proofs.CommandEnds.{posted_bits, write_bits}
+use Rattle.dap_transfer.proofs.CommandEnds.{write_bits}
+use Rattle.dap_transfer.proofs.ReadWords.{posted_bits}
 use Rattle.flight_forms.specs.Flights.{AreClear, Performs, is_own}
 
 -- ---- reads of RDBUFF leave the target
@@ -77,10 +79,6 @@ pub own_most : (n : ℕ) (rs : List Request) → own_count n rs ≤ length (acce
 own_most zero rs = omega arith
 own_most (suc n) [] = omega arith
 own_most (suc n) (r ∷ rs) = most_step (is_own (access_of r)) (access_of r) (accesses_in (take n rs)) (accesses_in rs) (own_most n rs)
-
-take_whole : (rs : List Request) → take (length rs) rs ≡ rs
-take_whole [] = refl
-take_whole (r ∷ rs) = ap (λ xs. r ∷ xs) (take_whole rs)
 
 take_mapped : (n : ℕ) (rs : List Request) → take n (map access_of rs) ≡ map access_of (take n rs)
 take_mapped zero rs = refl
@@ -195,7 +193,7 @@ performs_own t u rs given n x pending normal follow ends target =
           (let all : n ≡ length rs = ends.whole e in
           let sure : doubt ≡ false = sure_good x pending e in
           let same : m ≡ length rs = (let z = ap one_if sure in omega arith) in
-          ap (λ k. own_count k rs) same ∙ ap (λ xs. length (accesses_in xs)) (take_whole rs));
+          ap (λ k. own_count k rs) same ∙ ap (λ xs. length (accesses_in xs)) (take-length rs));
       short = λ bad. fewer bad (next_or_write n false rs follow) near;
       fault = λ e. (doubt_fault x pending e, ap (λ (v : TargetState). v.sticky) target ∙ ends.fault e);
       never = ends.never;

@@ -26,7 +26,7 @@ use Rattle.dap_transfer.proofs.CommandEnds.{command_ends}
 use Rattle.dap_transfer.proofs.Work.{counts_accesses}
 use Rattle.dap_transfer.proofs.Numbering.{numbers_transfers}
 use Rattle.flight_forms.proofs.OwnAccesses.{ChecksFollow, doubted_count, own_count, performs_own, taken_own}
-use Rattle.flight_forms.proofs.Numbers.{number_kept}
+use Rattle.flight_forms.proofs.Numbers.{number_kept, taken_normal}
 use Rattle.flight_forms.proofs.SeenValues.{all_seen, less_seen}
 use Rattle.flight_forms.proofs.Stalled.{command_over}
 
@@ -77,11 +77,6 @@ value_count t (r ∷ rs) =
     word_count (kind r) (value_now t (access_of r)) (read_values (attempt t (access_of r)).next rs)
     ∙ ap (λ n. word_of (kind r) + n) (value_count (attempt t (access_of r)).next rs)
     ∙ sym (reads_first (r ∷ rs) rs r refl)
-
-taken_normal : (n : ℕ) (rs : List Request) → AreNormal rs → AreNormal (take n rs)
-taken_normal zero rs h = tt
-taken_normal (suc n) [] h = tt
-taken_normal (suc n) (r ∷ rs) h = (h.0, taken_normal n rs h.1)
 
 is_one : (doubt posted : Bool) → one_if (doubt && posted) ≡ 1 → (doubt ≡ true) × (posted ≡ true)
 is_one true true e = (refl, refl)

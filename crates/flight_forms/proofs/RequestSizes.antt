@@ -7,6 +7,7 @@ use Rattle.target_machine.specs.declared.access.RegAccess.{RegAccess}
 use Rattle.dap_messages.specs.declared.request.Request.{Request}
 use Rattle.dap_messages.specs.Requests.{kind, reads_in, request_bytes, takes_word, word_if}
 use Rattle.target_machine.specs.Counts.{one_if}
+use Rattle.target_machine.proofs.CountLemmas.{one_most}
 use Rattle.dap_transfer.specs.CommandEnds.{may_be_free, writes_ap}
 use Rattle.dap_transfer.specs.Private.{word_of}
 use Rattle.dap_transfer.proofs.Words.{reads_first}
@@ -119,10 +120,6 @@ checked_most : (w free : Bool) → one_if (w && free) ≤ one_if w
 checked_most true true = omega arith
 checked_most true false = omega arith
 checked_most false free = omega arith
-
-pub one_most : (b : Bool) → one_if b ≤ 1
-one_most true = omega arith
-one_most false = omega arith
 
 -- an access is checked before or a write of an access port, not both; and a read is no write
 pub one_of_them : (w : Bool) (a : RegAccess) → one_if (w && may_be_free a) + one_if (writes_ap a) ≤ 1

@@ -13,7 +13,8 @@ use Rattle.dap_transfer.specs.Wires.{access_of}
 use Rattle.dap_transfer.specs.Laws.{accesses_in, value_now, read_values, reads_value, IsNormalKind, AreNormal}
 use Rattle.dap_transfer.specs.CommandEnds.{posted_last}
 use Rattle.flight_forms.specs.Flights.{is_own, slot_values, seen_one, seen_values, next_word}
-use Rattle.dap_transfer.proofs.CommandEnds.{posted_bits, write_bits, read_is}
+use Rattle.dap_transfer.proofs.CommandEnds.{write_bits, read_is}
+use Rattle.dap_transfer.proofs.ReadWords.{posted_bits}
 use Rattle.flight_forms.proofs.OwnAccesses.{not_own, own_posted, own_write}
 
 -- what the first request sees

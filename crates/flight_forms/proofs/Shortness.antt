@@ -1,6 +1,7 @@
 -- What replies show that may come, whatever the probe did.
-use Rattle.std.proofs.Common.{◌≡◌, eqb, leb, ltb, ℕ, ◌+◌, ◌*◌, ◌-◌, ◌≤◌, ◌<◌, ◌&&◌, ◌||◌, not, Bool, true, false, cond, List, [], ◌∷◌, take, length, refl, ap, sym, ◌∙◌, arith, suc, zero, subst, ◌⊎◌, inl, inr, IsTrue, append-nil, Option}
-use Rattle.std.proofs.lemmas.Bool.{eqb-true, leb-true, lt-ltb, ltb-false, ltb-true}
+use Rattle.std.proofs.Common.{◌≡◌, eqb, leb, ltb, ℕ, ◌+◌, ◌*◌, ◌-◌, ◌≤◌, ◌<◌, ◌&&◌, ◌||◌, not, Bool, true, false, List, [], ◌∷◌, take, length, refl, ap, sym, ◌∙◌, arith, suc, zero, subst, ◌⊎◌, inl, inr, IsTrue, append-nil, Option}
+use Rattle.std.proofs.lemmas.Bool.{eqb-true, leb-true, lt-ltb, ltb-false, ltb-true, and_parts, or_right, or_left}
+use Rattle.std.proofs.Math.Seq.{take-length}
 use Rattle.target_machine.specs.declared.access.RegAccess.{RegAccess}
 use Rattle.dap_messages.specs.declared.request.Request.{Request}
 use Rattle.dap_messages.specs.declared.request.RequestKind.{RequestKind}
@@ -12,6 +13,7 @@ use Rattle.dap_messages.specs.Replies as reply
 use Rattle.dap_messages.specs.Requests.{ends_in_write, is_mask, is_match, kind, reads_in, write_after}
 use Rattle.dap_messages.specs.Responses.{code_of, response_of}
 use Rattle.target_machine.specs.Counts.{one_if}
+use Rattle.target_machine.proofs.CountLemmas.{one_most}
 use Rattle.dap_transfer.specs.CommandEnds.{posted_last}
 use Rattle.dap_transfer.specs.Laws.{AreNormal, IsNormalKind, accesses_in}
 use Rattle.dap_transfer.specs.State.{is_good}
@@ -27,7 +29,10 @@ use Rattle.flight_forms.proofs.RequestSizes.{three_parts}
 use Rattle.flight_forms.proofs.AskedRequests.{accesses_asked, are_normal, checks_follow, length_asked}
 use Rattle.flight_forms.proofs.OwnAccesses.{ChecksFollow, last_own, next_or_write, own_count, own_most}
 use Rattle.flight_forms.proofs.SeenValues.{length_seen}
-use Rattle.dap_transfer.proofs.NormalAnswers.{posted_at, take_length}
+use Rattle.flight_forms.proofs.Numbers.{taken_normal}
+use Rattle.flight_forms.proofs.Capacity.{clash}
+use Rattle.dap_transfer.proofs.NormalAnswers.{posted_at}
+use Rattle.dap_transfer.proofs.Numbering.{one_is}
 
 -- ---- requests of which the first were executed
 
@@ -44,27 +49,10 @@ pub record Says (rs : List Request) (n : ℕ) (x : Response) (given : ℕ) : Typ
   pub whole : x ≡ Good → n ≡ length rs
   pub stopped : (x ≡ Good → ⊥) → Stopped n rs missing
 
-taken_normal : (n : ℕ) (rs : List Request) → AreNormal rs → AreNormal (take n rs)
-taken_normal zero rs h = tt
-taken_normal (suc n) [] h = tt
-taken_normal (suc n) (r ∷ rs) h = (h.0, taken_normal n rs h.1)
-
 -- the last executed request is an own access
 some_own : (n : ℕ) (rs : List Request) → AreNormal rs → n ≤ length rs → (posted_last false (take n rs) || write_after false (take n rs)) ≡ true → 1 ≤ own_count n rs
 some_own zero rs normal fits e = absurd (cc)
 some_own (suc n) rs normal fits e = (let h = last_own n false false rs normal fits e in omega arith)
-
-or_right : (x y : Bool) → y ≡ true → (x || y) ≡ true
-or_right true y e = refl
-or_right false y e = e
-
-or_left : (x y : Bool) → x ≡ true → (x || y) ≡ true
-or_left true y e = refl
-or_left false y e = absurd (cc)
-
-one_most : (b : Bool) → one_if b ≤ 1
-one_most true = omega arith
-one_most false = omega arith
 
 not_good : (x : Response) → (x ≡ Good → ⊥) → not (is_good x) ≡ true
 not_good Good bad = absurd (bad refl)
@@ -110,7 +98,7 @@ stopped_short rs n x given normal follow says bad = by_stop (says.stopped bad)
     by_stop (inr (inr e)) = written e
 
 all_own : (n : ℕ) (rs : List Request) → n ≡ length rs → own_count n rs ≡ length (accesses_in rs)
-all_own n rs e = ap (λ k. length (accesses_in (take k rs))) e ∙ ap (λ xs. length (accesses_in xs)) (take_length rs)
+all_own n rs e = ap (λ k. length (accesses_in (take k rs))) e ∙ ap (λ xs. length (accesses_in xs)) (take-length rs)
 
 -- what the reply shows of these requests
 pub says_part : (rs : List Request) (n : ℕ) (x : Response) (words : List ℕ) → AreNormal rs → ChecksFollow false rs → Says rs n x (length words) →
@@ -154,17 +142,6 @@ three_or true y z e = inl refl
 three_or false true z e = inr (inl refl)
 three_or false false z e = inr (inr e)
 
-pub both_true : (x y : Bool) → (x && y) ≡ true → (x ≡ true) × (y ≡ true)
-both_true true y e = (refl, e)
-both_true false y e = absurd (cc)
-
-pub clash : {b : Bool} → b ≡ true → b ≡ false → ⊥
-clash e f = (let g = sym e ∙ f in cc)
-
-pub count_is : (b : Bool) → cond {A = ℕ} b 1 0 ≡ one_if b
-count_is true = refl
-count_is false = refl
-
 pub posted_is : (n : ℕ) (rs : List Request) → n ≤ length rs → IsTrue (last_is_posted rs n) → posted_last false (take n rs) ≡ true
 posted_is zero rs h e = absurd (let f = e in cc)
 posted_is (suc n) rs h e = posted_at n false rs h ∙ e
@@ -173,16 +150,16 @@ transfer_stopped : (rs : List Request) (n : ℕ) (missing : Bool) → may_stop (
 transfer_stopped rs n missing e = by_reason (three_or (passes (λ k. not (is_mask k)) (kind_at rs n)) missing (eqb n (length rs) && ends_in_write rs) e)
   where
     at_end : (n ≡ length rs) → write_after false rs ≡ true → write_after false (take n rs) ≡ true
-    at_end f g = ap (λ k. write_after false (take k rs)) f ∙ ap (write_after false) (take_length rs) ∙ g
+    at_end f g = ap (λ k. write_after false (take k rs)) f ∙ ap (write_after false) (take-length rs) ∙ g
 
     by_reason : (passes (λ k. not (is_mask k)) (kind_at rs n) ≡ true) ⊎ ((missing ≡ true) ⊎ ((eqb n (length rs) && ends_in_write rs) ≡ true)) → Stopped n rs missing
     by_reason (inl f) = inl (some_kind (λ k. not (is_mask k)) n rs f)
     by_reason (inr (inl f)) = inr (inl f)
-    by_reason (inr (inr f)) = (let two = both_true (eqb n (length rs)) (ends_in_write rs) f in inr (inr (at_end (eqb-true n (length rs) two.0) two.1)))
+    by_reason (inr (inr f)) = (let two = and_parts (eqb n (length rs)) (ends_in_write rs) f in inr (inr (at_end (eqb-true n (length rs) two.0) two.1)))
 
 transfer_ends : (x : Response) (rs : List Request) (n : ℕ) (missing : Bool) → AreNormal rs → IsTrue (may_end_by (response_of (code_of x)) (progress_at rs n) missing) →
     (x ≡ Good → n ≡ length rs) × ((x ≡ Good → ⊥) → Stopped n rs missing)
-transfer_ends Good rs n missing normal e = ((λ _. eqb-true n (length rs) (let two = both_true (eqb n (length rs)) (not missing) e in two.0)), (λ bad. absurd (bad refl)))
+transfer_ends Good rs n missing normal e = ((λ _. eqb-true n (length rs) (let two = and_parts (eqb n (length rs)) (not missing) e in two.0)), (λ bad. absurd (bad refl)))
 transfer_ends Wait rs n missing normal e = ((λ f. absurd (cc)), (λ _. transfer_stopped rs n missing e))
 transfer_ends Fault rs n missing normal e = ((λ f. absurd (cc)), (λ _. transfer_stopped rs n missing e))
 transfer_ends Mismatch rs n missing normal e = absurd (clash e (normal_kind n rs normal))
@@ -194,7 +171,7 @@ transfer_says rs n x words normal may =
       within = may.within;
       missing = may.missing;
       posted = λ e. posted_is n rs may.within (may.posted e);
-      words = ap (λ k. length words + k) (sym (count_is may.missing)) ∙ may.given;
+      words = ap (λ k. length words + k) (sym (one_is may.missing)) ∙ may.given;
       whole = ends.0;
       stopped = ends.1;
     }
@@ -239,7 +216,7 @@ block_stopped accesses n all some fits = by_end (ltb n (length rs)) refl
     by_end false e =
         let past = ltb-false n (length rs) e in
         let whole : n ≡ length rs = (let c = count in omega arith) in
-        inr (inr (ap (λ k. write_after false (take k rs)) whole ∙ ap (write_after false) (take_length rs) ∙ written))
+        inr (inr (ap (λ k. write_after false (take k rs)) whole ∙ ap (write_after false) (take-length rs) ∙ written))
 
 block_ends : (x : Response) (n m : ℕ) → IsTrue (may_end_block (response_of (code_of x)) n m) → (x ≡ Good → n ≡ m) × (x ≡ Mismatch → ⊥)
 block_ends Good n m e = ((λ _. eqb-true n m e), (λ f. absurd (cc)))

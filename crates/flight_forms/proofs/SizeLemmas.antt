@@ -1,10 +1,11 @@
 -- The size of accesses as the list grows.
 use Rattle.std.proofs.Common.{◌≡◌, leb, ltb, ℕ, ◌+◌, ◌-◌, ◌/◌, ◌≤◌, ◌<◌, ◌&&◌, Bool, true, false, cond, List, [], ◌∷◌, ◌++◌, Some, None, length, fold, refl, ap, sym, ◌∙◌, arith, suc, subst, length-append, append_assoc}
 use Rattle.std.specs.Prelude.{is_some}
-use Rattle.std.proofs.lemmas.Bool.{le-leb, lt-ltb, ltb-true}
+use Rattle.std.proofs.lemmas.Bool.{le-leb, lt-ltb, ltb-true, and_parts, and_from, and_left}
+use Rattle.std.proofs.Math.Bool.{and-true}
 use Rattle.target_machine.specs.declared.access.RegAccess.{RegAccess}
 use Rattle.dap_messages.specs.declared.request.Request.{Request}
-use Rattle.target_machine.specs.Counts.{one_if}
+use Rattle.target_machine.proofs.CountLemmas.{one_most}
 use Rattle.dap_transfer.specs.CommandEnds.{may_be_free, writes_ap}
 use Rattle.flight_forms.specs.declared.size.FlightSize.{FlightSize}
 use Rattle.flight_forms.specs.declared.size.Tally.{Tally}
@@ -37,12 +38,8 @@ and_twice : (x y z : Bool) → (x && (y && z)) ≡ ((x && y) && z)
 and_twice true y z = refl
 and_twice false y z = refl
 
-and_true : (x : Bool) → (x && true) ≡ x
-and_true true = refl
-and_true false = refl
-
 all_more : (accesses : List RegAccess) (a : RegAccess) → all_write_drw (accesses ++ a ∷ []) ≡ (all_write_drw accesses && writes_drw a)
-all_more [] a = and_true (writes_drw a)
+all_more [] a = and-true (writes_drw a)
 all_more (x ∷ rest) a = ap (λ b. writes_drw x && b) (all_more rest a) ∙ and_twice (writes_drw x) (all_write_drw rest) (writes_drw a)
 
 -- ---- one part more, or one access more in the last part
@@ -51,7 +48,7 @@ last_after : (part : List RegAccess) (parts : List (List RegAccess)) → 1 ≤ l
 last_after part [] h = absurd (omega arith)
 last_after part (other ∷ parts) h = refl
 
-some_parts : (size : ℕ) (part rest : List RegAccess) → 1 ≤ length (filled size part rest)
+pub some_parts : (size : ℕ) (part rest : List RegAccess) → 1 ≤ length (filled size part rest)
 some_parts size part [] = omega arith
 some_parts size part (a ∷ rest) = by_fit (fits_guarded size (part ++ a ∷ [])) (some_parts size (part ++ a ∷ []) rest)
   where
@@ -140,10 +137,6 @@ parts_few size (a ∷ rest) = (let h = few_parts size (a ∷ []) rest in omega a
 
 -- ---- the tally of one access more
 
-one_most : (b : Bool) → one_if b ≤ 1
-one_most true = omega arith
-one_most false = omega arith
-
 bytes_most : (b : Bool) → cond {A = ℕ} b 1 5 ≤ 5
 bytes_most true = omega arith
 bytes_most false = omega arith
@@ -201,16 +194,12 @@ and_first : (x y : Bool) → x ≡ true → (x && y) ≡ y
 and_first true y e = refl
 and_first false y e = absurd (cc)
 
-and_none : (x y : Bool) → x ≡ false → (x && y) ≡ false
-and_none true y e = absurd (cc)
-and_none false y e = refl
-
 pub parts_with : (accesses : List RegAccess) (s : FlightSize) (a : RegAccess) → length accesses < 65535 → IsSizeOf accesses s →
     (let u = size_with s a in PartsCounted s.packet_size (parts_of s.packet_size (accesses ++ a ∷ [])) u.parts u.last)
 parts_with [] s a few h =
     let more : Tally = with_access s.last (s.after_write && may_be_free a) a.read in
     let none : s.parts ≡ 0 = h.parts in
-    let apart : (ltb 0 s.parts && tally_fits_guarded s.packet_size more) ≡ false = and_none (ltb 0 s.parts) (tally_fits_guarded s.packet_size more) (ap (ltb 0) none) in
+    let apart : (ltb 0 s.parts && tally_fits_guarded s.packet_size more) ≡ false = and_left (ltb 0 s.parts) (tally_fits_guarded s.packet_size more) (ap (ltb 0) none) in
     subst (λ (b : Bool). PartsCounted s.packet_size ((a ∷ []) ∷ []) (cond b s.parts (plus s.parts 1)) (cond b more (with_access no_tally false a.read))) (sym apart)
     ((omega arith), alone_counted a)
 parts_with (x ∷ rest) s a few h =
@@ -249,14 +238,6 @@ joined_or_more : (b : Bool) (n : ℕ) → cond b n (plus n 1) ≤ n + 1
 joined_or_more true n = omega arith
 joined_or_more false n = omega arith
 
-both_true : (x y : Bool) → (x && y) ≡ true → (x ≡ true) × (y ≡ true)
-both_true true y e = (refl, e)
-both_true false y e = absurd (cc)
-
-both_are : (x y : Bool) → x ≡ true → y ≡ true → (x && y) ≡ true
-both_are true y e f = f
-both_are false y e f = absurd (cc)
-
 some_form : (block transfer chain : Bool) → chain ≡ true → is_some (cond block (Some Block) (cond transfer (Some Transfer) (cond chain (Some Chain) None))) ≡ true
 some_form true transfer chain e = refl
 some_form false true chain e = refl
@@ -270,8 +251,8 @@ part_holds accesses s a few h more =
     let grows = size_grows accesses s a few h in
     let parts = grows.parts in
     let at_most = joined_or_more (ltb 0 s.parts && tally_fits_guarded s.packet_size (with_access s.last (s.after_write && may_be_free a) a.read)) s.parts in
-    let has = both_true (leb 2 s.packet_count) (ltb s.parts s.packet_count) more in
+    let has = and_parts (leb 2 s.packet_count) (ltb s.parts s.packet_count) more in
     let room : s.parts < s.packet_count = ltb-true s.parts s.packet_count has.1 in
     let fits : length (parts_of s.packet_size (accesses ++ a ∷ [])) ≤ s.packet_count = omega (arith, parts, at_most, room) in
     some_form (fits_block s.packet_size (accesses ++ a ∷ [])) (fits_transfer s.packet_size (accesses ++ a ∷ [])) (fits_chain s.packet_size s.packet_count (accesses ++ a ∷ []))
-    (both_are (leb 2 s.packet_count) (leb (length (parts_of s.packet_size (accesses ++ a ∷ []))) s.packet_count) has.0 (le-leb (length (parts_of s.packet_size (accesses ++ a ∷ []))) s.packet_count fits))
+    (and_from (leb 2 s.packet_count) (leb (length (parts_of s.packet_size (accesses ++ a ∷ []))) s.packet_count) has.0 (le-leb (length (parts_of s.packet_size (accesses ++ a ∷ []))) s.packet_count fits))

@@ -49,8 +49,10 @@ pub fn parts_are_the_flight()
 /// What fits a form fits its packets, with its command and the longest reply. The forms are a block, one Transfer, a guarded Transfer with
 /// the two bytes before it, and each part of a chain.
 pub fn what_fits_can_be_sent()
-    ensures block { (size : ℕ) (accesses : List RegAccess) → size < 2 ^ 16 → AreWords accesses → fits_block size accesses ≡ true → FitsPacket size 0 (block_command accesses) }
-    ensures transfer { (size : ℕ) (a : RegAccess) (rest : List RegAccess) → AreWords (a ∷ rest) → fits_transfer size (a ∷ rest) ≡ true → FitsPacket size 0 (transfer_command (a ∷ rest)) }
+    ensures block { (size : ℕ) (accesses : List RegAccess) → size < 2 ^ 16 → AreWords accesses
+        → fits_block size accesses ≡ true → FitsPacket size 0 (block_command accesses) }
+    ensures transfer { (size : ℕ) (a : RegAccess) (rest : List RegAccess) → AreWords (a ∷ rest)
+        → fits_transfer size (a ∷ rest) ≡ true → FitsPacket size 0 (transfer_command (a ∷ rest)) }
     ensures guarded { (size : ℕ) (accesses : List RegAccess) → AreWords accesses → fits_guarded size accesses ≡ true → FitsPacket size 2 (guarded_command accesses) }
     ensures chain { (size : ℕ) (accesses : List RegAccess) → 64 ≤ size → size ≤ 1024 → AreWords accesses → FitChain size (parts_of size accesses) }
 {}
@@ -58,9 +60,11 @@ pub fn what_fits_can_be_sent()
 /// What a reply shows of the accesses of its command, where it is one that the command may get, whatever the probe did. All are confirmed
 /// where it is OK, and else fewer. So it is of two parts in a row.
 pub fn what_a_reply_shows()
-    ensures block { (size : ℕ) (accesses : List RegAccess) (n : ℕ) (x : Response) → fits_block size accesses ≡ true → Answers (block_command accesses) (reply.Block n (code_of x))
+    ensures block { (size : ℕ) (accesses : List RegAccess) (n : ℕ) (x : Response) → fits_block size accesses ≡ true
+        → Answers (block_command accesses) (reply.Block n (code_of x))
         → IsPartOf (length accesses) (part_of (take n (requests_for false accesses)) x []) }
-    ensures transfer { (accesses : List RegAccess) (n : ℕ) (x : Response) (words : List ℕ) → AreTaken accesses → Answers (transfer_command accesses) (reply.Transfer n (code_of x) words)
+    ensures transfer { (accesses : List RegAccess) (n : ℕ) (x : Response) (words : List ℕ) → AreTaken accesses
+        → Answers (transfer_command accesses) (reply.Transfer n (code_of x) words)
         → IsPartOf (length accesses) (part_of (take n (requests_for false accesses)) x words) }
     ensures guarded { (accesses : List RegAccess) (n : ℕ) (x : Response) (words : List ℕ) → AreTaken accesses → 1 ≤ length accesses
         → Answers (guarded_command accesses) (reply.Transfer n (code_of x) words) → IsPartOf (length accesses) (part_of (take (n - 2) (payload accesses)) x words) }
@@ -74,7 +78,8 @@ pub fn how_many_fit()
     ensures full { (size count : ℕ) (accesses : List RegAccess) → 21 ≤ size → size ≤ 1024 → form_of size count accesses ≡ None → capacity size count < length accesses }
     ensures writes { (size count : ℕ) (accesses : List RegAccess) → 64 ≤ size → size ≤ 1024 → 1 ≤ length accesses → all_write_drw accesses ≡ true
         → form_of size count accesses ≡ None → (size - 5) / 4 < length accesses }
-    ensures most { (size count : ℕ) (accesses : List RegAccess) (f : Form) → 64 ≤ size → size ≤ 1024 → 1 ≤ count → form_of size count accesses ≡ Some f → length accesses ≤ 255 * count }
+    ensures most { (size count : ℕ) (accesses : List RegAccess) (f : Form) → 64 ≤ size → size ≤ 1024 → 1 ≤ count
+        → form_of size count accesses ≡ Some f → length accesses ≤ 255 * count }
 {}
 
 /// The reply to each form is one that its commands may get. The probe lets a guarded command make its accesses, or STICKYERR is clear where

@@ -123,7 +123,7 @@ impl FlightSize {
     }
 
     // What is kept with one access more.
-    fn grown(self, next: RegAccess) -> FlightSize
+    fn with_access(self, next: RegAccess) -> FlightSize
         ensures { result ≡ size_with self next }
     {
         let checked = is_checked(self.after_write, next);
@@ -154,7 +154,7 @@ impl FlightSize {
         ensures same_size { result.packet_size ≡ self.packet_size }
         ensures same_count { result.packet_count ≡ self.packet_count }
     {
-        self.grown(next)
+        self.with_access(next)
     }
 
     // Whether a block holds the accesses.

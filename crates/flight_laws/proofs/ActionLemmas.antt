@@ -3,7 +3,7 @@ use Rattle.std.proofs.Common.{◌≡◌, ◌⊎◌, inl, inr, ◌∙◌, ℕ, su
 use Rattle.std.proofs.lemmas.List.{take_all}
 use Rattle.std.proofs.lemmas.List.Sums.{sum_by-cons}
 use Rattle.std.proofs.Math.Seq.{drop-append_seam, take-append-add, take-append_seam}
-use Rattle.std.proofs.lemmas.Bool.{cases_lt}
+use Rattle.std.proofs.lemmas.Bool.{both_ways, cases_lt}
 use Rattle.std.proofs.Math.Nat.{le-div_iff_mul-le}
 use Rattle.std.specs.Prelude.{slice_get}
 use Rattle.target_calls.proofs.EntryLemmas.{commands_append, performed_part, registers_append, weight_append}
@@ -20,6 +20,7 @@ use Rattle.flight_laws.proofs.FlightLemmas.{commands_both, flight_length, head_m
 use Rattle.flight_laws.specs.Actions.{ActionBench, ActionDone, ActionWait, AreForgiving, FaultForgiven}
 use Rattle.flight_laws.specs.Packets.{FewPackets, FullFlight}
 use Rattle.flight_laws.specs.UnderWay.{IsUnderWay}
+use Rattle.flight_laws.proofs.StopLemmas.{entry_at}
 use Rattle.batch_packer.specs.Flying.{Flies}
 use Rattle.flight_forms.specs.Flights.{Part}
 use Rattle.target_machine.specs.Counts.{one_if}
@@ -73,10 +74,6 @@ between entries made some rest are =
     ∙ drop-append_seam made (take (length some) (some ++ rest))
     ∙ take-append_seam some rest
 
-next_at : (front : List Entry) (e : Entry) (more : List Entry) → slice_get (front ++ e ∷ more) (length front) ≡ Some e
-next_at [] e more = refl
-next_at (x ∷ front) e more = next_at front e more
-
 module _ (entries made : List Entry) (e : Entry) (rest : List Entry) (n : Option ℕ) (m0 m o : BenchState) (work : ℕ) (on : IsUnderWay entries made [] (e ∷ rest) [] m0 m) (grown : work_of o.probe ≡ work_of m.probe + work) (less : work < weight (target_of m.probe) e.action) where
   abbrev t0 : TargetState
   t0 = target_of m0.probe
@@ -96,7 +93,7 @@ module _ (entries made : List Entry) (e : Entry) (rest : List Entry) (n : Option
   at_front = on.target ∙ ap (target_after t0) (sym made_is)
 
   next_is : slice_get entries (length made) ≡ Some e
-  next_is = ap (λ (l : List Entry). slice_get l (length made)) on.are ∙ next_at made e rest
+  next_is = ap (λ (l : List Entry). slice_get l (length made)) on.are ∙ entry_at made e rest
 
   work_within : work_of o.probe - work_of m0.probe ≤ weight_in t0 entries
   work_within =
@@ -193,10 +190,6 @@ all_forgiving : (xs : List Entry) (e : Entry) → AreForgiving xs → e.forgivin
 all_forgiving [] e h k = (k, tt)
 all_forgiving (x ∷ xs) e h k = (h.0, all_forgiving xs e h.1 k)
 
-clash : (b : Bool) → b ≡ true → b ≡ false → ⊥
-clash true e f = cc
-clash false e f = cc
-
 -- where no access before it faults, a flight faults at its last one, and all its entries were performed
 module _ (entries made flying rest : List Entry) (lead : List RegAccess) (a : RegAccess) (m0 m o : BenchState) (part : Part) (on : IsUnderWay entries made flying rest (lead ++ a ∷ []) m0 m) (flies : Flies (lead ++ a ∷ []) part m o) (bad : part.response ≡ Fault) (none : NoneFault (target_of m.probe) lead) where
   early : part.confirmed < length lead → part.confirmed < length (lead ++ a ∷ []) → ⊥
@@ -205,8 +198,8 @@ module _ (entries made flying rest : List Entry) (lead : List RegAccess) (a : Re
       let good : is_fault (acted (after (target_of m.probe) (actions_in c.front)) c.entry.action).outcome ≡ false =
       none_fault_at (target_of m.probe) c.front c.entry c.back lead a none (ap actions_in (sym c.is) ∙ on.flight) (let at = c.at in omega (arith, at, less)) in
       let here : after (target_of m0.probe) (actions_in (made ++ c.front)) ≡ after (target_of m.probe) (actions_in c.front) = after_split (target_of m0.probe) made c.front ∙ ap (λ (s : TargetState). after s (actions_in c.front)) (sym on.target) in
-      clash (is_fault (acted (after (target_of m.probe) (actions_in c.front)) c.entry.action).outcome)
-      (ap (λ (s : TargetState). is_fault (acted s c.entry.action).outcome) (sym here) ∙ faults entries made flying rest (lead ++ a ∷ []) None m0 m o part on flies.does bad short) good
+      both_ways (is_fault (acted (after (target_of m.probe) (actions_in c.front)) c.entry.action).outcome) good
+      (ap (λ (s : TargetState). is_fault (acted s c.entry.action).outcome) (sym here) ∙ faults entries made flying rest (lead ++ a ∷ []) None m0 m o part on flies.does bad short)
 
   last_by : part.confirmed < length (lead ++ a ∷ []) → length (lead ++ a ∷ []) ≡ length lead + 1 → (part.confirmed < length lead → ⊥) → part.confirmed ≡ length lead
   last_by short len never = by_place (cases_lt part.confirmed (length lead))
@@ -264,7 +257,7 @@ fault_forgiven entries made flying abort rest lead a m0 m o p part on flies bad 
 
 -- ---- packets
 
-flight_registers : (es : List Entry) (accesses : List RegAccess) → actions_in es ≡ making accesses → registers_in es ≡ length accesses
+pub flight_registers : (es : List Entry) (accesses : List RegAccess) → actions_in es ≡ making accesses → registers_in es ≡ length accesses
 flight_registers [] [] e = refl
 flight_registers [] (a ∷ accesses) e = absurd (cc)
 flight_registers (x ∷ es) [] e = absurd (cc)

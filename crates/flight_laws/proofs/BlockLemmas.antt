@@ -4,6 +4,7 @@ use Rattle.std.proofs.lemmas.List.Sums.{sum_by-append}
 use Rattle.std.proofs.Math.Nat.{le-div_iff_mul-le}
 use Rattle.target_calls.proofs.EntryLemmas.{registers_append}
 use Rattle.target_machine.specs.Counts.{one_if}
+use Rattle.target_machine.proofs.CountLemmas.{one_most}
 use Rattle.target_calls.specs.Journal.{Entry}
 use Rattle.access_calls.specs.Bounds.{starting_since}
 use Rattle.access_calls.specs.Bounds as bounds
@@ -14,10 +15,6 @@ use Rattle.flight_laws.specs.Packets.{FewBlocks, FirstBlock, NeedBlock, NeedPoin
 
 writes_both : (xs ys : List Entry) → drw_writes_in (xs ++ ys) ≡ drw_writes_in xs + drw_writes_in ys
 writes_both xs ys = sum_by-append (λ (e : Entry). one_if (is_drw_write e.action)) xs ys
-
-at_most_one : (b : Bool) → one_if b ≤ 1
-at_most_one true = omega arith
-at_most_one false = omega arith
 
 -- so many blocks, the first flight with them, fit the writes
 blocks_fit : (full block writes : ℕ) (first : Bool) → 0 < block → 0 < writes → full * block + one_if first ≤ writes → full + one_if first ≤ (writes + block - 1) / block
@@ -32,7 +29,7 @@ few_blocks full block needs writes first split made more b m h most any two =
     let w = writes_both made more in
     let filled : full * block + one_if first ≤ writes = (let f = h.filled in omega (arith, f, w, most)) in
     let fit = blocks_fit full block writes first h.some any filled in
-    let one = at_most_one split in
+    let one = one_most split in
     let f = h.few in
     omega (arith, fit, one, f, two)
 

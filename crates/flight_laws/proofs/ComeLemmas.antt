@@ -1,5 +1,6 @@
 -- Calls all of whose entries were made.
 use Rattle.std.proofs.Common.{◌≡◌, ◌∙◌, ℕ, suc, ◌+◌, Bool, true, false, cond, ◌||◌, List, [], ◌∷◌, ◌++◌, length, slice_index, Option, Some, None, refl, sym, ap, subst, arith, append-nil, append_assoc, length-append}
+use Rattle.std.proofs.lemmas.Bool.{both_ways}
 use Rattle.target_machine.specs.Plain.{CallEnd, Answered, Faulted, Skipped, Small, acted, call_done, given, result_of}
 use Rattle.target_machine.specs.State.{TargetState}
 use Rattle.probe_core.specs.Bench.{BenchState}
@@ -59,10 +60,6 @@ all_came p calls confirmed count old came m0 m b kept s h = record {
 }
 
 -- ---- results
-
-clash : (b : Bool) → b ≡ true → b ≡ false → ⊥
-clash true e f = cc
-clash false e f = cc
 
 -- all calls are answered there
 never_over : (asks : List Ask) (t : TargetState) (large : List ℕ) → stop (world_at t large None) asks ≡ None → (world_after (world_at t large None) asks).answered ≡ None
@@ -140,8 +137,8 @@ result_given p t asks ask more front e rest fresh ok whole mild large is at = re
 
     by_end : (x : CallEnd) → (done_now (world_after (start_world t None) asks) ask).end ≡ x → end_result x ≡ result_of ask.call (given (acted (target_after t front) e.action).outcome)
     by_end (Answered v) end = answer_given p t asks ask more front e rest fresh ok before is at v end
-    by_end Skipped end = absurd (clash (is_forgiving ask) (skipped_forgives (world_after (start_world t None) asks) ask end) mild)
-    by_end Faulted end = absurd (clash (stops_here (world_after (start_world t None) asks) ask) (faulted_here end) (goes_here t asks ask more whole))
+    by_end Skipped end = absurd (both_ways (is_forgiving ask) mild (skipped_forgives (world_after (start_world t None) asks) ask end))
+    by_end Faulted end = absurd (both_ways (stops_here (world_after (start_world t None) asks) ask) (goes_here t asks ask more whole) (faulted_here end))
       where
         faulted_here : (done_now (world_after (start_world t None) asks) ask).end ≡ Faulted → stops_here (world_after (start_world t None) asks) ask ≡ true
         faulted_here end = rw end (or_true _)
@@ -149,7 +146,7 @@ result_given p t asks ask more front e rest fresh ok whole mild large is at = re
             or_true : (b : Bool) → (b || true) ≡ true
             or_true true = refl
             or_true false = refl
-    by_end Small end = absurd (clash (small_now (start_world t None) asks ask) (one_small (start_world t None) asks ask before ∙ ap is_small_end end) large)
+    by_end Small end = absurd (both_ways (small_now (start_world t None) asks ask) large (one_small (start_world t None) asks ask before ∙ ap is_small_end end))
 
 -- ---- one call more
 
@@ -193,7 +190,7 @@ pass_given p t asks ask front e rest at fresh ok whole pass large is place =
         ∙ ap (λ (n : ℕ). results w asks ++ n ∷ []) (answer_given p t asks ask [] front e rest fresh ok whole is place v end)
     by_end Skipped end no_skip no_fault = absurd (no_skip end)
     by_end Faulted end no_skip no_fault = absurd (no_fault end)
-    by_end Small end no_skip no_fault = absurd (clash (small_now w asks ask) (one_small w asks ask whole ∙ ap is_small_end end) large)
+    by_end Small end no_skip no_fault = absurd (both_ways (small_now w asks ask) large (one_small w asks ask whole ∙ ap is_small_end end))
 
 pub small_given : SmallGiven
 small_given t asks ask whole small =
@@ -210,6 +207,6 @@ small_given t asks ask whole small =
       one_skips w asks ask whole (goes_on t asks ask whole Small e refl) ∙ ap (λ (x : CallEnd). skips w asks + one_if_skipped x) e ∙ omega arith,
       one_results w asks ask whole (goes_on t asks ask whole Small e refl) ∙ ap (λ (x : CallEnd). results w asks ++ end_result x ∷ []) e,
     )
-    by_end (Answered v) e = absurd (clash (is_small_end (there t asks ask whole)) is_end (ap is_small_end e))
-    by_end Skipped e = absurd (clash (is_small_end (there t asks ask whole)) is_end (ap is_small_end e))
-    by_end Faulted e = absurd (clash (is_small_end (there t asks ask whole)) is_end (ap is_small_end e))
+    by_end (Answered v) e = absurd (both_ways (is_small_end (there t asks ask whole)) (ap is_small_end e) is_end)
+    by_end Skipped e = absurd (both_ways (is_small_end (there t asks ask whole)) (ap is_small_end e) is_end)
+    by_end Faulted e = absurd (both_ways (is_small_end (there t asks ask whole)) (ap is_small_end e) is_end)

@@ -11,14 +11,16 @@ use Rattle.access_regs.proofs.Seams.{after_split, passes_both}
 use Rattle.access_regs.specs.Journal.{making}
 use Rattle.target_calls.specs.Journal.{Entry, Passes, actions_in, first_fault}
 use Rattle.target_calls.specs.Weights.{AreWeighty, commands_in, weight_in}
-use Rattle.flight_laws.proofs.FlightLemmas.{clear_end, clear_passes, commands_both, flight_length, flight_take, head_makes, makes_after, room_grown, weight_both}
+use Rattle.flight_laws.proofs.FlightLemmas.{clear_passes, commands_both, flight_length, flight_take, head_makes, makes_after, room_grown, weight_both}
 use Rattle.flight_laws.proofs.UnderWayLemmas.{front_performed}
 use Rattle.batch_packer.specs.Flying.{transfers_of}
 use Rattle.flight_laws.specs.Flights.{AreStrict, BenchFlies, FaultFlies, IsCutAt, IsFaultAt, WaitFlies}
 use Rattle.flight_laws.specs.UnderWay.{IsUnderWay}
 use Rattle.target_machine.specs.Counts.{one_if}
 use Rattle.dap_transfer.specs.State.{Setting, TransferState, is_wait}
+use Rattle.dap_transfer.proofs.NormalAnswers.{count_missing}
 use Rattle.flight_forms.specs.Flights.{DoesPart, Part}
+use Rattle.flight_forms.proofs.Rows.{clear_end}
 use Rattle.probe_core.specs.Bench.{BenchState}
 use Rattle.probe_core.specs.Probe.{ended_retries_of, target_of, work_of}
 use Rattle.probe_core.specs.declared.job.Limits.{Limits}
@@ -26,6 +28,7 @@ use Rattle.target_machine.specs.Lists.{after}
 use Rattle.target_machine.specs.Plain.{Action, Makes, acted, is_fault}
 use Rattle.target_machine.specs.State.{TargetState}
 use Rattle.target_machine.specs.declared.access.RegAccess.{RegAccess}
+use Rattle.target_machine.proofs.CountLemmas.{one_most}
 use Rattle.dap_messages.specs.declared.request.Response.{Response}
 use Rattle.dap_messages.specs.declared.request.Response.TheVariants.{Good, Wait, Fault}
 
@@ -74,10 +77,6 @@ weight_longer t zero k es le = omega arith
 weight_longer t (suc n) zero es le = absurd (omega (arith, le))
 weight_longer t (suc n) (suc k) [] le = omega arith
 weight_longer t (suc n) (suc k) (e ∷ es) le = (let r = weight_longer (acted t e.action).next n k es (omega (arith, le)) in omega (arith, r))
-
-doubt_most : (b : Bool) → one_if b ≤ 1
-doubt_most true = omega arith
-doubt_most false = omega arith
 
 -- all but the last of the entries that were begun, where more than these pass
 pub passes_but_last : (t : TargetState) (begun : ℕ) (entries front rest : List Entry) → entries ≡ front ++ rest → Passes t front → begun - 1 ≤ length front → Passes t (take (begun - 1) entries)
@@ -163,7 +162,7 @@ module _ (entries made flying rest : List Entry) (accesses : List RegAccess) (n 
         ∙ ap (λ (l : List Entry). made ++ (l ++ rest)) (sym (take-append-drop part.confirmed flying))
         ∙ ap (λ (l : List Entry). made ++ l) (append_assoc (take part.confirmed flying) (drop part.confirmed flying) rest)
         ∙ sym (append_assoc made (take part.confirmed flying) (drop part.confirmed flying ++ rest)) in
-        let few : part.performed ≤ part.confirmed + 1 = (let n = does.made.near in let o = doubt_most does.made.doubt in omega (arith, n, o)) in
+        let few : part.performed ≤ part.confirmed + 1 = (let n = does.made.near in let o = one_most does.made.doubt in omega (arith, n, o)) in
         let enough : part.confirmed ≤ part.performed = (let n = does.made.near in omega (arith, n)) in
         let long : length made + part.performed - 1 ≤ length (made ++ take part.confirmed flying) =
         (let a = length-append made (take part.confirmed flying) in let l = length-take part.confirmed flying in let h = most in grind (arith, a, l, h, few, enough)) in
@@ -238,10 +237,6 @@ fault_flies entries made flying rest accesses n m0 m o part r b on flies bad str
       subst (λ (k : ℕ). IsFaultAt entries k (target_of m0.probe)) (sym confirmed_is) at,
     )
 
-one_if_cond : (b : Bool) → one_if b ≡ cond b 1 0
-one_if_cond true = refl
-one_if_cond false = refl
-
 pub wait_flies : WaitFlies
 wait_flies entries made flying rest accesses n m0 m o part r b on flies wait accesses_is confirmed_is numbers =
     let short : part.confirmed < length accesses = flies.does.made.short (λ good. absurd (let x : ◌≡◌ {A = Response} Good Wait = sym good ∙ wait in cc)) in
@@ -252,9 +247,9 @@ wait_flies entries made flying rest accesses n m0 m o part r b on flies wait acc
     let commands : commands_in (take r.accesses entries) ≡ commands_in made = ap commands_in first_are ∙ commands_both made (take part.performed flying) (take part.performed accesses) (part_flight entries made flying rest accesses n m0 m o part on) in (
       record {
         performed = subst (λ (k : ℕ). HasPerformed entries k (began m0 n) o) (sym accesses_is) (has_part entries made flying rest accesses n m0 m o part on flies.does);
-        confirmed = (let p = flies.does.pending wait in let c = one_if_cond (pending_of o) in omega (arith, p, c, accesses_is, confirmed_is));
+        confirmed = (let p = flies.does.pending wait in let c = count_missing (pending_of o) in omega (arith, p, c, accesses_is, confirmed_is));
         up_to = work_up_to entries made flying rest accesses n m0 m o part on flies.does (r.confirmed + 1)
-            (let near = flies.does.made.near in let few = doubt_most flies.does.made.doubt in omega (arith, near, few, confirmed_is));
+            (let near = flies.does.made.near in let few = one_most flies.does.made.doubt in omega (arith, near, few, confirmed_is));
         numbers = numbers;
         retries =
             flies.does.retries ∙ ap (λ (x : Response). cond (is_wait x) (min (ended_retries_of m.probe + 1) (2 ^ 32 - 1)) (ended_retries_of m.probe)) wait

@@ -2,6 +2,7 @@
 use Rattle.std.proofs.Common.{◌≡◌, ◌∙◌, ℕ, zero, suc, ◌+◌, ◌-◌, ◌^◌, ◌≤◌, ◌<◌, min, Bool, true, false, cond, not, ◌&&◌, List, [], ◌∷◌, ◌++◌, length, take, refl, sym, ap, subst, arith, append_assoc}
 use Rattle.std.proofs.lemmas.List.{take_all}
 use Rattle.std.proofs.lemmas.List.Sums.{sum_by-cons}
+use Rattle.std.proofs.lemmas.Bool.{both_ways}
 use Rattle.target_calls.proofs.EntryLemmas.{commands_append, weight_append}
 use Rattle.access_regs.proofs.Seams.{after_split, passes_both}
 use Rattle.access_regs.specs.Journal.{making}
@@ -13,6 +14,7 @@ use Rattle.target_machine.specs.Counts.{one_if}
 use Rattle.dap_transfer.specs.Laws.{one_at_a_time}
 use Rattle.dap_transfer.specs.State.{grown, is_wait}
 use Rattle.flight_forms.specs.Flights.{AreClear, Part, slot_values}
+use Rattle.flight_forms.proofs.Rows.{clear_end}
 use Rattle.probe_core.specs.Bench.{BenchState}
 use Rattle.probe_core.specs.Probe.{ended_retries_of, target_of, work_of}
 use Rattle.target_machine.proofs.AccessLaws.{fault_sets}
@@ -27,10 +29,6 @@ use Rattle.dap_messages.specs.declared.request.Response.{Response}
 use Rattle.dap_messages.specs.declared.request.Response.TheVariants.{Good}
 
 -- ---- entries that are register accesses
-
-clash : (b : Bool) → b ≡ true → b ≡ false → ⊥
-clash true e f = cc
-clash false e f = cc
 
 pub head_makes : (x y : Action) (xs ys : List Action) → x ∷ xs ≡ y ∷ ys → (x ≡ y) × (xs ≡ ys)
 head_makes x y xs ys e = (cc, cc)
@@ -91,16 +89,12 @@ pub clear_good : (t : TargetState) (a : RegAccess) → (attempt t a).next.sticky
 clear_good t a clear = by_test (is_fault (attempt t a).outcome) refl
   where
     by_test : (b : Bool) → is_fault (attempt t a).outcome ≡ b → b ≡ false
-    by_test true e = absurd (clash (attempt t a).next.sticky (fault_sets t a (is_fault_of (attempt t a).outcome e)) clear)
+    by_test true e = absurd (both_ways (attempt t a).next.sticky clear (fault_sets t a (is_fault_of (attempt t a).outcome e)))
     by_test false e = refl
 
 pub clear_head : (t : TargetState) (accesses : List RegAccess) → AreClear t accesses → t.sticky ≡ false
 clear_head t [] h = h
 clear_head t (a ∷ accesses) h = h.0
-
-pub clear_end : (t : TargetState) (accesses : List RegAccess) → AreClear t accesses → (one_at_a_time t accesses).sticky ≡ false
-clear_end t [] h = h
-clear_end t (a ∷ accesses) h = clear_end (attempt t a).next accesses h.1
 
 pub clear_passes : (t : TargetState) (es : List Entry) (accesses : List RegAccess) → actions_in es ≡ making accesses → AreClear t accesses → Passes t es
 clear_passes t [] accesses e h = tt

@@ -1,7 +1,7 @@
 -- Into which flights the accesses of a unit made alone are cut.
 use Rattle.std.proofs.Common.{◌≡◌, ◌∙◌, ℕ, Bool, true, false, cond, ◌&&◌, not, List, [], ◌∷◌, ◌++◌, refl, sym, ap, append-nil, append_assoc}
 use Rattle.std.specs.List.{list_any}
-use Rattle.std.proofs.lemmas.List.{map-append}
+use Rattle.std.proofs.Math.Bool.{and-true}
 use Rattle.target_machine.specs.Attempt.{Attempt}
 use Rattle.target_machine.specs.Lists.{PassTo, after}
 use Rattle.target_machine.specs.Plain.{Action, Commands, Makes, acted, call_actions, call_done, ended, forgives, given, in_order, is_fault, is_small, issued, large_after, may_forgive, result_of}
@@ -14,6 +14,7 @@ use Rattle.target_machine.proofs.ActionLists.{pass_last, pass_then_fault}
 use Rattle.access_regs.specs.Journal.{Step, alone_at, is_early, is_end, large_of, making, part_of, parts_of}
 use Rattle.access_regs.specs.Kept.{Kept}
 use Rattle.access_regs.proofs.Select.{making_append}
+use Rattle.access_regs.proofs.Forgiving.{parts_append}
 use Rattle.flight_laws.specs.Forgiving.{AloneFlight, BeginsWith, after_fault, steps_of_unit}
 use Rattle.flight_laws.proofs.PushLemmas.{pass_makes}
 
@@ -41,26 +42,19 @@ ended_actions true false s n t l xs = sym (append-nil xs)
 ended_actions false g true n t l xs = refl
 ended_actions false g false n t l xs = refl
 
-and_true : (b : Bool) → (b && true) ≡ b
-and_true true = refl
-and_true false = refl
-
 done_actions : (t : TargetState) (large : List ℕ) (forgive : Bool) (call : Call) → may_forgive call ≡ true → (call_done t large forgive call).actions
     ≡ cond (is_fault (in_order t (call_actions t large call)).outcome) (issued t (call_actions t large call) ++ abort_if forgive) (issued t (call_actions t large call))
 unfolding call_done
 done_actions t large forgive call may =
     let ran : Attempt = in_order t (call_actions t large call) in
     ended_actions (is_fault ran.outcome) (forgive && may_forgive call) (is_small t large call) (result_of call (given ran.outcome)) ran.next (large_after t large call) (issued t (call_actions t large call))
-    ∙ ap (λ (b : Bool). cond (is_fault ran.outcome) (issued t (call_actions t large call) ++ abort_if b) (issued t (call_actions t large call))) (ap (λ (b : Bool). forgive && b) may ∙ and_true forgive)
+    ∙ ap (λ (b : Bool). cond (is_fault ran.outcome) (issued t (call_actions t large call) ++ abort_if b) (issued t (call_actions t large call))) (ap (λ (b : Bool). forgive && b) may ∙ and-true forgive)
 
 -- ---- as steps
 
 parts_makes : (early : Bool) (asked : AccessUnit) (accesses : List RegAccess) → parts_of early asked (making accesses) ≡ steps_of_unit asked accesses
 parts_makes early asked [] = refl
 parts_makes early asked (a ∷ accesses) = ap (λ (l : List Step). record { part = part_of early asked (Makes a); action = Makes a } ∷ l) (parts_makes early asked accesses)
-
-parts_append : (early : Bool) (asked : AccessUnit) (xs ys : List Action) → parts_of early asked (xs ++ ys) ≡ parts_of early asked xs ++ parts_of early asked ys
-parts_append early asked xs ys = map-append _ xs ys
 
 -- the write of ABORT is not the access that the unit is for
 any_command : (asked : AccessUnit) (xs : List Action) → list_any (is_end asked) (xs ++ Commands forgives ∷ []) ≡ list_any (is_end asked) xs

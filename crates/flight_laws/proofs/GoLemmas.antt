@@ -2,8 +2,8 @@
 use Rattle.std.proofs.Common.{◌≡◌, ◌∙◌, ℕ, Bool, true, false, List, [], ◌∷◌, ◌++◌, length, None, refl, sym, ap, subst, arith, append-nil, append_assoc, length-append}
 use Rattle.std.proofs.lemmas.List.{map-append}
 use Rattle.target_calls.proofs.MarkLemmas.{settled_append}
-use Rattle.access_regs.proofs.EntryLemmas.{journal_grows, numbered_actions, weighty_both}
-use Rattle.access_regs.proofs.Lists.{actions_in_append}
+use Rattle.access_regs.proofs.EntryLemmas.{journal_grows, weighty_both}
+use Rattle.access_regs.proofs.Lists.{actions_in_append, actions_numbered}
 use Rattle.access_regs.specs.Entries.{kept_by, target_by}
 use Rattle.access_regs.specs.Journal.{Step, issue_of, issued, making, numbered}
 use Rattle.access_regs.specs.Kept.{Kept}
@@ -54,7 +54,7 @@ mild_both : (xs : List Ask) (ask : Ask) → ForgiveNothing xs → is_forgiving a
 mild_both [] ask h k = (k, tt)
 mild_both (x ∷ xs) ask h k = (h.0, mild_both xs ask h.1 k)
 
-askable_both : (xs : List Ask) (ask : Ask) → AreAskable xs → IsAskable ask → AreAskable (xs ++ ask ∷ [])
+pub askable_both : (xs : List Ask) (ask : Ask) → AreAskable xs → IsAskable ask → AreAskable (xs ++ ask ∷ [])
 askable_both [] ask h k = (k, tt)
 askable_both (x ∷ xs) ask h k = (h.0, askable_both xs ask h.1 k)
 
@@ -82,7 +82,7 @@ push_goes p a b ask kept learned accesses more came m0 m f h =
     let u : TargetState = target_by p t0 calls in
     let steps : List Step = (issue_of p u kept ask).steps in
     let own : List Entry = numbered (length calls) (is_forgiving ask) steps in
-    let acts : actions_in own ≡ making more = numbered_actions (length calls) (is_forgiving ask) steps ∙ h.accesses in
+    let acts : actions_in own ≡ making more = actions_numbered (length calls) (is_forgiving ask) steps ∙ h.accesses in
     let grows = journal_grows p t0 calls ask h.unmarked in
     let entries : issued p t0 b.asks.calls ≡ issued p t0 calls ++ own =
     ap (λ (l : List Ask). issued p t0 l) h.calls ∙ grows.0

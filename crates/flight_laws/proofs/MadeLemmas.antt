@@ -19,6 +19,7 @@ use Rattle.access_regs.specs.Stops.{StaysThere, StopsThere, world_at}
 use Rattle.access_regs.specs.declared.planner.Planner.{Planner}
 use Rattle.access_regs.proofs.EntryMemory.{memory_at_entry}
 use Rattle.access_regs.proofs.StopLists.{fault_stops, good_end, wait_stops}
+use Rattle.access_regs.proofs.Lists.{not_settling}
 use Rattle.access_calls.specs.Made.{HasMemory, last_made, last_made_by, units_made}
 use Rattle.access_calls.specs.Numbers.{HasNumbers, unit_at}
 use Rattle.access_calls.specs.Reported.{Beginning, began, start_of}
@@ -26,7 +27,7 @@ use Rattle.access_calls.specs.Standing.{HasPerformed, pending_of}
 use Rattle.access_calls.specs.declared.stop.Report.{Report}
 use Rattle.access_calls.specs.declared.stop.StopCause.TheVariants.{Faulted, NoAnswer}
 use Rattle.flight_laws.proofs.CutLemmas.{take_front}
-use Rattle.flight_laws.proofs.StopLemmas.{entry_at, lines_cut, not_settling}
+use Rattle.flight_laws.proofs.StopLemmas.{entry_at, lines_cut}
 use Rattle.flight_laws.specs.Flights.{IsCutAt, IsFaultAt}
 
 -- ---- entries
@@ -85,7 +86,7 @@ answered_first t large (ask ∷ asks) (suc n) (suc at) none few =
 
 -- ---- the memory
 
-agree_words : (t u : TargetState) → Agree t u → t.words ≡ u.words
+pub agree_words : (t u : TargetState) → Agree t u → t.words ≡ u.words
 agree_words t u h = ap (λ (s : TargetState). s.words) h.same
 
 module _ (p : Planner) (m0 o : BenchState) (asks : List Ask) (r : Report) (skipped lines : ℕ) (fresh : IsFresh (target_of m0.probe)) (ok : AreAskable asks)

@@ -27,13 +27,10 @@ use Rattle.flight_laws.specs.Flying.{IsFlying}
 use Rattle.flight_laws.proofs.CutLemmas.{has_at}
 use Rattle.flight_laws.proofs.OwnLemmas.{stay_passing}
 use Rattle.access_regs.specs.declared.planner.Planner.{Planner}
+use Rattle.access_regs.proofs.EntryLemmas.{askable_first}
 
 agree_sym : (t u : TargetState) → Agree t u → Agree u t
 agree_sym t u h = record { same = sym h.same }
-
-pub askable_first : (xs ys : List Ask) → AreAskable (xs ++ ys) → AreAskable xs
-askable_first [] ys h = tt
-askable_first (x ∷ xs) ys h = (h.0, askable_first xs ys h.1)
 
 -- calls that do not stop have the results that they have where all are answered
 pub whole_results : (w : World) (calls : List Ask) → stop w calls ≡ None → results w calls ≡ results (unlimited w) calls

@@ -12,14 +12,15 @@ use Rattle.target_calls.specs.declared.calls.Ask.{Ask}
 use Rattle.target_calls.proofs.EntryLemmas.{weight_append, weight_some}
 use Rattle.access_regs.specs.Journal.{issued}
 use Rattle.access_regs.specs.declared.planner.Planner.{Planner}
-use Rattle.access_regs.proofs.EntryLemmas.{numbered_actions}
 use Rattle.access_regs.proofs.LightLemmas.{journal_light}
+use Rattle.access_regs.proofs.Lists.{actions_numbered}
 use Rattle.target_calls.specs.Asks.{AreAskable, is_forgiving}
 use Rattle.flight_laws.specs.Room.{ActionRoom, CallRoom, ForgivenRoom, HasRoom, PushRoom}
 use Rattle.flight_laws.specs.UnderWay.{IsUnderWay}
 use Rattle.flight_laws.specs.Sending.{entries_of_call}
 use Rattle.flight_laws.proofs.FlightLemmas.{flight_length}
 use Rattle.flight_laws.proofs.SendLemmas.{call_sends}
+use Rattle.flight_laws.proofs.UnderWayLemmas.{weighty_tail}
 
 -- entries that weigh something weigh at least as much as they are
 at_least : (t : TargetState) (xs : List Entry) → AreWeighty xs → length xs ≤ weight_in t xs
@@ -29,10 +30,6 @@ at_least t (x ∷ xs) h = let a = weight_some t x.action h.0 in let b = at_least
 weighty_front : (xs ys : List Entry) → AreWeighty (xs ++ ys) → AreWeighty xs
 weighty_front [] ys h = tt
 weighty_front (x ∷ xs) ys h = (h.0, weighty_front xs ys h.1)
-
-weighty_back : (xs ys : List Entry) → AreWeighty (xs ++ ys) → AreWeighty ys
-weighty_back [] ys h = h
-weighty_back (x ∷ xs) ys h = weighty_back xs ys h.1
 
 -- all that is in the flight and still to be pushed has room
 module _ (p : Planner) (calls : List Ask) (made flying rest : List Entry) (accesses : List RegAccess) (m0 m : BenchState) (askable : AreAskable calls)
@@ -50,7 +47,7 @@ module _ (p : Planner) (calls : List Ask) (made flying rest : List Entry) (acces
   pub rest_room : work_of m.probe + length flying + length rest < 2 ^ 64
   rest_room =
       let a = after_made in
-      let b = at_least (target_after t0 made) (flying ++ rest) (weighty_back made (flying ++ rest) (subst AreWeighty on.are on.weighty)) in
+      let b = at_least (target_after t0 made) (flying ++ rest) (weighty_tail made (flying ++ rest) (subst AreWeighty on.are on.weighty)) in
       let c = length-append flying rest in
       let w = on.work in
       omega (arith, a, b, c, w, room)
@@ -90,7 +87,7 @@ pub call_room : CallRoom
 call_room p a kept accesses came ask more m0 m f ok unmarked steps room =
     let s = call_sends p a kept accesses came ask m0 m f ok unmarked in
     let r = rest_room p (a.asks.calls ++ ask ∷ []) s.made f.flying (entries_of_call p m0 a kept ask) accesses m0 m s.askable s.on room in
-    let len = flight_length (entries_of_call p m0 a kept ask) more (numbered_actions (length a.asks.calls) (is_forgiving ask) _ ∙ steps) in
+    let len = flight_length (entries_of_call p m0 a kept ask) more (actions_numbered (length a.asks.calls) (is_forgiving ask) _ ∙ steps) in
     let i = f.issued_is in
     let c = f.confirmed in
     omega (arith, r, len, i, c)

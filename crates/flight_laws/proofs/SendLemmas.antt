@@ -6,7 +6,7 @@ use Rattle.target_machine.specs.State.{TargetState}
 use Rattle.target_machine.specs.declared.access.RegAccess.{RegAccess}
 use Rattle.probe_core.specs.Bench.{BenchState}
 use Rattle.probe_core.specs.Probe.{target_of}
-use Rattle.target_calls.specs.Asks.{AreAskable, IsAskable, settled_last}
+use Rattle.target_calls.specs.Asks.{AreAskable, settled_last}
 use Rattle.target_calls.specs.Journal.{Entry, Passes, lines_before, settles}
 use Rattle.target_calls.specs.Weights.{AreWeighty}
 use Rattle.target_calls.specs.World.{AtLeast, World, results, start_world, stop, world_after}
@@ -19,7 +19,7 @@ use Rattle.access_regs.specs.Journal.{issued, numbered, steps_of}
 use Rattle.access_regs.specs.Kept.{Kept}
 use Rattle.access_regs.specs.Plan.{settle}
 use Rattle.access_regs.specs.Stops.{NoneStops}
-use Rattle.access_regs.proofs.EntryLemmas.{journal_grows, journal_marks}
+use Rattle.access_regs.proofs.EntryLemmas.{journal_grows, journal_marks, askable_first}
 use Rattle.access_regs.proofs.Seams.{InFirst, InSecond, seam_in}
 use Rattle.access_regs.proofs.StopLists.{finish_settles, numbered_unit, passing_stops}
 use Rattle.access_regs.proofs.WeightyLemmas.{journal_weighs}
@@ -29,9 +29,11 @@ use Rattle.flight_laws.specs.Flying.{IsFlying}
 use Rattle.flight_laws.specs.Sending.{ActionSends, CallSends, FinishSends, FlyingSends, ForgivenSends, PushSends, WholeSends, entries_of_call, entries_of_finish}
 use Rattle.flight_laws.proofs.ActionLemmas.{action_done, fault_forgiven}
 use Rattle.flight_laws.proofs.FlightLemmas.{whole_flies}
-use Rattle.flight_laws.proofs.OpenLemmas.{askable_first, whole_results}
+use Rattle.flight_laws.proofs.OpenLemmas.{whole_results}
 use Rattle.flight_laws.proofs.PushLemmas.{entry_pushed, journal_grew}
 use Rattle.flight_laws.proofs.StopLemmas.{came_before}
+use Rattle.flight_laws.proofs.GoLemmas.{askable_both}
+use Rattle.flight_laws.proofs.UnderWayLemmas.{weighty_tail}
 use Rattle.access_regs.specs.declared.planner.Planner.{Planner}
 
 -- what is known of the calls that came
@@ -79,14 +81,6 @@ flying_sends p a kept accesses came m0 m f =
     let h = flying_come p a kept accesses came m0 m f a.asks.calls [] f.askable (sym (append-nil a.asks.calls)) in
     record { fresh = f.fresh; askable = f.askable; made = f.made; on = f.on; confirmed_is = f.confirmed; length_is = h.length_is; results_are = h.results_are; lines = h.lines }
 
-askable_both : (xs : List Ask) (ask : Ask) → AreAskable xs → IsAskable ask → AreAskable (xs ++ ask ∷ [])
-askable_both [] ask h k = (k, tt)
-askable_both (x ∷ xs) ask h k = (h.0, askable_both xs ask h.1 k)
-
-weighty_rest : (xs ys : List Entry) → AreWeighty (xs ++ ys) → AreWeighty ys
-weighty_rest [] ys h = h
-weighty_rest (x ∷ xs) ys h = weighty_rest xs ys h.1
-
 pub call_sends : CallSends
 call_sends p a kept accesses came ask m0 m f ok unmarked =
     let t0 : TargetState = target_of m0.probe in
@@ -94,7 +88,7 @@ call_sends p a kept accesses came ask m0 m f ok unmarked =
     let askable : AreAskable (calls ++ ask ∷ []) = askable_both calls ask f.askable ok in
     let grown : issued p t0 (calls ++ ask ∷ []) ≡ issued p t0 calls ++ entries_of_call p m0 a kept ask =
     (journal_grows p t0 calls ask unmarked).0 ∙ ap (λ (k : Kept). issued p t0 calls ++ entries_of_call p m0 a k ask) f.kept_is in
-    let weighty : AreWeighty (entries_of_call p m0 a kept ask) = weighty_rest (issued p t0 calls) (entries_of_call p m0 a kept ask) (subst AreWeighty grown (journal_weighs p t0 (calls ++ ask ∷ []) askable)) in
+    let weighty : AreWeighty (entries_of_call p m0 a kept ask) = weighty_tail (issued p t0 calls) (entries_of_call p m0 a kept ask) (subst AreWeighty grown (journal_weighs p t0 (calls ++ ask ∷ []) askable)) in
     let h = flying_come p a kept accesses came m0 m f (calls ++ ask ∷ []) (ask ∷ []) askable refl in
     record {
       fresh = f.fresh;
@@ -115,7 +109,7 @@ askable_marked (x ∷ []) h = (record { sound = h.0.sound; range = h.0.range }, 
 askable_marked (x ∷ y ∷ calls) h = (h.0, askable_marked (y ∷ calls) h.1)
 
 -- an entry that settles after so many units has all their lines before it
-settling_lines : (n : ℕ) (k : Kept) (front : List Entry) (e : Entry) (more : List Entry) → numbered n false (steps_of Settles (settle k)) ≡ front ++ e ∷ more → lines_before e ≡ n
+pub settling_lines : (n : ℕ) (k : Kept) (front : List Entry) (e : Entry) (more : List Entry) → numbered n false (steps_of Settles (settle k)) ≡ front ++ e ∷ more → lines_before e ≡ n
 settling_lines n k front e more is =
     let so : settles e.part ≡ true = finish_settles n true k front e more is in
     let unit : e.unit ≡ n = numbered_unit n false (steps_of Settles (settle k)) front e more is ∙ ap (λ (b : Bool). cond b n (n + 1)) so in
@@ -147,7 +141,7 @@ finish_sends p a kept accesses came m0 m f =
     grown = (journal_marks p (target_of m0.probe) a.asks.calls).0 ∙ ap (λ (k : Kept). issued p (target_of m0.probe) a.asks.calls ++ entries_of_finish a k) f.kept_is
 
     weighty : AreWeighty (entries_of_finish a kept)
-    weighty = weighty_rest (issued p (target_of m0.probe) a.asks.calls) (entries_of_finish a kept) (subst AreWeighty grown (journal_weighs p (target_of m0.probe) (settled_last a.asks.calls) (askable_marked a.asks.calls f.askable)))
+    weighty = weighty_tail (issued p (target_of m0.probe) a.asks.calls) (entries_of_finish a kept) (subst AreWeighty grown (journal_weighs p (target_of m0.probe) (settled_last a.asks.calls) (askable_marked a.asks.calls f.askable)))
 
     few : a.came ≤ length a.asks.calls
     few = (let c = f.came_is in let l = ap length f.calls ∙ length-append f.front f.back in omega (arith, c, l))

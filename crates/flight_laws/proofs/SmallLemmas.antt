@@ -1,5 +1,6 @@
 -- Which accesses do not end because their AP has no large addresses.
-use Rattle.std.proofs.Common.{◌≡◌, ◌≢◌, ◌∙◌, ℕ, zero, suc, ◌<◌, Bool, true, false, not, ◌&&◌, ◌||◌, nat_lt, List, [], ◌∷◌, length, Option, Some, None, refl, ap, subst, arith}
+use Rattle.std.proofs.Common.{◌≡◌, ◌≢◌, ◌∙◌, ℕ, zero, suc, ◌<◌, Bool, true, false, not, ◌&&◌, nat_lt, List, [], ◌∷◌, length, Option, Some, None, refl, ap, subst, arith}
+use Rattle.std.proofs.lemmas.Bool.{or_parts, both_ways, and_left}
 use Rattle.target_machine.specs.Fresh.{IsFresh}
 use Rattle.target_machine.specs.Plain.{Action, CallEnd, Faulted, call_done, contains, ended, is_small}
 use Rattle.target_machine.specs.State.{TargetState}
@@ -22,21 +23,13 @@ use Rattle.access_regs.proofs.AllCalls.{journal_follows}
 use Rattle.flight_laws.specs.Small.{NotSmall}
 use Rattle.flight_laws.proofs.OpenLemmas.{after_alone, large_alone}
 
-clash : (b : Bool) → b ≡ true → b ≡ false → ⊥
-clash true e f = cc
-clash false e f = cc
-
 -- where calls do not stop, none ends at a fault, and all are answered
 pub record NeverStops (t : TargetState) (large : List ℕ) (n : Option ℕ) (asks : List Ask) : Type 0 where
   pub none : NoneFaults t large asks
   pub enough : AtLeast (length asks) n
 
 not_faulted : (x : CallEnd) → is_faulted x ≡ false → x ≢ Faulted
-not_faulted x good e = clash (is_faulted x) (ap is_faulted e) good
-
-or_false : (a b : Bool) → (a || b) ≡ false → (a ≡ false) × (b ≡ false)
-or_false true b e = absurd (cc)
-or_false false b e = (refl, e)
+not_faulted x good e = both_ways (is_faulted x) good (ap is_faulted e)
 
 enough_more : (n : Option ℕ) (k : ℕ) → is_over n ≡ false → AtLeast k (one_fewer n) → AtLeast (suc k) n
 enough_more None k live h = tt
@@ -51,7 +44,7 @@ pub never_stops : (t : TargetState) (large : List ℕ) (n : Option ℕ) (asks : 
 never_stops t large n [] e = record { none = tt; enough = never_at n }
 never_stops t large n (ask ∷ asks) e =
     let h = head_of (stops_here (world_at t large n) ask) (stop (world_at (alone t large ask).next (alone t large ask).large (one_fewer n)) asks) e in
-    let g = or_false (is_over n) (is_faulted (alone t large ask).end) h.0 in
+    let g = or_parts (is_over n) (is_faulted (alone t large ask).end) h.0 in
     let r = never_stops (alone t large ask).next (alone t large ask).large (one_fewer n) asks h.1 in
     record { none = (not_faulted (alone t large ask).end g.1, r.none); enough = enough_more n (length asks) g.0 r.enough }
 
@@ -64,23 +57,19 @@ not_small false forgive false v t l xs e = refl
 and_not : (a b c : Bool) → b ≡ c → (a && not b) ≡ false → (a && not c) ≡ false
 and_not a b c e h = subst (λ (x : Bool). (a && not x) ≡ false) e h
 
-and_first : (a b : Bool) → a ≡ false → (a && b) ≡ false
-and_first true b e = absurd (cc)
-and_first false b e = refl
-
-small_none : (t : TargetState) (large : List ℕ) (k : Kept) (asked : AccessUnit) → IsUnitInRange asked → ((ap : ℕ) → ap < 256 → (known k ap).large ≡ contains large ap) → needs_cfg k asked ≡ false → is_small t large (Access asked) ≡ false
-small_none t large k (unit.Memory size read n address value) range larges none = and_first _ _ (and_not (nat_lt 0xFFFF_FFFF address) (known k n).large (contains large n) (larges n range.0) none)
+pub small_none : (t : TargetState) (large : List ℕ) (k : Kept) (asked : AccessUnit) → IsUnitInRange asked → ((ap : ℕ) → ap < 256 → (known k ap).large ≡ contains large ap) → needs_cfg k asked ≡ false → is_small t large (Access asked) ≡ false
+small_none t large k (unit.Memory size read n address value) range larges none = and_left _ _ (and_not (nat_lt 0xFFFF_FFFF address) (known k n).large (contains large n) (larges n range.0) none)
 small_none t large k (unit.Ap read n addr value) range larges none = refl
 small_none t large k (unit.Dp read addr value) range larges none = refl
 small_none t large k (unit.Poll mask value turns) range larges none = refl
 
-done_small : (t : TargetState) (large : List ℕ) (forgive : Bool) (call : Call) → is_small t large call ≡ false → is_small_end (call_done t large forgive call).end ≡ false
+pub done_small : (t : TargetState) (large : List ℕ) (forgive : Bool) (call : Call) → is_small t large call ≡ false → is_small_end (call_done t large forgive call).end ≡ false
 unfolding call_done
 done_small t large forgive call none = not_small _ _ (is_small t large call) _ _ _ _ none
 
 -- an access of an address of 32 bits, and what is no memory access, does not end so
 small_narrow : (t : TargetState) (large : List ℕ) (asked : AccessUnit) → is_wide asked ≡ false → is_small t large (Access asked) ≡ false
-small_narrow t large (unit.Memory size read n address value) e = and_first _ _ (and_first _ _ e)
+small_narrow t large (unit.Memory size read n address value) e = and_left _ _ (and_left _ _ e)
 small_narrow t large (unit.Ap read n addr value) e = refl
 small_narrow t large (unit.Dp read addr value) e = refl
 small_narrow t large (unit.Poll mask value turns) e = refl

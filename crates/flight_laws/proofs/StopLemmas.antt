@@ -1,14 +1,12 @@
 -- Where the calls of an access stop whose flight was cut.
-use Rattle.std.proofs.Common.{◌≡◌, ◌≢◌, ◌⊎◌, inl, inr, ◌∙◌, ℕ, zero, suc, ◌+◌, ◌-◌, ◌<◌, ◌≤◌, Bool, true, false, cond, List, [], ◌∷◌, ◌++◌, length, slice_get, IfSome, Option, Some, None, refl, sym, ap, subst, arith, append_assoc, length-append}
+use Rattle.std.proofs.Common.{◌≡◌, ◌⊎◌, inl, inr, ◌∙◌, ℕ, zero, suc, ◌+◌, ◌-◌, ◌<◌, ◌≤◌, Bool, true, false, cond, List, [], ◌∷◌, ◌++◌, length, slice_get, IfSome, Option, Some, None, refl, sym, ap, subst, arith, append_assoc, length-append}
 use Rattle.std.proofs.lemmas.Bool.{cases_lt}
 use Rattle.target_machine.specs.Lists.{after}
 use Rattle.target_machine.specs.State.{TargetState}
 use Rattle.target_calls.specs.Asks.{is_forgiving, is_settled}
-use Rattle.target_calls.specs.Journal.{Entry, lines_before, settles, target_after}
+use Rattle.target_calls.specs.Journal.{Entry, lines_before, target_after}
 use Rattle.target_calls.specs.World.{AtLeast, start_world, stop}
 use Rattle.target_calls.specs.declared.calls.Ask.{Ask}
-use Rattle.target_calls.specs.declared.journal.Part.{Part}
-use Rattle.target_calls.specs.declared.journal.Part.TheVariants.{Ends, Leads, Settles, Skips}
 use Rattle.target_calls.proofs.CallLists.{results_take}
 use Rattle.target_calls.proofs.WorldLemmas.{front_first}
 use Rattle.access_regs.specs.Journal.{actions_of, entries_at, finish, finish_of, issue_of, issued, issued_from, kept_from, numbered, steps_at}
@@ -23,6 +21,7 @@ use Rattle.access_calls.specs.declared.stop.Report.{Report}
 use Rattle.flight_laws.specs.Flights.{IsCutAt}
 use Rattle.flight_laws.specs.Stopping.{CameBefore, CameConfirmed, ResultsStay, StopsAtFault, StopsAtWait}
 use Rattle.access_regs.specs.declared.planner.Planner.{Planner}
+use Rattle.access_regs.proofs.Lists.{not_settling}
 
 -- the entry after the first ones
 pub entry_at : (front : List Entry) (e : Entry) (more : List Entry) → slice_get (front ++ e ∷ more) (length front) ≡ Some e
@@ -35,12 +34,6 @@ lines_cut entries t asks skipped lines r cut numbers =
     ap (λ x. x.lines) numbers.numbers
     ∙ (λ j. lines_at (slice_get (cut.is j) (sym cut.at j)))
     ∙ ap lines_at (entry_at cut.front cut.entry cut.more)
-
-pub not_settling : (p : Part) → p ≢ Settles → settles p ≡ false
-not_settling Settles ne = absurd (ne refl)
-not_settling Leads ne = refl
-not_settling Ends ne = refl
-not_settling (Skips attempted) ne = refl
 
 pub stops_at_fault : StopsAtFault
 stops_at_fault p t asks r skipped lines n fresh ok at numbers enough =

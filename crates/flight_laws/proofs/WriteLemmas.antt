@@ -2,6 +2,7 @@
 use Rattle.std.proofs.Common.{◌≡◌, ◌∙◌, ℕ, ◌+◌, ◌/◌, ◌%◌, ◌^◌, ◌≤◌, Bool, true, false, cond, not, ◌&&◌, ◌||◌, List, [], ◌∷◌, ◌++◌, length, Option, Some, None, refl, ap, arith}
 use Rattle.std.proofs.lemmas.List.Sums.{sum_by-append, sum_by-cons}
 use Rattle.dap_base.specs.Bits.{has_bit}
+use Rattle.dap_base.proofs.Basics.{second_true}
 use Rattle.target_machine.specs.Lists.{after}
 use Rattle.target_machine.specs.Plain.{Action, Commands, Makes, acted, after_cfg, ap_access_of, call_done, cfg_actions, contains, drw_of, ended, forgives, has_large, in_order, is_fault, issued as made_of, may_forgive, memory_actions, needs_cfg as wants_cfg, select_of, unit_actions}
 use Rattle.target_machine.specs.State.{TargetState}
@@ -11,6 +12,7 @@ use Rattle.target_machine.specs.declared.unit.Call.TheVariants.{Access, Probe}
 use Rattle.target_machine.specs.declared.unit.Unit.{Unit as AccessUnit}
 use Rattle.target_machine.specs.declared.unit.Unit.TheVariants as unit
 use Rattle.target_machine.specs.Counts.{one_if}
+use Rattle.target_machine.proofs.CountLemmas.{one_most}
 use Rattle.target_calls.specs.Journal.{Entry, settles}
 use Rattle.target_calls.specs.declared.calls.Ask.{Ask}
 use Rattle.target_calls.specs.declared.journal.Part.{Part}
@@ -97,15 +99,11 @@ settle_none k = by_unsettled k.unsettled
 
 -- ---- a unit that is planned
 
-at_most_one : (b : Bool) → one_if b ≤ 1
-at_most_one true = omega arith
-at_most_one false = omega arith
-
 plan_one : (k : Kept) (asked : AccessUnit) → writes_of (by_plan k asked).steps ≤ 1
 plan_one k asked =
     let e = steps_both (steps_of Leads (leads k asked)) (record { part = Ends; action = last_action asked } ∷ []) in
     let m = leads_none k asked in
-    let s = at_most_one (is_drw_write (last_action asked)) in
+    let s = one_most (is_drw_write (last_action asked)) in
     omega (arith, e, m, s)
 
 before_one : (xs : List Step) (i : Issue) → writes_of xs ≡ 0 → writes_of i.steps ≤ 1 → writes_of (before xs i).steps ≤ 1
@@ -159,8 +157,8 @@ either_actions true x y h k = h
 either_actions false x y h k = k
 
 memory_one : (t : TargetState) (large : Bool) (size : ℕ) (read : Bool) (n address value : ℕ) → writes_among (memory_actions t large size read n address value) ≤ 1
-memory_one t true size read n address value = let a = at_most_one (is_drw_write (Makes (drw_of read address value))) in omega (arith, a)
-memory_one t false size read n address value = let a = at_most_one (is_drw_write (Makes (drw_of read address value))) in omega (arith, a)
+memory_one t true size read n address value = let a = one_most (is_drw_write (Makes (drw_of read address value))) in omega (arith, a)
+memory_one t false size read n address value = let a = one_most (is_drw_write (Makes (drw_of read address value))) in omega (arith, a)
 
 unit_one : (t : TargetState) (large : List ℕ) (asked : AccessUnit) → may_forgive (Access asked) ≡ true → writes_among (unit_actions t large asked) ≤ 1
 unit_one t large (unit.Memory size read n address value) e =
@@ -169,7 +167,7 @@ unit_one t large (unit.Memory size read n address value) e =
     let x : writes_among (after_cfg t size read n address value) ≤ 1 = either_actions (has_large t n) (memory_actions (in_order t (cfg_actions n)).next true size read n address value) [] big none in
     let y = memory_one t (contains large n) size read n address value in
     either_actions (wants_cfg large n address) (cfg_actions n ++ after_cfg t size read n address value) (memory_actions t (contains large n) size read n address value) (omega (arith, x)) y
-unit_one t large (unit.Ap read n addr value) e = let a = at_most_one (is_drw_write (Makes (ap_access_of read (addr % 16) value))) in omega (arith, a)
+unit_one t large (unit.Ap read n addr value) e = let a = one_most (is_drw_write (Makes (ap_access_of read (addr % 16) value))) in omega (arith, a)
 unit_one t large (unit.Dp read addr value) e = absurd (cc)
 unit_one t large (unit.Poll mask value turns) e = absurd (cc)
 
@@ -189,15 +187,11 @@ alone_one t k forgive asked e =
 
 -- ---- calls
 
-both_true : (x y : Bool) → (x && y) ≡ true → y ≡ true
-both_true true y e = e
-both_true false y e = absurd (cc)
-
 issue_one : (p : Planner) (t : TargetState) (k : Kept) (forgive : Bool) (call : Call) → writes_of (issue p t k forgive call).steps ≤ 1
 issue_one p t k forgive (Access asked) = by_mark (is_alone p forgive && may_forgive (Access asked)) refl
   where
     by_mark : (b : Bool) → (is_alone p forgive && may_forgive (Access asked)) ≡ b → writes_of (cond b (after_settling t k (alone_at forgive asked)) (planned t k asked)).steps ≤ 1
-    by_mark true e = settling_one t k (alone_at forgive asked) (λ u l. alone_one u l forgive asked (both_true (is_alone p forgive) (may_forgive (Access asked)) e))
+    by_mark true e = settling_one t k (alone_at forgive asked) (λ u l. alone_one u l forgive asked (second_true (is_alone p forgive) (may_forgive (Access asked)) e))
     by_mark false e = planned_one t k asked
 issue_one p t k forgive (Probe c) = omega arith
 

@@ -1,6 +1,6 @@
 -- Values that are used, units and commands, over an access; and what comes later, for the exits of functions.
 use Rattle.std.proofs.Common.{inl, inr, ◌≡◌, ◌⊎◌, ℕ, ◌+◌, ◌/◌, ◌^◌, Bool, true, false, cond, List, [], ◌∷◌, ◌++◌, length, nat_lt, Option, None, Some, unwrap_or, codes, Result, Ok, Err, refl, sym, ap, subst, ◌∙◌, slice_index}
-use Rattle.std.specs.Prelude.{is_some, IsErrAnd}
+use Rattle.std.specs.Prelude.{IsErrAnd}
 use Rattle.dap_base.specs.Outcome.{◌>>=◌}
 use Rattle.target_machine.specs.declared.unit.HaltCause.TheVariants.{AddressTooLarge}
 use Rattle.target_machine.specs.declared.unit.ProbeCall.{ProbeCall}
@@ -21,7 +21,7 @@ use Rattle.access_calls.specs.Reported.{AccessView}
 use Rattle.access_calls.specs.declared.stop.Report.{Report}
 use Rattle.access_calls.specs.declared.stop.Stop.{Stop}
 use Rattle.access_calls.specs.declared.stop.Stop.TheVariants.{Cut, BenchFault, ReplyBad, OutOfMemory}
-use Rattle.access_calls.proofs.KeepLemmas.{goes_same, goes_trans}
+use Rattle.access_calls.proofs.KeepLemmas.{goes_same, goes_trans, all_asked}
 use Rattle.sequence_rules.specs.Calls.{Port, use_now, missing, given, global, port_with, port_from, ask, answered, command, numbered, zero_of, if_read, low_and_high, second_half, two_units, memory_unit, memory_at, ap_at, dp_at, abort, abort_at}
 use Rattle.sequence_rules.specs.Machine as machine
 use Rattle.sequence_rules.specs.Machine.{Over, State, Out, with_rest, unit_more, end_state}
@@ -152,9 +152,6 @@ ask_rest cost w u forgive s some = rw some (either (small_now w s.rest.asks.call
 -- the calls after a call at which the access stops: that call is among them, except where memory was refused
 StopsAt : World → List Ask → Ask → ℕ → List Ask → Stop → Type 0
 StopsAt w calls ask lines now st = ((now ≡ calls) ⊎ (now ≡ calls ++ ask ∷ [])) × AtCut st (λ r. stop w now ≡ Some (lines + 1))
-
-all_asked : (a b : AccessView) (ask : Ask) → a.end ≡ None → b.asks.calls ≡ cond (is_some a.end) a.asks.calls (a.asks.calls ++ ask ∷ []) → b.asks.calls ≡ a.asks.calls ++ ask ∷ []
-all_asked a b ask none calls = calls ∙ ap (λ (e : Option Stop). cond (is_some e) a.asks.calls (a.asks.calls ++ ask ∷ [])) none
 
 stops_at : (T : Type 0) (w : World) (a b : AccessView) (ask : Ask) (st : Stop) → a.end ≡ None → b.asks.calls ≡ calls_after {T = T} a ask (Err st) → StopsCalls w (a.asks.calls ++ ask ∷ []) b.lines st → StopsAt w a.asks.calls ask b.lines b.asks.calls st
 unfolding StopsAt

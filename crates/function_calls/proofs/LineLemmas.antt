@@ -55,16 +55,13 @@ line_fails cost w line n s b written k some whole calls grown = rw (line_rest co
   grows = record { part = drop k line; same = part_of k line s.rest.written ∙ ap (option_map (line_after (drop k line))) (sym grown) };
 })
 
-later_lined : (cost : Costs) (w : World) (line : List ℕ) (n : ℕ) (s : S) → Later w s.rest (end_state (line_result (late cost w) line n s)).rest
-later_lined cost w line n s = (g.goes_lined (late cost w) (Later w) (steady_late cost w) line n s).so
+-- memory was refused for the line
+pub line_refused : (cost : Costs) (w : World) (line : List ℕ) (n : ℕ) (s : S) → Later w s.rest (end_state (line_result (late cost w) line n s)).rest
+line_refused cost w line n s = (g.goes_lined (late cost w) (Later w) (steady_late cost w) line n s).so
 
 -- the access stopped before the line
 pub line_stops : (cost : Costs) (w : World) (line : List ℕ) (n : ℕ) (s : S) (b : Asks) (reached : AccessView) (e : End) → b.calls ≡ s.rest.asks.calls → IsStopAt w s.rest.asks.calls reached e
     → EndsLate w reached e (with_rest s (late_of b s.rest.written)) (line_result (late cost w) line n s)
-line_stops cost w line n s b reached e calls stops = stops_before w reached e s b _ (record { so = later_lined cost w line n s }) calls stops
-
--- memory was refused for the line
-pub line_refused : (cost : Costs) (w : World) (line : List ℕ) (n : ℕ) (s : S) → Later w s.rest (end_state (line_result (late cost w) line n s)).rest
-line_refused cost w line n s = later_lined cost w line n s
+line_stops cost w line n s b reached e calls stops = stops_before w reached e s b _ (record { so = line_refused cost w line n s }) calls stops
 
 pub ruleset lines = (known_more, knows_more, knows_part, line_refused, goes_trans, goes_same, left_on)

@@ -88,16 +88,16 @@ pub fn function_of(name: &str) -> Option<Function>
     ensures answer { result ≡ function_named name.now }
     ensures only { (f : Function) → (result ≡ Some f) ↔ (name.now ≡ name_of f) }
 {
-    let likely = likely(name.as_bytes());
+    let likely = guess_function(name.as_bytes());
     if likely.name() == name {
         return Some(likely);
     }
-    named(name)
+    find_function(name)
 }
 
 // The function that a name most likely is, by its length and the byte before the last: a guess, so that one comparison finds the
 // functions that are called most.
-fn likely(name: &[u8]) -> Function {
+fn guess_function(name: &[u8]) -> Function {
     let mark = match name.len().checked_sub(2) {
         Some(index) => name[index],
         None => 0,
@@ -118,7 +118,7 @@ fn likely(name: &[u8]) -> Function {
 }
 
 // The function of the name, by a table from names.
-fn named(name: &str) -> Option<Function>
+fn find_function(name: &str) -> Option<Function>
     ensures { result ≡ function_named name.now }
 {
     match name {
@@ -223,34 +223,34 @@ fn row_of(function: Function) -> Row
     ensures result { result.result ≡ result_of function }
 {
     match function {
-        Function::Read8 => fixed("Read8", &[Number], Value),
-        Function::Read16 => fixed("Read16", &[Number], Value),
-        Function::Read32 => fixed("Read32", &[Number], Value),
-        Function::Read64 => fixed("Read64", &[Number], Value),
-        Function::Write8 => fixed("Write8", &[Number, Number], Zero),
-        Function::Write16 => fixed("Write16", &[Number, Number], Zero),
-        Function::Write32 => fixed("Write32", &[Number, Number], Zero),
-        Function::Write64 => fixed("Write64", &[Number, Number], Zero),
-        Function::ReadAp => fixed("ReadAP", &[Number], Value),
-        Function::WriteAp => fixed("WriteAP", &[Number, Number], Zero),
-        Function::ReadDp => fixed("ReadDP", &[Number], Value),
-        Function::WriteDp => fixed("WriteDP", &[Number, Number], Zero),
-        Function::DapDelay => fixed("DAP_Delay", &[Number], Zero),
-        Function::DapSwjClock => fixed("DAP_SWJ_Clock", &[Number], Zero),
-        Function::DapWriteAbort => fixed("DAP_WriteABORT", &[Number], Zero),
-        Function::DapSwjPins => fixed("DAP_SWJ_Pins", &[Number, Number, Number], PinByte),
-        Function::DapSwjSequence => fixed("DAP_SWJ_Sequence", &[Number, Number], Zero),
-        Function::DapJtagSequence => fixed("DAP_JTAG_Sequence", &[Number; 3], HaltsUnsupported),
-        Function::Sequence => fixed("Sequence", &[Text], Zero),
-        Function::Message => variadic("Message", &[Number, Text], Zero),
-        Function::Query => fixed("Query", &[Number, Text, Number], Default),
-        Function::QueryValue => fixed("QueryValue", &[Text, Number], Default),
-        Function::LoadDebugInfo => fixed("LoadDebugInfo", &[Text], Zero),
+        Function::Read8 => fixed_row("Read8", &[Number], Value),
+        Function::Read16 => fixed_row("Read16", &[Number], Value),
+        Function::Read32 => fixed_row("Read32", &[Number], Value),
+        Function::Read64 => fixed_row("Read64", &[Number], Value),
+        Function::Write8 => fixed_row("Write8", &[Number, Number], Zero),
+        Function::Write16 => fixed_row("Write16", &[Number, Number], Zero),
+        Function::Write32 => fixed_row("Write32", &[Number, Number], Zero),
+        Function::Write64 => fixed_row("Write64", &[Number, Number], Zero),
+        Function::ReadAp => fixed_row("ReadAP", &[Number], Value),
+        Function::WriteAp => fixed_row("WriteAP", &[Number, Number], Zero),
+        Function::ReadDp => fixed_row("ReadDP", &[Number], Value),
+        Function::WriteDp => fixed_row("WriteDP", &[Number, Number], Zero),
+        Function::DapDelay => fixed_row("DAP_Delay", &[Number], Zero),
+        Function::DapSwjClock => fixed_row("DAP_SWJ_Clock", &[Number], Zero),
+        Function::DapWriteAbort => fixed_row("DAP_WriteABORT", &[Number], Zero),
+        Function::DapSwjPins => fixed_row("DAP_SWJ_Pins", &[Number, Number, Number], PinByte),
+        Function::DapSwjSequence => fixed_row("DAP_SWJ_Sequence", &[Number, Number], Zero),
+        Function::DapJtagSequence => fixed_row("DAP_JTAG_Sequence", &[Number; 3], HaltsUnsupported),
+        Function::Sequence => fixed_row("Sequence", &[Text], Zero),
+        Function::Message => variadic_row("Message", &[Number, Text], Zero),
+        Function::Query => fixed_row("Query", &[Number, Text, Number], Default),
+        Function::QueryValue => fixed_row("QueryValue", &[Text, Number], Default),
+        Function::LoadDebugInfo => fixed_row("LoadDebugInfo", &[Text], Zero),
     }
 }
 
 // The row of a function whose calls have as many arguments as there are parameters.
-fn fixed(name: &'static str, parameters: &'static [ParameterKind], kind: ResultKind) -> Row
+fn fixed_row(name: &'static str, parameters: &'static [ParameterKind], kind: ResultKind) -> Row
     ensures name { result.name.now ≡ name.now }
     ensures parameters { result.parameters.now ≡ parameters.now }
     ensures more { result.more ≡ false }
@@ -265,7 +265,7 @@ fn fixed(name: &'static str, parameters: &'static [ParameterKind], kind: ResultK
 }
 
 // The row of a function whose calls may have any number of further numbers.
-fn variadic(name: &'static str, parameters: &'static [ParameterKind], kind: ResultKind) -> Row
+fn variadic_row(name: &'static str, parameters: &'static [ParameterKind], kind: ResultKind) -> Row
     ensures name { result.name.now ≡ name.now }
     ensures parameters { result.parameters.now ≡ parameters.now }
     ensures more { result.more ≡ true }

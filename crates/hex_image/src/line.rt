@@ -13,7 +13,7 @@ fn is_decoded(digits: &[u8], room: &mut [u8]) -> bool
 
 // Decodes the digits after the colon of a record into the first bytes of a room; how many bytes they are. `None` where they are no record.
 // No record has fewer than 10 digits or more than 520, so a long line is refused before it is decoded.
-fn decoded(digits: &[u8], room: &mut [u8; 260]) -> Option<usize>
+fn decode_digits(digits: &[u8], room: &mut [u8; 260]) -> Option<usize>
     ensures { MatchOption result (decoded (decode_of digits.now) ≡ None) (λ n. (n ≤ 260) × (5 ≤ n) × (decoded (decode_of digits.now) ≡ Some (take n room.new))) }
 {
     if digits.len() < 10 || digits.len() > 520 {
@@ -32,7 +32,7 @@ pub(crate) fn record_of(line: &[u8], room: &mut [u8; 260]) -> Option<usize>
     ensures { MatchOption result (record_of line.now ≡ None) (λ n. (n ≤ 260) × (5 ≤ n) × (record_of line.now ≡ Some (take n room.new))) }
 {
     match line.split_first() {
-        Some((b':', digits)) => decoded(digits, room),
+        Some((b':', digits)) => decode_digits(digits, room),
         _ => None,
     }
 }

@@ -197,7 +197,7 @@ fn fault_at(fault: LineFault, line: u64) -> ImageFault
 }
 
 // The image that was read, after so many lines.
-fn ended(reader: Reader, lines: u64) -> Result<Image, ImageFault>
+fn end_reading(reader: Reader, lines: u64) -> Result<Image, ImageFault>
     requires { reader.is_ended ≡ true → length reader.image ≤ 262144 }
     ensures { IsImage result (at_end reader lines) }
 {
@@ -244,5 +244,5 @@ pub fn image_of(alloc: Global, text: &str) -> Result<Image, ImageFault>
             Err(fault) => return Err(fault_at(fault, lines)),
         }
     }
-    ended(reader, lines)
+    end_reading(reader, lines)
 }

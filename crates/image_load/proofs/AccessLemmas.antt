@@ -17,7 +17,7 @@ use Rattle.access_regs.specs.Journal.{making}
 use Rattle.access_regs.specs.Plan.{select_value}
 use Rattle.access_regs.proofs.Csw.{IsSize, plain_size, stored_for}
 use Rattle.access_regs.proofs.Few.{start_narrow}
-use Rattle.access_regs.proofs.Memory.{done_memory, memory_done}
+use Rattle.access_regs.proofs.Memory.{done_memory, memory_done, transfer_is}
 use Rattle.access_regs.proofs.Port.{Selects, drw_some, read_some}
 use Rattle.access_regs.proofs.Select.{Part, select_write, selected_is}
 use Rattle.access_regs.proofs.Transfer.{plain_part, plain_writes, ready}
@@ -36,12 +36,6 @@ pub record Went (ls : List ℕ) (n : ℕ) (d : CallDone) (result : ℕ) (memory 
   pub large : d.large ≡ ls
   pub words : d.next.words ≡ memory
   pub aims : Aims (contains ls n) n d.next
-
--- CSW, the upper word, TAR and DRW
-transfer_is : (l : Bool) (size : ℕ) (read : Bool) (address value csw : ℕ) →
-    transfer_actions l size read address value csw ≡ making (plain_writes (csw_for csw size) l address) ++ Makes (drw_of read address value) ∷ []
-transfer_is true size read address value csw = refl
-transfer_is false size read address value csw = refl
 
 module _ (ls : List ℕ) (n : ℕ) (lt : n < 256) (t : TargetState) (aims : Aims (contains ls n) n t) (size address : ℕ) (is : IsSize size) (low : address < 2 ^ 32) where
   abbrev large : Bool

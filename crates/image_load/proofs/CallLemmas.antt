@@ -1,8 +1,8 @@
 -- Calls for pieces: all of them, and the first of them.
 use Rattle.std.proofs.Common.{◌≡◌, ◌∙◌, ℕ, zero, suc, ◌+◌, ◌<◌, Bool, List, [], ◌∷◌, ◌++◌, append_assoc, length, take, drop, get_or, map, Result, Ok, Err, refl, sym, ap, subst, arith}
-use Rattle.std.specs.Prelude.{IfErr}
 use Rattle.target_calls.specs.declared.calls.Ask.{Ask}
 use Rattle.access_calls.specs.declared.stop.Stop.{Stop}
+use Rattle.image_load.specs.Frame.{AsksCalls}
 use Rattle.image_load.specs.Loading.{AskedPart}
 use Rattle.image_load.specs.Pieces.{asked_all, piece_ask}
 use Rattle.image_load.specs.declared.piece.Piece.{Piece}
@@ -55,6 +55,7 @@ part_at read n ps i d u old mid new less is mid_is p =
     (subst (λ (a : Ask). AskedPart (asked_all read n (take i ps) ++ a ∷ asked_all read n (drop (suc i) ps)) old new) is
     (part_in (asked_all read n (take i ps)) (asked_all read n (drop (suc i) ps)) old mid new u mid_is p))
 
-pub part_second_if : (first second old mid new : List Ask) (r : Result ℕ Stop) → mid ≡ old ++ first → IfErr r (λ e. AskedPart second mid new) → IfErr r (λ e. AskedPart (first ++ second) old new)
-part_second_if first second old mid new (Ok x) mid_is h = h
-part_second_if first second old mid new (Err e) mid_is h = part_second first second old mid new mid_is h
+-- calls after others
+pub asks_then : (first second old mid new : List Ask) (r : Result ℕ Stop) → mid ≡ old ++ first → AsksCalls second r mid new → AsksCalls (first ++ second) r old new
+asks_then first second old mid new (Ok x) mid_is h = h ∙ ap (λ (l : List Ask). l ++ second) mid_is ∙ append_assoc old first second
+asks_then first second old mid new (Err e) mid_is h = part_second first second old mid new mid_is h

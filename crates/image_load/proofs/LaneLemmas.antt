@@ -5,6 +5,7 @@ use Rattle.std.specs.Int.{w32, bit_not}
 use Rattle.std.specs.Int.Bits.{and_zero_r}
 use Rattle.target_machine.specs.Memory.{merged}
 use Rattle.image_load.specs.Pieces.{byte_at}
+use Rattle.target_calls.proofs.NeedLemmas.{none_last}
 
 -- ---- sums
 
@@ -18,16 +19,13 @@ merged_sum old new mask apart = or_disjoint (bit_and old keep) (bit_and new mask
     none : bit_and keep (bit_and new mask) ≡ 0
     none = and_comm keep (bit_and new mask) ∙ and_assoc keep new mask ∙ ap (bit_and new) apart ∙ and_zero_r new
 
-plus_zero : (n : ℕ) → n ≡ n + 0
-plus_zero n = omega arith
-
 -- a byte in its lane
 in_lane : (b k : ℕ) → b < 256 → bit_and (b * 2 ^ k) (255 * 2 ^ k) ≡ b * 2 ^ k
 in_lane b k lt =
-    ap (λ (x : ℕ). bit_and x (255 * 2 ^ k)) (plus_zero (b * 2 ^ k))
-    ∙ ap (λ (x : ℕ). bit_and (b * 2 ^ k + 0) x) (plus_zero (255 * 2 ^ k))
+    ap (λ (x : ℕ). bit_and x (255 * 2 ^ k)) (none_last (b * 2 ^ k))
+    ∙ ap (λ (x : ℕ). bit_and (b * 2 ^ k + 0) x) (none_last (255 * 2 ^ k))
     ∙ and_block k b 255 0 0 (pow_pos k) (pow_pos k)
-    ∙ sym (plus_zero (bit_and b 255 * 2 ^ k))
+    ∙ sym (none_last (bit_and b 255 * 2 ^ k))
     ∙ (let low : bit_and b 255 ≡ b = and_mask b 8 ∙ omega (arith, lt) in ap (λ (x : ℕ). x * 2 ^ k) low)
 
 split_8 : (n : ℕ) → n ≡ n / 2 ^ 8 * 2 ^ 8 + n % 2 ^ 8

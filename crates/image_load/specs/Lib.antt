@@ -4,3 +4,4 @@ pub mod LoadSequel
 pub mod Meets
 pub mod Laid
 pub mod Rising
+pub mod Frame

@@ -4,13 +4,15 @@ use Rattle.target_calls.specs.Asks.{settled_last}
 use Rattle.target_calls.specs.World.{World, results, stop, world_after}
 use Rattle.target_calls.specs.declared.calls.Ask.{Ask}
 use Rattle.access_calls.specs.Answers.{AtCut}
+use Rattle.access_calls.specs.Asking.{EndsBy}
 use Rattle.access_calls.specs.declared.stop.Stop.{Stop}
-use Rattle.access_calls.specs.declared.stop.Stop.TheVariants.{Cut, BenchFault, ReplyBad, OutOfMemory}
 use Rattle.access_calls.specs.declared.stop.StopCause.{StopCause}
 use Rattle.access_calls.specs.declared.stop.StopCause.TheVariants.{Faulted, NoAnswer}
+use Rattle.image_load.specs.Pieces.{first_difference, load_calls}
 use Rattle.image_load.specs.declared.ends.LoadEnd.{LoadEnd}
 use Rattle.image_load.specs.declared.ends.LoadEnd.TheVariants as e
 use Rattle.image_load.specs.declared.piece.Difference.{Difference}
+use Rattle.image_load.specs.declared.piece.Piece.{Piece}
 
 -- ---- what was asked
 
@@ -39,6 +41,10 @@ LoadedAs (Ok x) first = first ≡ None
 LoadedAs (Err (e.Differs address wanted found)) first = first ≡ Some (record { address = address; wanted = wanted; found = found })
 LoadedAs (Err (e.Stop s)) first = ⊤
 
+-- The same by the results of the calls of a load, which follow the old ones.
+abbrev pub ReadsBack : {A : Type 0} → World → List Ask → ℕ → List Piece → Result A LoadEnd → Type 0
+ReadsBack w old ap ps result = LoadedAs result (first_difference ps (read_back w old (load_calls ap ps) (length ps)))
+
 -- ---- where it stopped
 
 -- All calls of a load were made, and a retry ended in the settling after them.
@@ -59,18 +65,6 @@ StopsLoad w (Err (e.Differs address wanted found)) calls old new lines = stop w 
 StopsLoad w (Err (e.Stop s)) calls old new lines = AtCut s (λ r. IsCutAt r.cause w calls old new lines)
 
 -- ---- the access after it
-
--- The access has ended where it stopped so. Refused memory is no end.
-abbrev pub EndsBy : Stop → Option Stop → Type 0
-EndsBy (Cut r) end = end ≡ Some (Cut r)
-EndsBy (BenchFault issued confirmed) end = end ≡ Some (BenchFault issued confirmed)
-EndsBy ReplyBad end = end ≡ Some ReplyBad
-EndsBy OutOfMemory end = end ≡ None
-
--- The access has no end, except where it stopped.
-abbrev pub EndIs : {A : Type 0} → Result A Stop → Option Stop → Type 0
-EndIs (Ok x) end = end ≡ None
-EndIs (Err e) end = EndsBy e end
 
 -- A load leaves the access without an end, except where it stopped.
 abbrev pub LoadEndIs : {A : Type 0} → Result A LoadEnd → Option Stop → Type 0

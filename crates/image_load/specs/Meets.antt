@@ -10,9 +10,9 @@ use Rattle.sequels.specs.Meeting.{CutOff, Gave}
 use Rattle.sequels.specs.Sequel.{comes}
 use Rattle.sequels.specs.declared.close.Close.{Close}
 use Rattle.sequels.specs.declared.close.Close.TheVariants as close
-use Rattle.image_load.specs.Loading.{AsksLoad, LoadedAs, StopsLoad, read_back}
+use Rattle.image_load.specs.Loading.{AsksLoad, ReadsBack, StopsLoad}
 use Rattle.image_load.specs.LoadSequel.{loaded}
-use Rattle.image_load.specs.Pieces.{first_difference, load_calls, pieces}
+use Rattle.image_load.specs.Pieces.{load_calls, pieces}
 use Rattle.image_load.specs.declared.ends.LoadEnd.{LoadEnd}
 use Rattle.image_load.specs.declared.ends.LoadEnd.TheVariants as e
 use Rattle.image_load.specs.declared.ends.Loaded.{Loaded}
@@ -20,7 +20,7 @@ use Rattle.image_load.specs.declared.ends.Loaded.{Loaded}
 -- A load answered this, by its clauses: what was asked, what was read back, where it stopped, and how many bytes and writes there were.
 pub record IsLoad (w : World) (ap : ℕ) (image : Bytes) (result : Result Loaded LoadEnd) (old new : List Ask) (lines : ℕ) : Type 0 where
   pub asks : AsksLoad result (load_calls ap (pieces image)) old new
-  pub loads : LoadedAs result (first_difference (pieces image) (read_back w old (load_calls ap (pieces image)) (length (pieces image))))
+  pub loads : ReadsBack w old ap (pieces image) result
   pub stops : StopsLoad w result (load_calls ap (pieces image)) old new lines
   pub counts : IfOk result (λ l. (l.bytes ≡ length image) × (l.writes ≡ length (pieces image)))
 

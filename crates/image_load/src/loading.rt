@@ -1,15 +1,13 @@
 //! The load of an image over an access.
 ghost use Rattle.std.specs.Prelude.{◌≡◌, ◌+◌, ◌<◌, ◌≤◌, ◌++◌, ◌∷◌, [], ℕ, Option, None, false, true, length, slice_index, OnOk, IfOk, IfErr};
 ghost use Rattle.std.specs.List.{All};
-ghost use Rattle.probe_core.specs.Bench.{BenchState};
 ghost use Rattle.target_machine.specs.Sound.{IsSound};
 ghost use Rattle.target_calls.specs.Asks.{is_wide, unit_ask};
 ghost use Rattle.target_calls.specs.World.{results};
-ghost use Rattle.access_calls.specs.Answers.{StopsCalls};
+ghost use Rattle.access_calls.specs.Asking.{MayAsk};
 ghost use Rattle.access_calls.specs.Keeps.{Keeps};
-ghost use Rattle.access_calls.specs.Left.{IsLeft};
-ghost use Rattle.access_calls.specs.Reported.{world_from};
-ghost use Rattle.image_load.specs.Loading.{AskedPart, AsksLoad, EndIs, LoadEndIs, LoadedAs, StopsLoad, read_back};
+ghost use Rattle.image_load.specs.Frame.{AsksCalls, EndsLoad, EndsPart, InWorlds};
+ghost use Rattle.image_load.specs.Loading.{AsksLoad, ReadsBack, StopsLoad};
 ghost use Rattle.image_load.specs.Pieces.{IsPiece, asked_all, first_difference, load_calls, piece_ask, pieces};
 
 use crate::comparing::difference;
@@ -42,15 +40,10 @@ fn unit_of(read: bool, ap: u8, piece: Piece) -> Unit
 fn ask<A: Access>(unit: Unit, access: &mut A) -> Result<Slot, Stop>
     requires sound { IsSound unit }
     requires narrow { is_wide unit ≡ false }
-    requires few { length (A.reported access.old).asks.calls < 10000000 }
-    requires open { (A.reported access.old).end ≡ None }
+    requires may { MayAsk 9999999 (A.reported access.old) }
     ensures slot { IfOk result (λ slot. slot.index ≡ length (A.reported access.old).asks.calls) }
-    ensures calls { OnOk result ((A.reported access.new).asks.calls ≡ (A.reported access.old).asks.calls ++ unit_ask unit false ∷ []) }
-    ensures part { IfErr result (λ e. AskedPart (unit_ask unit false ∷ []) (A.reported access.old).asks.calls (A.reported access.new).asks.calls) }
-    ensures stops { (m : BenchState) (answered : Option ℕ) → A.begun access.old m → IsLeft (A.reported access.new) answered
-        → IfErr result (StopsCalls (world_from m answered) (A.reported access.new).asks.calls (A.reported access.new).lines) }
-    ensures end { EndIs result (A.reported access.new).end }
-    ensures keeps { Keeps A.begun A.reported A.identity access.old access.new }
+    ensures asks { AsksCalls (unit_ask unit false ∷ []) result (A.reported access.old).asks.calls (A.reported access.new).asks.calls }
+    ensures ends { EndsPart A.begun A.reported A.identity result access.old access.new }
 {
     match access.ask(unit, false) {
         Ok(Asked::Slot(slot)) => Ok(slot),
@@ -67,12 +60,8 @@ fn ask_all<A: Access>(read: bool, ap: u8, pieces: &[Piece], access: &mut A) -> R
     requires open { (A.reported access.old).end ≡ None }
     ensures first { IfOk result (λ first. 0 < length pieces.now → first ≡ length (A.reported access.old).asks.calls) }
     ensures none { IfOk result (λ first. length pieces.now ≡ 0 → first ≡ 0) }
-    ensures calls { OnOk result ((A.reported access.new).asks.calls ≡ (A.reported access.old).asks.calls ++ asked_all read ap pieces.now) }
-    ensures part { IfErr result (λ e. AskedPart (asked_all read ap pieces.now) (A.reported access.old).asks.calls (A.reported access.new).asks.calls) }
-    ensures stops { (m : BenchState) (answered : Option ℕ) → A.begun access.old m → IsLeft (A.reported access.new) answered
-        → IfErr result (StopsCalls (world_from m answered) (A.reported access.new).asks.calls (A.reported access.new).lines) }
-    ensures end { EndIs result (A.reported access.new).end }
-    ensures keeps { Keeps A.begun A.reported A.identity access.old access.new }
+    ensures asks { AsksCalls (asked_all read ap pieces.now) result (A.reported access.old).asks.calls (A.reported access.new).asks.calls }
+    ensures ends { EndsPart A.begun A.reported A.identity result access.old access.new }
 {
     let mut first = 0;
     for i in 0..pieces.len() {
@@ -95,8 +84,8 @@ fn compare_all<A: Access>(pieces: &[Piece], first: u32, access: &mut A) -> Optio
     requires few { first + length pieces.now ≤ 9000000 }
     requires known { first + length pieces.now ≤ (A.reported access.old).known }
     requires open { (A.reported access.old).end ≡ None }
-    ensures differs { (m : BenchState) (answered : Option ℕ) → A.begun access.old m → IsLeft (A.reported access.new) answered
-        → result ≡ first_difference pieces.now (λ i. slice_index (results (world_from m answered) (A.reported access.old).asks.calls) (first + i)) }
+    ensures differs { InWorlds A.begun A.reported access.old access.new (λ w. result
+        ≡ first_difference pieces.now (λ i. slice_index (results w (A.reported access.old).asks.calls) (first + i))) }
     ensures calls { (A.reported access.new).asks.calls ≡ (A.reported access.old).asks.calls }
     ensures open { (A.reported access.new).end ≡ None }
     ensures keeps { Keeps A.begun A.reported A.identity access.old access.new }
@@ -122,16 +111,11 @@ fn compare_all<A: Access>(pieces: &[Piece], first: u32, access: &mut A) -> Optio
 fn ask_both<A: Access>(ap: u8, pieces: &[Piece], access: &mut A) -> Result<u32, Stop>
     requires pieces { All IsPiece pieces.now }
     requires many { length pieces.now ≤ 262144 }
-    requires few { length (A.reported access.old).asks.calls ≤ 1000000 }
-    requires open { (A.reported access.old).end ≡ None }
+    requires may { MayAsk 1000000 (A.reported access.old) }
     ensures first { IfOk result (λ first. 0 < length pieces.now → first ≡ length (A.reported access.old).asks.calls + length pieces.now) }
     ensures none { IfOk result (λ first. length pieces.now ≡ 0 → first ≡ 0) }
-    ensures calls { OnOk result ((A.reported access.new).asks.calls ≡ (A.reported access.old).asks.calls ++ load_calls ap pieces.now) }
-    ensures part { IfErr result (λ e. AskedPart (load_calls ap pieces.now) (A.reported access.old).asks.calls (A.reported access.new).asks.calls) }
-    ensures stops { (m : BenchState) (answered : Option ℕ) → A.begun access.old m → IsLeft (A.reported access.new) answered
-        → IfErr result (StopsCalls (world_from m answered) (A.reported access.new).asks.calls (A.reported access.new).lines) }
-    ensures end { EndIs result (A.reported access.new).end }
-    ensures keeps { Keeps A.begun A.reported A.identity access.old access.new }
+    ensures asks { AsksCalls (load_calls ap pieces.now) result (A.reported access.old).asks.calls (A.reported access.new).asks.calls }
+    ensures ends { EndsPart A.begun A.reported A.identity result access.old access.new }
 {
     match ask_all(false, ap, pieces, access) {
         Ok(_) => ask_all(true, ap, pieces, access),
@@ -144,17 +128,13 @@ fn ask_both<A: Access>(ap: u8, pieces: &[Piece], access: &mut A) -> Result<u32, 
 fn load_pieces<A: Access>(ap: u8, pieces: &[Piece], access: &mut A) -> Result<(), LoadEnd>
     requires pieces { All IsPiece pieces.now }
     requires many { length pieces.now ≤ 262144 }
-    requires few { length (A.reported access.old).asks.calls ≤ 1000000 }
-    requires open { (A.reported access.old).end ≡ None }
+    requires may { MayAsk 1000000 (A.reported access.old) }
     ensures asks { AsksLoad result (load_calls ap pieces.now) (A.reported access.old).asks.calls (A.reported access.new).asks.calls }
-    ensures loads { (m : BenchState) (answered : Option ℕ) → A.begun access.old m → IsLeft (A.reported access.new) answered
-        → LoadedAs result (first_difference pieces.now
-        (read_back (world_from m answered) (A.reported access.old).asks.calls (load_calls ap pieces.now) (length pieces.now))) }
-    ensures stops { (m : BenchState) (answered : Option ℕ) → A.begun access.old m → IsLeft (A.reported access.new) answered
-        → StopsLoad (world_from m answered) result (load_calls ap pieces.now)
-        (A.reported access.old).asks.calls (A.reported access.new).asks.calls (A.reported access.new).lines }
-    ensures end { LoadEndIs result (A.reported access.new).end }
-    ensures keeps { Keeps A.begun A.reported A.identity access.old access.new }
+    ensures loads { InWorlds A.begun A.reported access.old access.new
+        (λ w. ReadsBack w (A.reported access.old).asks.calls ap pieces.now result) }
+    ensures stops { InWorlds A.begun A.reported access.old access.new (λ w. StopsLoad w result (load_calls ap pieces.now)
+        (A.reported access.old).asks.calls (A.reported access.new).asks.calls (A.reported access.new).lines) }
+    ensures ends { EndsLoad A.begun A.reported A.identity result access.old access.new }
 {
     let first = match ask_both(ap, pieces, access) {
         Ok(first) => first,
@@ -201,19 +181,15 @@ pub fn load<A: Access>(
     ap: u8,
     access: &mut A,
 ) -> Result<Loaded, LoadEnd>
-    requires few { length (A.reported access.old).asks.calls ≤ 1000000 }
-    requires open { (A.reported access.old).end ≡ None }
+    requires may { MayAsk 1000000 (A.reported access.old) }
     ensures asks { AsksLoad result (load_calls ap (pieces image.now)) (A.reported access.old).asks.calls (A.reported access.new).asks.calls }
-    ensures loads { (m : BenchState) (answered : Option ℕ) → A.begun access.old m → IsLeft (A.reported access.new) answered
-        → LoadedAs result (first_difference (pieces image.now)
-        (read_back (world_from m answered) (A.reported access.old).asks.calls (load_calls ap (pieces image.now)) (length (pieces image.now)))) }
-    ensures stops { (m : BenchState) (answered : Option ℕ) → A.begun access.old m → IsLeft (A.reported access.new) answered
-        → StopsLoad (world_from m answered) result (load_calls ap (pieces image.now))
-        (A.reported access.old).asks.calls (A.reported access.new).asks.calls (A.reported access.new).lines }
+    ensures loads { InWorlds A.begun A.reported access.old access.new
+        (λ w. ReadsBack w (A.reported access.old).asks.calls ap (pieces image.now) result) }
+    ensures stops { InWorlds A.begun A.reported access.old access.new (λ w. StopsLoad w result (load_calls ap (pieces image.now))
+        (A.reported access.old).asks.calls (A.reported access.new).asks.calls (A.reported access.new).lines) }
     ensures counts { IfOk result (λ l. (l.bytes ≡ length image.now) × (l.writes ≡ length (pieces image.now))) }
     ensures few { IfOk result (λ l. l.writes ≤ 262144) }
-    ensures end { LoadEndIs result (A.reported access.new).end }
-    ensures keeps { Keeps A.begun A.reported A.identity access.old access.new }
+    ensures ends { EndsLoad A.begun A.reported A.identity result access.old access.new }
 {
     let bytes = image.bytes().len();
     let pieces = match pieces_of(alloc, image) {

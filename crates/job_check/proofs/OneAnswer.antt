@@ -1,5 +1,5 @@
 -- The bytes of a job and a selection have one answer at most.
-use Rattle.std.proofs.Common.{◌≡◌, ◌∙◌, ℕ, List, Option, Some, Result, Ok, Err, ap, ap₂, sym, subst, refl}
+use Rattle.std.proofs.Common.{◌≡◌, ◌∙◌, ℕ, List, Option, Result, Ok, Err, ap, ap₂, sym, subst, refl}
 use Rattle.serde_json.specs.Data.{Data}
 use Rattle.json_form.specs.declared.fault.JobFault.{JobFault}
 use Rattle.device_tree.specs.declared.pack.Pack.{Pack}
@@ -15,6 +15,7 @@ use Rattle.job_text.specs.declared.job.Job.{Job}
 use Rattle.job_text.specs.JobReading.{job_in}
 use Rattle.job_text.specs.Answers.{IsTextOf, Describes}
 use Rattle.job_text.proofs.JobLaws.{job_reads}
+use Rattle.job_text.proofs.AnswerLaws.{one_value}
 use Rattle.job_check.specs.declared.answer.Refusal.{Refusal}
 use Rattle.job_check.specs.declared.answer.Refusal.TheVariants as refusals
 use Rattle.job_check.specs.declared.answer.ValidSet.{ValidSet}
@@ -111,9 +112,6 @@ one_none pack s (refusals.Image what line) b p q = absurd p
 one_none pack s (refusals.Check kind spot) b p q = absurd p
 
 -- ---- the job
-
-one_value : (bytes : List ℕ) (d e : Data) → IsTextOf bytes d → IsTextOf bytes e → d ≡ e
-one_value bytes d e here there = (let same : Some d ≡ Some e = sym here.1 ∙ there.1 in cc)
 
 abbrev found : Job → Result Job JobFault
 found j = Ok j

@@ -3,11 +3,11 @@ use Rattle.std.proofs.Common.{◌≡◌, ◌≢◌, ◌∙◌, ℕ, List, Option
 use Rattle.dap_base.specs.declared.text.Place.{Place}
 use Rattle.expr_grammar.specs.declared.token_list.TokenError.TheVariants as tokens
 use Rattle.expr_grammar.specs.Lexeme.{Lexeme}
-use Rattle.expr_grammar.specs.Lexing.{AreTokensOf, IsFirstBad, place_at}
+use Rattle.expr_grammar.specs.Lexing.{IsFirstBad, place_at}
 use Rattle.expr_grammar.specs.Refusal.{place_of}
-use Rattle.expr_grammar.proofs.OneDivision.{gives_bad, gives_tokens}
-use Rattle.sequence_resolve.specs.declared.entry.SeqEntry.{SeqEntry}
+use Rattle.expr_grammar.proofs.OneDivision.{gives_bad, gives_tokens, not_both as no_bad}
 use Rattle.sequence_resolve.specs.declared.entry.SeqSet.{SeqSet}
+use Rattle.sequence_resolve.proofs.OneSet.{same_set}
 use Rattle.dbgconf_text.specs.declared.conf.ConfItem.{ConfItem}
 use Rattle.dbgconf_text.specs.declared.conf.ConfFault.{ConfFault}
 use Rattle.dbgconf_text.specs.declared.conf.ConfFault.TheVariants as conf
@@ -66,10 +66,6 @@ of_tokens ts (conf.Repeated at) conf.OutOfMemory p q x y = absurd (y refl)
 of_tokens ts (conf.Repeated at) (conf.BadToken there) p q x y = absurd q
 of_tokens ts (conf.Repeated at) (conf.Unexpected there) p q x y = absurd (not_both ts q.0 p.0 q.1 p.1)
 of_tokens ts (conf.Repeated at) (conf.Repeated there) p q x y = ap conf.Repeated (p.2 ∙ ap (place_of ts) (one_repeated ts p.0 q.0 p.1 q.1) ∙ sym q.2)
-
--- a text with tokens has no bad one
-no_bad : (text : List ℕ) (ts : List Lexeme) (n : ℕ) → AreTokensOf text ts → IsFirstBad text n → ⊥
-no_bad text ts n are first = gives_tokens text (Err (tokens.BadToken (place_at text n))) (n, first, refl) ts are
 
 -- a text has one first bad token
 same_bad : (text : List ℕ) (n m : ℕ) → IsFirstBad text n → IsFirstBad text m → place_at text n ≡ place_at text m
@@ -135,10 +131,6 @@ one_no_conf (Some text) a b p q =
     x.of ∙ ap refusal_of (one_fault text x.fault y.fault x.is y.is x.some y.some) ∙ sym y.of
 
 -- ---- one set with the values
-
-same_set : (a b : SeqSet) → a.entries ≡ b.entries → a.debugvars ≡ b.debugvars → a ≡ b
-same_set a b e f =
-    ap (λ (es : List SeqEntry). record { entries = es; debugvars = a.debugvars }) e ∙ ap (λ (d : List ℕ). record { entries = b.entries; debugvars = d }) f
 
 pub one_with_values : (dbgconf : Option (List ℕ)) (items : List ConfItem) (plain a b : SeqSet) → HasValues dbgconf items plain a → HasValues dbgconf items plain b → a ≡ b
 one_with_values None items plain a b p q = p ∙ sym q

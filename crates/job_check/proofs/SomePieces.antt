@@ -1,22 +1,15 @@
 -- A text is a format, or it is none.
-use Rattle.std.proofs.Common.{◌≡◌, ◌⊎◌, inl, inr, ℕ, zero, suc, ◌+◌, ◌≤◌, List, [], ◌∷◌, length, length-append, Option, Some, None, subst, ap, refl, arith}
+use Rattle.std.proofs.Common.{◌≡◌, ◌⊎◌, inl, inr, ℕ, zero, suc, ◌≤◌, List, [], ◌∷◌, length, Option, Some, None, subst, refl, arith}
 use Rattle.function_table.specs.declared.format.FormatPiece.{FormatPiece}
 use Rattle.function_table.specs.declared.format.FormatPiece.TheVariants as piece
-use Rattle.function_table.specs.Format.{IsPieceText, BeginsWith, AreFormatPieces}
+use Rattle.function_table.specs.Format.{BeginsWith, AreFormatPieces}
 use Rattle.function_table.specs.Front.{front_of}
 use Rattle.function_table.proofs.Fronts.{front_reads, front_found, one_front}
+use Rattle.function_table.proofs.Counting.{shorter}
 
 -- the pieces of the text, or that it has none
 abbrev pub Divided : List ℕ → Type 0
 Divided text = ((ps : List FormatPiece) × AreFormatPieces ps text) ⊎ ((ps : List FormatPiece) → AreFormatPieces ps text → ⊥)
-
-has_byte : (p : FormatPiece) (text : List ℕ) → IsPieceText p text → 1 ≤ length text
-has_byte (piece.Plain b) text h = omega (arith, ap length h.0)
-has_byte piece.Percent text h = omega (arith, ap length h)
-has_byte (piece.Conversion c) text h = omega (arith, ap length h.parts)
-
-shorter : (p : FormatPiece) (bytes rest : List ℕ) → BeginsWith p bytes rest → 1 + length rest ≤ length bytes
-shorter p bytes rest h = omega (arith, has_byte p h.0 h.2, ap length h.1, length-append h.0 rest)
 
 module _ (b : ℕ) (bs : List ℕ) where
   -- nothing stands at the front

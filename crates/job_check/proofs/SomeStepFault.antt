@@ -1,7 +1,7 @@
 -- Steps have a first fault, or none.
-use Rattle.std.proofs.Common.{◌≡◌, inl, inr, ℕ, suc, ◌<◌, ◌≤◌, ◌==◌, nat_lt, ◌&&◌, ◌||◌, not, Bool, true, false, List, ◌∷◌, Option, Some, None, option_map, refl, ap, arith}
+use Rattle.std.proofs.Common.{◌≡◌, inl, inr, ℕ, suc, ◌<◌, ◌≤◌, ◌==◌, nat_lt, ◌&&◌, ◌||◌, not, Bool, false, List, ◌∷◌, Option, Some, None, option_map, refl, ap, arith}
 use Rattle.std.specs.Option.{option_or}
-use Rattle.std.proofs.lemmas.Bool.Decides.{nat_tests}
+use Rattle.std.proofs.lemmas.Bool.{lt-ltb}
 use Rattle.expr_grammar.specs.Tree.{Tree}
 use Rattle.sequence_trees.specs.declared.spot.Part.{Part}
 use Rattle.sequence_trees.specs.declared.spot.Part.TheVariants as parts
@@ -17,7 +17,8 @@ use Rattle.seq_check.specs.StepFaults.{StepFault, path_before, part_rank, fault_
 use Rattle.seq_check.specs.Views.{own_view}
 use Rattle.seq_check.proofs.FirstLemmas.{first_of_none, first_or, first_mapped}
 use Rattle.seq_check.proofs.ControlLemmas.{form_where, form_where_not, form_none, control_first, first_in_part, own_first}
-use Rattle.seq_check.proofs.StepLemmas.{control_own, control_inner}
+use Rattle.seq_check.proofs.StepLemmas.{control_own, control_inner, steps_order, under_order, apart}
+use Rattle.seq_check.proofs.SetLemmas.{above}
 use Rattle.job_check.proofs.Least.{Decided}
 use Rattle.job_check.proofs.SomeFault.{at_most, less, same_number, expr_first, block_first}
 
@@ -92,32 +93,8 @@ numbered s around n (MoreSteps step more) f h = elim h [
 abbrev before_by : (a b : List ℕ) (x y : Part) (f g : CodeFault) → Bool
 before_by a b x y f g = path_before a b || not (path_before b a) && (nat_lt (part_rank x) (part_rank y) || part_rank x == part_rank y && fault_before x f g)
 
-above : (n j : ℕ) → suc n ≤ j → nat_lt j n ≡ false
-above n j h = grind (arith, nat_tests)
-
-apart : (n j : ℕ) → suc n ≤ j → (j == n) ≡ false
-apart n j h = grind (arith, nat_tests)
-
-below : (n j : ℕ) → suc n ≤ j → nat_lt n j ≡ true
-below n j h = grind (arith, nat_tests)
-
 after_path : (a b p q : List ℕ) (n j : ℕ) (x y : Part) (f g : CodeFault) → a ≡ j ∷ p → b ≡ n ∷ q → suc n ≤ j → before_by a b x y f g ≡ false
-after_path a b p q n j x y f g ea eb h = rw (ea, eb, above n j h, apart n j h, below n j h) refl
-
--- none of the later steps is before an earlier one
-steps_order : (s : Scope) (around n : ℕ) (P : StepFault → Type 0) (more : CodeSteps) (p q : StepFault) → Under n P p → FaultInSteps s around (suc n) more q → is_step_before q p ≡ false
-steps_order s around n P more p q h late =
-    let r = numbered s around (suc n) more q late in
-    after_path q.path p.path r.rest h.inner.path n r.number q.part p.part q.fault p.fault r.parts (ap (λ x. x.path) h.is) r.least
-
-below_itself : (n : ℕ) → nat_lt n n ≡ false
-below_itself n = grind (arith, nat_tests)
-
-same_itself : (n : ℕ) → (n == n) ≡ true
-same_itself n = grind (arith, nat_tests)
-
-under_order : (n : ℕ) (f g : StepFault) → is_step_before (under n f) (under n g) ≡ is_step_before f g
-under_order n f g = rw (below_itself n, same_itself n) refl
+after_path a b p q n j x y f g ea eb h = rw (ea, eb, above n j h, apart n j h, lt-ltb n j h) refl
 
 -- ---- steps
 

@@ -8,7 +8,7 @@ use crate::answer::{CheckRefusal, Refusal};
 use device_tree::JobFault;
 use hex_image::{Image, ImageFault};
 use job_text::ImageJob;
-use json_form::missing;
+use json_form::missing_fault;
 use std::alloc::Global;
 
 /// What a mode needs of a job besides its sequences.
@@ -33,7 +33,7 @@ pub struct JobImage {
 fn refuse_missing(alloc: Global) -> CheckRefusal
     ensures { OnRefusal (λ r. image_of None ≡ Err r) result }
 {
-    match missing(alloc, "image") {
+    match missing_fault(alloc, "image") {
         JobFault::OutOfMemory => CheckRefusal::OutOfMemory,
         fault => CheckRefusal::Refused(Refusal::Job(fault)),
     }

@@ -43,6 +43,7 @@ use Rattle.control_flow.specs.Answers.{EndBy, EndsAs, EndsAtCut, HasNeeds, IsAll
 use Rattle.control_flow.specs.Closing.{ComesToEnd}
 use Rattle.sequence_rules.specs.Known.{Knows, known_part}
 use Rattle.target_machine.specs.Counts.{one_if}
+use Rattle.target_machine.proofs.CountLemmas.{one_most}
 use Rattle.sequels.specs.Limits.{GoesOnFrom}
 use Rattle.sequels.proofs.LimitLemmas.{from_same}
 use Rattle.followed_runs.specs.Followed.{Task, task_outcome}
@@ -84,10 +85,6 @@ unit_by_lines e = one (is_settling e.part)
     one : (b : Bool) → e.unit ≤ (if b then e.unit else e.unit - 1) + 1
     one true = omega arith
     one false = omega arith
-
-one_at_most : (b : Bool) → one_if b ≤ 1
-one_at_most true = omega arith
-one_at_most false = omega arith
 
 module _ (access : AccessKind) (grows : JournalGrows access.journal) (settles : JournalSettles access.journal) (limits : Limits) (k : Task) (first : BenchState) (before : Option (List ℕ)) where
   abbrev run : Run
@@ -300,7 +297,7 @@ module _ (access : AccessKind) (grows : JournalGrows access.journal) (settles : 
   short lines = outcome_with run lines
 
   retry_one : (r : Report) (m : BenchState) → r.accesses ≡ r.confirmed + one_if (pending_of m) → r.accesses ≤ r.confirmed + 1
-  retry_one r m is = (let few = one_at_most (pending_of m) in omega (arith, is, few))
+  retry_one r m is = (let few = one_most (pending_of m) in omega (arith, is, few))
 
   -- a retry that ended, in the journal of the whole outcome's calls
   retry_in : (a : AccessView) (r : Report) (l : Left) → EndsAtCut r.cause a.lines (short a.lines) (ran l.ended a.asks l.written) → l.ended.skipped ≡ a.skipped

@@ -1,6 +1,6 @@
 -- A report and the trace after it.
-use Rattle.std.proofs.Common.{◌≡◌, inr, ℕ, Bool, true, false, List, [], ◌++◌, append_assoc, Option, None, Some, Result, Ok, Err, refl, sym, subst}
-use Rattle.std.specs.Prelude.{IfSome, ◌&&◌}
+use Rattle.std.proofs.Common.{◌≡◌, inr, ℕ, Bool, false, List, [], ◌++◌, append_assoc, Option, None, Some, Result, Ok, Err, refl, sym, subst}
+use Rattle.std.specs.Prelude.{IfSome}
 use Rattle.std.specs.Io.KnownBytes.{Appends}
 use Rattle.std.proofs.KnownBytes.{Appends-nil}
 use Rattle.dap_base.specs.Streams.{AppendsPrefix, PutAppends}
@@ -48,11 +48,6 @@ no_front e.ReplyBad ended sent got a none = absurd cc
 no_front e.WriteFault ended sent got a none = record { rest = []; puts = Appends-nil a }
 no_front e.OutOfMemory ended sent got a none = record { rest = []; puts = Appends-nil a }
 
--- where the target is not shown there is no trace
-pub no_trace : (traced shows : Bool) → shows ≡ false → (traced && shows) ≡ false
-no_trace true shows is = is
-no_trace false shows is = refl
-
 -- ---- a line that no bench is asked for, and then a text
 
 pub line_then : {E : Type 0} (a : Option BenchState) (old mid new : Option (List ℕ)) (r : Result (Unit {0}) E) (line : List ℕ) (g : BenchState → List ℕ)
@@ -74,9 +69,6 @@ pub front_part : {E : Type 0} (a b : Option (List ℕ)) (e : E) (line lines : Li
 front_part a b e line lines part = record { rest = []; puts = subst (λ (l : List ℕ). AppendsPrefix a b l) (sym (append_assoc line lines [])) (prefix_first a b line (lines ++ []) part) }
 
 -- ---- causes
-
-pub named_after : {T U : Type 0} (fault : TextEnd) (x : T) (r : Result U TextEnd) (k m n : ℕ) → NamesFault fault k m (Ok x) → NamesFault fault m n r → NamesFault fault k n r
-named_after fault x r k m n first second = subst (λ (i : ℕ). NamesFault fault i n r) first.else second
 
 pub named_never : {T : Type 0} (fault end : TextEnd) (n : ℕ) → (end ≡ fault → ⊥) → NamesFault {T = T} fault n n (Err end)
 named_never fault end n never = record { failed = λ is. absurd (never (let this : end ≡ fault = cc in this)); else = inr refl }

@@ -102,11 +102,13 @@ pub fn run_whole<B: Bench, K: Sink, A: OverBench<B>>(
     // What it comes to over an observable bench that was just loaded.
     ensures run { B.state bench ≡ Some (fresh run_of.now.job.bench)
         → (n : BenchState) × (B.state result.bench ≡ Some n)
-        × ComesTo (access_kind A.Access.journal A.Access.cost A.Access.is_sparing) (config_of run_of.now.job.settings) run_of.now.job.bench (task_with run_of.now sequence.now (sequel_of followed.now)) (K.written sink.old)
+        × ComesTo (access_kind A.Access.journal A.Access.cost A.Access.is_sparing)
+        (config_of run_of.now.job.settings) run_of.now.job.bench (task_with run_of.now sequence.now (sequel_of followed.now)) (K.written sink.old)
         (record { ended = result.ended; written = known_after (K.written sink.old) (K.written sink.new); bench = n }) }
     // And how what follows came to its end.
     ensures close { B.state bench ≡ Some (fresh run_of.now.job.bench) → result.ended.ending ≡ ends.Done
-        → result.close ≡ job_close (config_of run_of.now.job.settings) run_of.now.job.bench (task_with run_of.now sequence.now (sequel_of followed.now)) (K.written sink.old) }
+        → result.close ≡ job_close (config_of run_of.now.job.settings) run_of.now.job.bench
+        (task_with run_of.now sequence.now (sequel_of followed.now)) (K.written sink.old) }
     // Over any bench it closes as what follows may.
     ensures closes { result.ended.ending ≡ ends.Done → ClosesAs followed.now result.close }
     ensures unclosed { (result.ended.ending ≡ ends.Done → ⊥) → result.close ≡ Close.Nothing }
@@ -173,7 +175,8 @@ pub fn run_on<B: Bench, K: Sink, A: OverBench<B>>(
     // What it comes to over an observable bench that was just loaded.
     ensures run { B.state bench ≡ Some (fresh run_of.now.job.bench)
         → (n : BenchState) × (B.state result.bench ≡ Some n)
-        × ComesTo (access_kind A.Access.journal A.Access.cost A.Access.is_sparing) (config_of run_of.now.job.settings) run_of.now.job.bench (task_in run_of.now sequence.now) (K.written sink.old)
+        × ComesTo (access_kind A.Access.journal A.Access.cost A.Access.is_sparing)
+        (config_of run_of.now.job.settings) run_of.now.job.bench (task_in run_of.now sequence.now) (K.written sink.old)
         (record { ended = result.ended; written = known_after (K.written sink.old) (K.written sink.new); bench = n }) }
     ensures close { result.close ≡ Close.Nothing }
     // What becomes of any bench.

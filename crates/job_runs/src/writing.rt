@@ -64,10 +64,12 @@ fn write_report<K: Sink, B: Bench>(
 ) -> Result<(), TextEnd>
     requires bench { IsBenchJob job.now.bench }
     requires watch { AreWatched job.now.bench.target.memory job.now.watch }
-    ensures text { IfSome (B.state ran.old.bench) (λ n. PutAppends (K.written sink.old) (K.written sink.new) result (run_text is_traced ran.old.ended ran.old.sent ran.old.got job.now n)) }
+    ensures text { IfSome (B.state ran.old.bench) (λ n. PutAppends (K.written sink.old) (K.written sink.new) result
+        (run_text is_traced ran.old.ended ran.old.sent ran.old.got job.now n)) }
     ensures alone { shows_target ran.old.ended.ending ≡ false
         → PutAppends (K.written sink.old) (K.written sink.new) result (ending_lines ran.old.ended.ending ran.old.ended ran.old.sent ran.old.got) }
-    ensures front { PutsFirst (ending_lines ran.old.ended.ending ran.old.ended ran.old.sent ran.old.got) (K.written sink.old) (K.written sink.new) result }
+    ensures front { PutsFirst (ending_lines ran.old.ended.ending ran.old.ended ran.old.sent ran.old.got)
+        (K.written sink.old) (K.written sink.new) result }
     ensures unasked { shows_target ran.old.ended.ending ≡ false → IfErr result (λ e. e ≢ TextEnd.BenchFault) }
     ensures ended { ran.new.ended ≡ ran.old.ended }
     ensures close { ran.new.close ≡ ran.old.close }
@@ -101,10 +103,12 @@ pub fn write_run<K: Sink, B: Bench>(
 ) -> Result<(), TextEnd>
     requires bench { IsBenchJob job.now.bench }
     requires watch { AreWatched job.now.bench.target.memory job.now.watch }
-    ensures text { IfSome (B.state ran.old.bench) (λ n. PutAppends (K.written sink.old) (K.written sink.new) result (run_text is_traced ran.old.ended ran.old.sent ran.old.got job.now n)) }
+    ensures text { IfSome (B.state ran.old.bench) (λ n. PutAppends (K.written sink.old) (K.written sink.new) result
+        (run_text is_traced ran.old.ended ran.old.sent ran.old.got job.now n)) }
     ensures alone { shows_target ran.old.ended.ending ≡ false
         → PutAppends (K.written sink.old) (K.written sink.new) result (ending_lines ran.old.ended.ending ran.old.ended ran.old.sent ran.old.got) }
-    ensures front { PutsFirst (ending_lines ran.old.ended.ending ran.old.ended ran.old.sent ran.old.got) (K.written sink.old) (K.written sink.new) result }
+    ensures front { PutsFirst (ending_lines ran.old.ended.ending ran.old.ended ran.old.sent ran.old.got)
+        (K.written sink.old) (K.written sink.new) result }
     ensures unasked { shows_target ran.old.ended.ending ≡ false → IfErr result (λ e. e ≢ TextEnd.BenchFault) }
     ensures silent { has_report ran.old.ended.ending ≡ false → result ≡ Ok tt }
     ensures ended { ran.new.ended ≡ ran.old.ended }
@@ -133,8 +137,10 @@ fn write_loaded<K: Sink, B: Bench>(
 ) -> Result<(), TextEnd>
     requires bench { IsBenchJob job.now.bench }
     requires watch { AreWatched job.now.bench.target.memory job.now.watch }
-    ensures text { IfSome (B.state ran.old.bench) (λ n. PutAppends (K.written sink.old) (K.written sink.new) result (loaded_line bytes writes ++ run_text is_traced ran.old.ended ran.old.sent ran.old.got job.now n)) }
-    ensures front { PutsFirst (loaded_line bytes writes ++ ending_lines ran.old.ended.ending ran.old.ended ran.old.sent ran.old.got) (K.written sink.old) (K.written sink.new) result }
+    ensures text { IfSome (B.state ran.old.bench) (λ n. PutAppends (K.written sink.old) (K.written sink.new) result
+        (loaded_line bytes writes ++ run_text is_traced ran.old.ended ran.old.sent ran.old.got job.now n)) }
+    ensures front { PutsFirst (loaded_line bytes writes ++ ending_lines ran.old.ended.ending ran.old.ended ran.old.sent ran.old.got)
+        (K.written sink.old) (K.written sink.new) result }
     ensures ended { ran.new.ended ≡ ran.old.ended }
     ensures close { ran.new.close ≡ ran.old.close }
     ensures same { IsAsBefore (seen B.reported B.state ran.old.bench) (seen B.reported B.state ran.new.bench) }
@@ -161,10 +167,12 @@ pub fn write_whole<K: Sink, B: Bench>(
 ) -> Result<(), TextEnd>
     requires bench { IsBenchJob job.now.bench }
     requires watch { AreWatched job.now.bench.target.memory job.now.watch }
-    ensures text { IfSome (B.state ran.old.bench) (λ n. PutAppends (K.written sink.old) (K.written sink.new) result (whole_text is_traced ran.old.ended ran.old.close ran.old.sent ran.old.got job.now n)) }
+    ensures text { IfSome (B.state ran.old.bench) (λ n. PutAppends (K.written sink.old) (K.written sink.new) result
+        (whole_text is_traced ran.old.ended ran.old.close ran.old.sent ran.old.got job.now n)) }
     ensures alone { ran.old.close ≡ Close.Nothing → shows_target ran.old.ended.ending ≡ false
         → PutAppends (K.written sink.old) (K.written sink.new) result (ending_lines ran.old.ended.ending ran.old.ended ran.old.sent ran.old.got) }
-    ensures front { PutsFirst (first_lines ran.old.ended ran.old.close ran.old.sent ran.old.got) (K.written sink.old) (K.written sink.new) result }
+    ensures front { PutsFirst (first_lines ran.old.ended ran.old.close ran.old.sent ran.old.got)
+        (K.written sink.old) (K.written sink.new) result }
     ensures unasked { ran.old.close ≡ Close.Nothing → shows_target ran.old.ended.ending ≡ false → IfErr result (λ e. e ≢ TextEnd.BenchFault) }
     ensures silent { ran.old.close ≡ Close.Nothing → has_report ran.old.ended.ending ≡ false → result ≡ Ok tt }
     ensures ended { ran.new.ended ≡ ran.old.ended }

@@ -15,7 +15,7 @@ use Rattle.job_text.proofs.RangeLaws.{bench_ranges}
 use Rattle.job_text.proofs.SettingLaws.{settings_in_range, watch_in_range, trace_entries}
 
 -- bytes are the text of one value
-one_value : (bytes : List ℕ) (d e : Data) → IsTextOf bytes d → IsTextOf bytes e → d ≡ e
+pub one_value : (bytes : List ℕ) (d e : Data) → IsTextOf bytes d → IsTextOf bytes e → d ≡ e
 one_value bytes d e here there = (let same : Some d ≡ Some e = sym here.1 ∙ there.1 in cc)
 
 pub found_in : (bytes : List ℕ) (r : Result Job JobRefusal) → Answers bytes r → IfOk r (Describes bytes)

@@ -1,6 +1,6 @@
 -- A bench that a value stands for can be loaded.
 use Rattle.std.proofs.Common.{◌≡◌, ◌≢◌, ℕ, suc, ◌+◌, ◌%◌, ◌^◌, ◌<◌, ◌≤◌, ◌==◌, ◌&&◌, ◌||◌, inl, inr, Bool, true, false, nat_le, nat_lt, List, [], ◌∷◌, ◌++◌, length, get_or, Some, refl, sym, subst, arith, bit_and, codes}
-use Rattle.std.proofs.lemmas.Bool.{leb-true}
+use Rattle.std.proofs.lemmas.Bool.{leb-true, and_parts, or_parts, ltb-true, ltb-false}
 use Rattle.std.proofs.lemmas.Bool.Decides.{nat_tests}
 use Rattle.std.proofs.lemmas.List.Sums.{sum_by_push}
 use Rattle.std.specs.List.{All, AllPairs, Any, list_any, sum_by}
@@ -18,28 +18,12 @@ use Rattle.probe_core.specs.declared.job.BenchJob.{BenchJob}
 use Rattle.probe_core.specs.Ranges.{IsBenchJob}
 use Rattle.job_text.specs.Tests.{has_bit_0, lacks_bits_4_and_6, is_aligned, holds, is_held, is_word_in, is_length_after, same_ap, overlap, same_word, same_script, repeats_script, is_filled}
 use Rattle.job_text.specs.TargetForm.{IsWord, IsAp, IsRegionAfter, IsWordJob, IsScriptJob, IsTarget, IsBench}
+use Rattle.trace_audit.proofs.TextLemmas.{is_equal}
 
 -- ---- tests
 
-both : (a b : Bool) → a && b ≡ true → (a ≡ true) × (b ≡ true)
-both true b e = (refl, e)
-both false b e = absurd cc
-
-neither : (a b : Bool) → a || b ≡ false → (a ≡ false) × (b ≡ false)
-neither true b e = absurd cc
-neither false b e = (refl, e)
-
-pub is_equal : (x y : ℕ) → (x == y) ≡ true → x ≡ y
-is_equal x y e = grind (arith, nat_tests)
-
 is_other : (x y : ℕ) → (x == y) ≡ false → x ≢ y
 is_other x y e same = grind (arith, nat_tests)
-
-is_below : (x y : ℕ) → nat_lt x y ≡ true → x < y
-is_below x y e = grind (arith, nat_tests)
-
-not_below : (x y : ℕ) → nat_lt x y ≡ false → y ≤ x
-not_below x y e = grind (arith, nat_tests)
 
 -- ---- members with defaults
 
@@ -51,8 +35,8 @@ or_default key R other d x P law base (inr h) = subst P (sym h.1) base
 
 end_of : (earlier : List RegionJob) (address n : ℕ) → is_length_after earlier address n ≡ true → (n % 4 ≡ 0) × (address + n ≤ 2 ^ 63) × (sum_by (λ r. r.length) earlier + n ≤ 4194304)
 end_of earlier address n e =
-    let a = both (is_aligned n && nat_le (address + n) (2 ^ 63)) (nat_le (sum_by (λ r. r.length) earlier + n) 4194304) e in
-    let b = both (is_aligned n) (nat_le (address + n) (2 ^ 63)) a.0 in
+    let a = and_parts (is_aligned n && nat_le (address + n) (2 ^ 63)) (nat_le (sum_by (λ r. r.length) earlier + n) 4194304) e in
+    let b = and_parts (is_aligned n) (nat_le (address + n) (2 ^ 63)) a.0 in
     (is_equal (n % 4) 0 b.0, leb-true _ _ b.1, leb-true _ _ a.1)
 
 region_in_range : (earlier : List RegionJob) (d : Data) (x : RegionJob) → IsRegionAfter earlier d x → repeats_by overlap earlier x ≡ false → IsRegion x
@@ -62,8 +46,8 @@ region_in_range earlier d x is fresh =
 
 apart_at : (a b : Bool) (x y : RegionJob) → nat_lt x.address (y.address + y.length) ≡ a → nat_lt y.address (x.address + x.length) ≡ b → a && b ≡ false → AreApart x y
 apart_at true true x y first second e = absurd cc
-apart_at true false x y first second e = inl (not_below _ _ second)
-apart_at false b x y first second e = inr (not_below _ _ first)
+apart_at true false x y first second e = inl (ltb-false _ _ second)
+apart_at false b x y first second e = inr (ltb-false _ _ first)
 
 are_apart : (before : List RegionJob) (x : RegionJob) → repeats_by overlap before x ≡ false → All (λ other. AreApart other x) before
 are_apart before x e k d lt = apart_at _ _ (get_or before k d) x refl refl (none_at (λ other. overlap other x) before e k d lt)
@@ -90,11 +74,11 @@ any_at p P [] law e = absurd cc
 any_at p P (x ∷ xs) law e = any_case (p x) P x xs (list_any p xs) (law x) (any_at p P xs law) e
 
 held_by : (address : ℕ) (r : RegionJob) → holds address r ≡ true → (r.address ≤ address) × (address < r.address + r.length)
-held_by address r e = let a = both (nat_le r.address address) (nat_lt address (r.address + r.length)) e in (leb-true _ _ a.0, is_below _ _ a.1)
+held_by address r e = let a = and_parts (nat_le r.address address) (nat_lt address (r.address + r.length)) e in (leb-true _ _ a.0, ltb-true _ _ a.1)
 
 word_in_range : (regions : List RegionJob) (address : ℕ) → is_word_in regions address ≡ true → IsWordIn regions address
 word_in_range regions address e =
-    let a = both (is_aligned address) (is_held regions address) e in
+    let a = and_parts (is_aligned address) (is_held regions address) e in
     record { aligned = is_equal (address % 4) 0 a.0; inside = any_at (holds address) _ regions (held_by address) a.1 }
 
 words_differ : (before : List WordJob) (x : WordJob) → repeats_by same_word before x ≡ false → All (λ other. other.address ≢ x.address) before
@@ -133,7 +117,7 @@ script_in_range regions d x is = record {
 
 no_script : (words : List WordJob) (before : List ScriptJob) (x : ScriptJob) → repeats_script words before x ≡ false
     → (list_any (λ other. same_script other x) before ≡ false) × (list_any (λ word. word.address == x.address) words ≡ false)
-no_script words before x e = neither (list_any (λ other. same_script other x) before) (list_any (λ word. word.address == x.address) words) e
+no_script words before x e = or_parts (list_any (λ other. same_script other x) before) (list_any (λ word. word.address == x.address) words) e
 
 scripts_differ : (words : List WordJob) (before : List ScriptJob) (x : ScriptJob) → repeats_script words before x ≡ false → All (λ other. other.address ≢ x.address) before
 scripts_differ words before x e k d lt = is_other _ _ (none_at (λ other. same_script other x) before (no_script words before x e).0 k d lt)

@@ -6,6 +6,7 @@ use Rattle.json_form.specs.Reading.{never}
 use Rattle.json_form.specs.Form.{IsNumber, HasOr, MayHave, IsListOf, Alone}
 use Rattle.json_form.proofs.ItemLaws.{list_holds, list_length}
 use Rattle.trace_audit.specs.Texts.{IsEntry}
+use Rattle.trace_audit.proofs.TextLemmas.{is_equal}
 use Rattle.target_machine.specs.declared.job.RegionJob.{RegionJob}
 use Rattle.target_machine.specs.declared.unit.Settings.{Settings}
 use Rattle.target_machine.specs.declared.unit.Variable.{Variable}
@@ -16,7 +17,7 @@ use Rattle.function_table.specs.Variables.{predefined}
 use Rattle.job_text.specs.RunForm.{HasValues, AreVariables, IsRun}
 use Rattle.job_text.specs.JobForm.{IsWatchItem, IsEntryOf, IsJob}
 use Rattle.job_text.specs.Ranges.{AreSettings, IsWatched, AreWatched, AreEntryTexts}
-use Rattle.job_text.proofs.RangeLaws.{or_default, is_equal}
+use Rattle.job_text.proofs.RangeLaws.{or_default}
 
 names-values : (names : List (List ℕ)) (d : Data) (variables : List Variable) → HasValues names d variables → map (λ variable. variable.name) variables ≡ names
 names-values [] d variables h = ap (map (λ (variable : Variable). variable.name)) h

@@ -12,8 +12,8 @@ ghost use Rattle.job_text.specs.TargetReading.{address_number, region_in, word_i
 use dap_base::OutOfMemory;
 use device_tree::{JobFault, Path};
 use json_form::{
-    Choice, Each, ItemReader, Keyed, ListOf, Number, Reader, member_or, only_keys_of, required_of,
-    tested, was_seen,
+    Choice, Each, ItemReader, Keyed, ListOf, Number, Reader, member_or, number_if, only_keys_of,
+    required_of, was_seen,
 };
 use serde_json::Value;
 use std::alloc::Global;
@@ -53,7 +53,7 @@ impl Reader for AlignedAddress {
     #[tactic(auto, unfolding(json_form::specs::Reading::such))]
     fn read(&self, alloc: Global, value: &Value) -> Result<u64, JobFault> {
         let address = ANY_ADDRESS.read(alloc, value)?;
-        tested(alloc, address, address % 4 == 0)
+        number_if(alloc, address, address % 4 == 0)
     }
 }
 
@@ -98,7 +98,7 @@ impl<'a> Reader for RegionLength<'a> {
     #[tactic(auto, unfolding(json_form::specs::Reading::such))]
     fn read(&self, alloc: Global, value: &Value) -> Result<u32, JobFault> {
         let length = REGION_LENGTH.read(alloc, value)?;
-        tested(alloc, length, is_length(self.earlier, self.address, length))
+        number_if(alloc, length, is_length(self.earlier, self.address, length))
     }
 }
 
@@ -212,7 +212,7 @@ impl<'a> Reader for WordAddress<'a> {
     #[tactic(auto, unfolding(json_form::specs::Reading::such))]
     fn read(&self, alloc: Global, value: &Value) -> Result<u64, JobFault> {
         let address = ANY_ADDRESS.read(alloc, value)?;
-        tested(
+        number_if(
             alloc,
             address,
             address % 4 == 0 && is_in_one(address, self.regions),

@@ -11,8 +11,8 @@ use crate::memory::{ANY_WORD, RegionItems, ScriptItems, WordReader};
 use dap_base::{ItemList, OutOfMemory};
 use device_tree::JobFault;
 use json_form::{
-    Choice, Distinct, Flag, Keyed, ListOf, Number, Reader, member_or, only_keys_of, required_of,
-    tested,
+    Choice, Distinct, Flag, Keyed, ListOf, Number, Reader, member_or, number_if, only_keys_of,
+    required_of,
 };
 use serde_json::Value;
 use std::alloc::Global;
@@ -77,7 +77,7 @@ impl Reader for Dpidr {
     #[tactic(auto, unfolding(json_form::specs::Reading::such))]
     fn read(&self, alloc: Global, value: &Value) -> Result<u32, JobFault> {
         let dpidr = ANY_WORD.read(alloc, value)?;
-        tested(alloc, dpidr, dpidr % 2 == 1)
+        number_if(alloc, dpidr, dpidr % 2 == 1)
     }
 }
 
@@ -93,7 +93,7 @@ impl Reader for Pins {
     #[tactic(auto, unfolding(json_form::specs::Reading::such))]
     fn read(&self, alloc: Global, value: &Value) -> Result<u8, JobFault> {
         let pins = ANY_BYTE.read(alloc, value)?;
-        tested(alloc, pins, pins & 0x50 == 0)
+        number_if(alloc, pins, pins & 0x50 == 0)
     }
 }
 

@@ -10,7 +10,7 @@ ghost use Rattle.job_text.specs.JobReading.{watch_item_in};
 use crate::job::WatchItem;
 use crate::memory::{AlignedAddress, is_in};
 use device_tree::JobFault;
-use json_form::{Number, Reader, only_keys_of, required_of, tested};
+use json_form::{Number, Reader, number_if, only_keys_of, required_of};
 use serde_json::Value;
 use std::alloc::Global;
 use target_machine::RegionJob;
@@ -86,7 +86,7 @@ impl<'a> Reader for WordsFrom<'a> {
     #[tactic(auto, unfolding(json_form::specs::Reading::such))]
     fn read(&self, alloc: Global, value: &Value) -> Result<u32, JobFault> {
         let words = WORD_COUNT.read(alloc, value)?;
-        tested(alloc, words, are_in(self.regions, self.address, words))
+        number_if(alloc, words, are_in(self.regions, self.address, words))
     }
 }
 

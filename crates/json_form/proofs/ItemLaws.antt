@@ -1,6 +1,6 @@
 -- What holds of the items of a list that a value stands for.
-use Rattle.std.proofs.Common.{◌≡◌, ℕ, zero, suc, ◌+◌, ◌≤◌, Bool, true, false, ◌||◌, List, [], ◌∷◌, ◌++◌, length, Option, Some, refl, ap, sym, subst, ◌∙◌, arith, length-append}
-use Rattle.std.proofs.lemmas.Bool.{leb-true}
+use Rattle.std.proofs.Common.{◌≡◌, ℕ, zero, suc, ◌+◌, ◌≤◌, Bool, false, List, [], ◌∷◌, ◌++◌, length, Option, Some, ap, sym, subst, ◌∙◌, arith, length-append}
+use Rattle.std.proofs.lemmas.Bool.{leb-true, or_parts}
 use Rattle.std.proofs.lemmas.List.Quantifiers.{all_pairs_push}
 use Rattle.std.specs.List.{All, AllPairs, list_any}
 use Rattle.serde_json.specs.Data.{Data, Items, no_items, item}
@@ -9,15 +9,11 @@ use Rattle.json_form.specs.Form.{EachItem, IsListOf}
 
 -- ---- tests of items
 
-or_false : (a b : Bool) → a || b ≡ false → (a ≡ false) × (b ≡ false)
-or_false true b e = absurd cc
-or_false false b e = (refl, e)
-
 -- no item passes
 pub none_at : {A : Type 0} (p : A → Bool) (xs : List A) → list_any p xs ≡ false → All (λ x. p x ≡ false) xs
 none_at p [] none k d lt = absurd (omega arith)
-none_at p (x ∷ xs) none zero d lt = (or_false (p x) (list_any p xs) none).0
-none_at p (x ∷ xs) none (suc k) d lt = none_at p xs (or_false (p x) (list_any p xs) none).1 k d (omega arith)
+none_at p (x ∷ xs) none zero d lt = (or_parts (p x) (list_any p xs) none).0
+none_at p (x ∷ xs) none (suc k) d lt = none_at p xs (or_parts (p x) (list_any p xs) none).1 k d (omega arith)
 
 pub all_push : {A : Type 0} (P : A → Type 0) (xs : List A) (x : A) → All P xs → P x → All P (xs ++ x ∷ [])
 all_push P [] x all here zero d lt = here

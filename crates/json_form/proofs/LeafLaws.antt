@@ -1,10 +1,10 @@
 -- Reading texts, flags, choices and numbers.
 use Rattle.std.proofs.Common.{◌≡◌, ℕ, ◌≤◌, ◌&&◌, Bool, true, false, cond, nat_le, List, [], Option, Some, None, Result, Ok, Err, refl, ap, sym, subst, ◌∙◌, inl, inr, ◌⊎◌, le-leb, bytes_eq}
 use Rattle.std.proofs.lemmas.Bool.{leb-true}
-use Rattle.std.proofs.lemmas.Slice.Eq.{bytes_eq-Decides}
 use Rattle.std.specs.Option.{ok_or}
 use Rattle.serde_json.specs.Data.{Data, null, boolean, number, string, array, object, Num, unsigned, negative, float}
 use Rattle.dap_base.specs.Number.{number_value}
+use Rattle.dap_base.proofs.Basics.{text_itself, same_text}
 use Rattle.json_form.specs.declared.fault.JobFault.{JobFault}
 use Rattle.json_form.specs.declared.fault.JobFault.TheVariants.{WrongKind, BadNumber}
 use Rattle.json_form.specs.Reading.{text, flag, choice, any_number, number as number_in, such}
@@ -43,12 +43,6 @@ chosen_at true b x e = inl (refl, (let same : false ≡ x = cc in sym same))
 chosen_at false true x e = inr (refl, (let same : true ≡ x = cc in sym same))
 chosen_at false false x e = absurd cc
 
-same_text : (xs ys : List ℕ) → bytes_eq xs ys ≡ true → xs ≡ ys
-same_text xs ys e = (bytes_eq-Decides xs ys).0 e
-
-itself : (xs : List ℕ) → bytes_eq xs xs ≡ true
-itself xs = (bytes_eq-Decides xs xs).1 refl
-
 pub choice_reads : (first second : List ℕ) → bytes_eq second first ≡ false → Reads (choice first second) (IsChoice first second)
 unfolding choice
 choice_reads first second apart = record {
@@ -59,7 +53,7 @@ choice_reads first second apart = record {
         | inl h ↦ inl (is ∙ ap string (same_text a.0 first h.0), h.1)
         | inr h ↦ inr (is ∙ ap string (same_text a.0 second h.0), h.1)
       ]);
-  complete = λ d x p. (elim p [ inl h ↦ rw (h.0, h.1, itself first) refl | inr h ↦ rw (h.0, h.1, apart, itself second) refl ]);
+  complete = λ d x p. (elim p [ inl h ↦ rw (h.0, h.1, text_itself first) refl | inr h ↦ rw (h.0, h.1, apart, text_itself second) refl ]);
 }
 
 -- ---- numbers

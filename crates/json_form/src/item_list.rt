@@ -7,7 +7,7 @@ ghost use Rattle.json_form.specs.Reading.{items_after, has_room, list_of, alone,
 
 use crate::fault::JobFault;
 use crate::path::Path;
-use crate::placed::{fault_under_index, repeated};
+use crate::placed::{fault_under_index, repeated_fault};
 use crate::reader::Reader;
 use dap_base::{ItemList, OutOfMemory};
 use serde_json::Value;
@@ -129,7 +129,7 @@ fn items_of<R: ItemReader>(
     for value in values {
         let item = item_of(alloc, value, &items, reader)?;
         if reader.is_repeated(alloc, items.as_slice(), &mut seen, &item)? {
-            return Err(repeated(alloc, items.len()));
+            return Err(repeated_fault(alloc, items.len()));
         }
         items.push(item)?;
     }

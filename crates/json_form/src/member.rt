@@ -6,7 +6,7 @@ ghost use Rattle.json_form.specs.Reading.{required, optional, or_else};
 ghost use Rattle.json_form.specs.declared.path.PathStep.TheVariants.{Key};
 
 use crate::fault::JobFault;
-use crate::placed::{fault_under_key, missing};
+use crate::placed::{fault_under_key, missing_fault};
 use crate::reader::Reader;
 use serde_json::Value;
 use std::alloc::Global;
@@ -37,7 +37,7 @@ pub fn required_of<R: Reader>(
 {
     match object.get(key) {
         Some(member) => member_of(alloc, member, key, reader),
-        None => Err(missing(alloc, key)),
+        None => Err(missing_fault(alloc, key)),
     }
 }
 

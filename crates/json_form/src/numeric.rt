@@ -42,7 +42,7 @@ fn number_in(alloc: Global, value: &Value, low: u64, high: u64) -> Result<u64, J
 }
 
 /// The number, where it passed a test, and else `BadNumber` at its place.
-pub fn tested<N: Drop>(alloc: Global, number: N, passes: bool) -> Result<N, JobFault>
+pub fn number_if<N: Drop>(alloc: Global, number: N, passes: bool) -> Result<N, JobFault>
     ensures { Gives result (if passes then Ok number else Err (JobFault.BadNumber [])) }
 {
     if passes {

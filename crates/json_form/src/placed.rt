@@ -27,7 +27,7 @@ fn push_copies(alloc: Global, path: &mut Path, steps: &[PathStep]) -> Result<(),
 }
 
 // The path with a step before it. `None` where memory is refused.
-fn preceded(alloc: Global, first: PathStep, path: &Path) -> Option<Path>
+fn prepend_step(alloc: Global, first: PathStep, path: &Path) -> Option<Path>
     ensures { IfSome result (λ longer. longer ≡ first ∷ path.now) }
 {
     let mut longer = Path::new(alloc);
@@ -42,22 +42,22 @@ fn fault_under(alloc: Global, fault: JobFault, step: PathStep) -> JobFault
 {
     match fault {
         JobFault::Missing(path) => {
-            preceded(alloc, step, &path).map_or(JobFault::OutOfMemory, JobFault::Missing)
+            prepend_step(alloc, step, &path).map_or(JobFault::OutOfMemory, JobFault::Missing)
         }
         JobFault::WrongKind(path) => {
-            preceded(alloc, step, &path).map_or(JobFault::OutOfMemory, JobFault::WrongKind)
+            prepend_step(alloc, step, &path).map_or(JobFault::OutOfMemory, JobFault::WrongKind)
         }
         JobFault::UnknownKey(path) => {
-            preceded(alloc, step, &path).map_or(JobFault::OutOfMemory, JobFault::UnknownKey)
+            prepend_step(alloc, step, &path).map_or(JobFault::OutOfMemory, JobFault::UnknownKey)
         }
         JobFault::Repeated(path) => {
-            preceded(alloc, step, &path).map_or(JobFault::OutOfMemory, JobFault::Repeated)
+            prepend_step(alloc, step, &path).map_or(JobFault::OutOfMemory, JobFault::Repeated)
         }
         JobFault::BadNumber(path) => {
-            preceded(alloc, step, &path).map_or(JobFault::OutOfMemory, JobFault::BadNumber)
+            prepend_step(alloc, step, &path).map_or(JobFault::OutOfMemory, JobFault::BadNumber)
         }
         JobFault::TooMany(path) => {
-            preceded(alloc, step, &path).map_or(JobFault::OutOfMemory, JobFault::TooMany)
+            prepend_step(alloc, step, &path).map_or(JobFault::OutOfMemory, JobFault::TooMany)
         }
         JobFault::OutOfMemory => JobFault::OutOfMemory,
     }
@@ -72,13 +72,13 @@ fn key_step(alloc: Global, key: &str) -> Option<PathStep>
 fn only_key(alloc: Global, key: &str) -> Option<Path>
     ensures { IfSome result (λ path. path ≡ Key key.now ∷ []) }
 {
-    preceded(alloc, key_step(alloc, key)?, &Path::new(alloc))
+    prepend_step(alloc, key_step(alloc, key)?, &Path::new(alloc))
 }
 
 fn only_index(alloc: Global, index: usize) -> Option<Path>
     ensures { IfSome result (λ path. path ≡ Index index ∷ []) }
 {
-    preceded(alloc, PathStep::Index(index as u64), &Path::new(alloc))
+    prepend_step(alloc, PathStep::Index(index as u64), &Path::new(alloc))
 }
 
 /// A fault inside the member `key`, as the object around it sees it.
@@ -99,7 +99,7 @@ pub fn fault_under_index(alloc: Global, fault: JobFault, index: usize) -> JobFau
 }
 
 /// The fault of an object without the required member `key`.
-pub fn missing(alloc: Global, key: &str) -> JobFault
+pub fn missing_fault(alloc: Global, key: &str) -> JobFault
     ensures { (result ≡ JobFault.Missing (Key key.now ∷ [])) ⊎ (result ≡ JobFault.OutOfMemory) }
 {
     only_key(alloc, key).map_or(JobFault::OutOfMemory, JobFault::Missing)
@@ -113,7 +113,7 @@ pub(crate) fn unknown_key(alloc: Global, key: &str) -> JobFault
 }
 
 /// The fault of a list whose item `index` is the same as an earlier one.
-pub(crate) fn repeated(alloc: Global, index: usize) -> JobFault
+pub(crate) fn repeated_fault(alloc: Global, index: usize) -> JobFault
     ensures { (result ≡ JobFault.Repeated (Index index ∷ [])) ⊎ (result ≡ JobFault.OutOfMemory) }
 {
     only_index(alloc, index).map_or(JobFault::OutOfMemory, JobFault::Repeated)

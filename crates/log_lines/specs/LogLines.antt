@@ -1,5 +1,6 @@
 -- A log line by line.
-use Rattle.std.specs.Prelude.{ℕ, List, [], ◌∷◌, ◌++◌, fold, flat_map}
+use Rattle.std.specs.Prelude.{◌≡◌, ℕ, List, [], ◌∷◌, ◌++◌, fold, flat_map, Result, Ok, Err}
+use Rattle.dap_base.specs.declared.text.OutOfMemory.{OutOfMemory}
 use Rattle.run_events.specs.Events.{Event}
 use Rattle.log_lines.specs.LogText.{LogText, depth_after, event_line}
 
@@ -11,6 +12,11 @@ pub record LogLines : Type 0 where
 -- the log after an event
 abbrev pub listed : LogLines → Event → LogLines
 listed log e = record { lines = log.lines ++ event_line log.depth e ∷ []; depth = depth_after log.depth e }
+
+-- The event was noted; where memory was refused, the log is as it was.
+abbrev pub Lists : LogLines → LogLines → Result (Unit {0}) OutOfMemory → Event → Type 0
+Lists old new (Ok done) e = new ≡ listed old e
+Lists old new (Err refused) e = new ≡ old
 
 -- the log after events
 abbrev pub listed_all : LogLines → List Event → LogLines

@@ -12,7 +12,7 @@ ghost use Rattle.log_lines.specs.Places.{condition_spot, debug_spot, spot_in, sp
 
 use crate::code::{with_expr, with_statement};
 use crate::lines::{begin_below, begin_line, chosen_text, with_loop, with_turns};
-use crate::places::{with_debug_spot, with_spot};
+use crate::places::{with_debug_spot, with_spot_in};
 use crate::units::with_made;
 use dap_base::{OutOfMemory, Place};
 use direct_calls::Made;
@@ -97,7 +97,7 @@ fn begin_at(
     ensures { IfOk result (λ l. l ≡ margin depth ++ spot_words (spot_in step.now.sequence.now step.now.path.items part place) ++ codes "  ") }
 {
     let line = begin_line(alloc, depth)?;
-    with_spot(line, step.sequence, step.path.as_slice(), part, place)?.text("  ")
+    with_spot_in(line, step.sequence, step.path.as_slice(), part, place)?.text("  ")
 }
 
 // A statement of a block.
@@ -107,7 +107,8 @@ fn begin_text(
     step: &EventStep,
     statement: &Stmt,
 ) -> Result<Line, OutOfMemory>
-    ensures { IfOk result (λ l. l ≡ event_line depth (e.Begins (spot_in step.now.sequence.now step.now.path.items part.Block (place_of (stmt_tree statement.now))) (stmt_tree statement.now))) }
+    ensures { IfOk result (λ l. l
+        ≡ event_line depth (e.Begins (spot_in step.now.sequence.now step.now.path.items part.Block (place_of (stmt_tree statement.now))) (stmt_tree statement.now))) }
 {
     let line = begin_at(alloc, depth, step, Part::Block, place_of(statement))?;
     with_statement(alloc, line, statement)?.text("\n")

@@ -11,3 +11,4 @@ mod places;
 mod units;
 
 pub use log::{EventLog, Log, LogMark};
+pub use places::with_spot;

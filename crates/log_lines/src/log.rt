@@ -1,5 +1,5 @@
 //! A log of a run: first the events, and then their text.
-ghost use Rattle.std.specs.Prelude.{◌≡◌, ◌++◌, ◌∷◌, [], ℕ, List, option_map, take, length, IfOk, OnOk};
+ghost use Rattle.std.specs.Prelude.{◌≡◌, ◌++◌, ◌∷◌, [], ℕ, List, option_map, take, length, IfOk, OnErr, OnOk};
 ghost use Rattle.direct_calls.specs.Made.{call_end_of};
 ghost use Rattle.expr_grammar.specs.Tree.{tree, stmt_tree};
 ghost use Rattle.sequence_trees.specs.declared.spot.Part.TheVariants as part;
@@ -7,7 +7,7 @@ ghost use Rattle.sequence_trees.specs.declared.spot.Spot.{Spot};
 ghost use Rattle.run_events.specs.Events as e;
 ghost use Rattle.run_events.specs.OfSteps.{place_of};
 ghost use Rattle.log_lines.specs.Entries.{event_of};
-ghost use Rattle.log_lines.specs.LogLines.{listed, written};
+ghost use Rattle.log_lines.specs.LogLines.{Lists, written};
 ghost use Rattle.log_lines.specs.LogText.{event_line};
 ghost use Rattle.log_lines.specs.Places.{condition_spot, debug_spot, spot_in};
 
@@ -45,9 +45,9 @@ impl Log {
     }
 }
 
-/// The log of a run so far, as events whose text is not made yet: one that is taken back costs none. Each call notes one event, and answers
-/// `OutOfMemory` where memory is refused. An event holds names and trees of the set as references. Contracts see the lines, and how many sequences
-/// are called.
+/// The log of a run so far, as events whose text is not made yet: one that is taken back costs none. Each call notes one event. Where memory is
+/// refused it answers `OutOfMemory`, and the log is as it was. An event holds names and trees of the set as references. Contracts see the lines,
+/// and how many sequences are called.
 #[derive(Drop)]
 pub struct EventLog<'a> {
     alloc: Global,
@@ -118,7 +118,8 @@ impl<'a> EventLog<'a> {
 
     // Notes an event.
     fn note(&mut self, event: LogEvent<'a>) -> Result<(), OutOfMemory>
-        ensures { OnOk result (self.new ≡ record { lines = self.old.lines ++ event_line self.old.depth (event_of event.entry) ∷ []; depth = self.old.depth }) }
+        ensures noted { OnOk result (self.new ≡ record { lines = self.old.lines ++ event_line self.old.depth (event_of event.entry) ∷ []; depth = self.old.depth }) }
+        ensures same { OnErr result (self.new ≡ self.old) }
     {
         let depth = self.depth;
         match self.entries.push(LogEntry { depth, event }) {
@@ -145,7 +146,7 @@ impl<'a> EventLog<'a> {
         path: &[u64],
         statement: &'a Stmt,
     ) -> Result<(), OutOfMemory>
-        ensures { OnOk result (self.new ≡ listed self.old (e.Begins (spot_in sequence.now path.now part.Block (place_of (stmt_tree statement.now))) (stmt_tree statement.now))) }
+        ensures { Lists self.old self.new result (e.Begins (spot_in sequence.now path.now part.Block (place_of (stmt_tree statement.now))) (stmt_tree statement.now)) }
     {
         let step = self.step(sequence, path)?;
         self.note(LogEvent::Begins(step, statement))
@@ -153,7 +154,7 @@ impl<'a> EventLog<'a> {
 
     /// A declaration of the debug variables begins, at this place.
     pub fn begin_debug(&mut self, statement: &'a Stmt) -> Result<(), OutOfMemory>
-        ensures { OnOk result (self.new ≡ listed self.old (e.Begins (debug_spot (place_of (stmt_tree statement.now))) (stmt_tree statement.now))) }
+        ensures { Lists self.old self.new result (e.Begins (debug_spot (place_of (stmt_tree statement.now))) (stmt_tree statement.now)) }
     {
         self.note(LogEvent::Declares(statement))
     }
@@ -165,7 +166,7 @@ impl<'a> EventLog<'a> {
         path: &[u64],
         expr: &'a Expr,
     ) -> Result<(), OutOfMemory>
-        ensures { OnOk result (self.new ≡ listed self.old (e.Tests (condition_spot sequence.now path.now part.If) (tree expr.now))) }
+        ensures { Lists self.old self.new result (e.Tests (condition_spot sequence.now path.now part.If) (tree expr.now)) }
     {
         let step = self.step(sequence, path)?;
         self.note(LogEvent::Tests(step, expr))
@@ -173,7 +174,7 @@ impl<'a> EventLog<'a> {
 
     /// The `if` has this value.
     pub fn choose(&mut self, value: u64) -> Result<(), OutOfMemory>
-        ensures { (spot : Spot) → OnOk result (self.new ≡ listed self.old (e.Chooses spot value)) }
+        ensures { (spot : Spot) → Lists self.old self.new result (e.Chooses spot value) }
     {
         self.note(LogEvent::Chooses(value))
     }
@@ -186,7 +187,7 @@ impl<'a> EventLog<'a> {
         expr: &'a Expr,
         turns: u32,
     ) -> Result<(), OutOfMemory>
-        ensures { OnOk result (self.new ≡ listed self.old (e.Loops (condition_spot sequence.now path.now part.While) (tree expr.now) turns)) }
+        ensures { Lists self.old self.new result (e.Loops (condition_spot sequence.now path.now part.While) (tree expr.now) turns) }
     {
         let step = self.step(sequence, path)?;
         self.note(LogEvent::Loops(step, expr, turns))
@@ -194,63 +195,63 @@ impl<'a> EventLog<'a> {
 
     /// The turn of this number begins.
     pub fn turn(&mut self, number: u32) -> Result<(), OutOfMemory>
-        ensures { (spot : Spot) → OnOk result (self.new ≡ listed self.old (e.Turns spot number)) }
+        ensures { (spot : Spot) → Lists self.old self.new result (e.Turns spot number) }
     {
         self.note(LogEvent::Turns(number))
     }
 
     /// The `while` has this value in the turn.
     pub fn find(&mut self, value: u64) -> Result<(), OutOfMemory>
-        ensures { (spot : Spot) → OnOk result (self.new ≡ listed self.old (e.Finds spot value)) }
+        ensures { (spot : Spot) → Lists self.old self.new result (e.Finds spot value) }
     {
         self.note(LogEvent::Finds(value))
     }
 
     /// The `while` is left in the turn of this number.
     pub fn leave_loop(&mut self, turns: u32) -> Result<(), OutOfMemory>
-        ensures { (spot : Spot) → OnOk result (self.new ≡ listed self.old (e.Leaves spot turns)) }
+        ensures { (spot : Spot) → Lists self.old self.new result (e.Leaves spot turns) }
     {
         self.note(LogEvent::Leaves(turns))
     }
 
     /// The `while` has made so many turns, all that its timeout allows.
     pub fn time_out(&mut self, turns: u32) -> Result<(), OutOfMemory>
-        ensures { (spot : Spot) → OnOk result (self.new ≡ listed self.old (e.TimesOut spot turns)) }
+        ensures { (spot : Spot) → Lists self.old self.new result (e.TimesOut spot turns) }
     {
         self.note(LogEvent::TimesOut(turns))
     }
 
     /// The poll found its value.
     pub fn end_poll(&mut self) -> Result<(), OutOfMemory>
-        ensures { (spot : Spot) → OnOk result (self.new ≡ listed self.old (e.Matches spot)) }
+        ensures { (spot : Spot) → Lists self.old self.new result (e.Matches spot) }
     {
         self.note(LogEvent::Matches)
     }
 
     /// The variable of this name has this value now.
     pub fn assign(&mut self, name: &'a str, value: u64) -> Result<(), OutOfMemory>
-        ensures { OnOk result (self.new ≡ listed self.old (e.Assigns name.now value)) }
+        ensures { Lists self.old self.new result (e.Assigns name.now value) }
     {
         self.note(LogEvent::Assigns(name, value))
     }
 
     /// A unit is made: its number from 1, the call, and how it ends, `None` where it is not answered.
     pub fn make(&mut self, number: u64, ask: &Ask, end: Option<Made>) -> Result<(), OutOfMemory>
-        ensures { OnOk result (self.new ≡ listed self.old (e.Makes (record { number = number; ask = ask.now; end = option_map call_end_of end }))) }
+        ensures { Lists self.old self.new result (e.Makes (record { number = number; ask = ask.now; end = option_map call_end_of end })) }
     {
         self.note(LogEvent::Makes(number, *ask, end))
     }
 
     /// A line is written, which ends with a line feed.
     pub fn write(&mut self, written: Line) -> Result<(), OutOfMemory>
-        ensures { OnOk result (self.new ≡ listed self.old (e.Writes written)) }
+        ensures { Lists self.old self.new result (e.Writes written) }
     {
         self.note(LogEvent::Writes(written))
     }
 
     /// The sequence of this name is called. `OutOfMemory` also where 2^32 - 1 sequences are called.
     pub fn call(&mut self, name: &'a str) -> Result<(), OutOfMemory>
-        ensures { OnOk result (self.new ≡ listed self.old (e.Calls name.now)) }
+        ensures { Lists self.old self.new result (e.Calls name.now) }
     {
         let Some(deeper) = self.depth.checked_add(1) else {
             return Err(OutOfMemory);
@@ -262,7 +263,7 @@ impl<'a> EventLog<'a> {
 
     /// The last sequence that was called, and has not returned, returns.
     pub fn return_back(&mut self) -> Result<(), OutOfMemory>
-        ensures { OnOk result (self.new ≡ listed self.old e.Returns) }
+        ensures { Lists self.old self.new result e.Returns }
     {
         self.note(LogEvent::Returns)?;
         self.depth = self.depth.saturating_sub(1);

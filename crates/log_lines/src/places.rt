@@ -3,7 +3,7 @@ ghost use Rattle.std.specs.Prelude.{◌≡◌, ◌++◌, IfOk, Some};
 ghost use Rattle.log_lines.specs.Places.{code_place, debug_spot, part_word, place_words, spot_in, spot_words, step_words};
 
 use dap_base::{OutOfMemory, Place};
-use sequence_trees::Part;
+use sequence_trees::{Part, Spot};
 use text_lines::Line;
 
 fn part_text(part: Part) -> &'static str
@@ -43,8 +43,27 @@ fn with_step(line: Line, sequence: &str, path: &[u64]) -> Result<Line, OutOfMemo
     line.dotted(path)?.text(" ")
 }
 
+// The step of a place; the debug variables have none.
+fn with_step_of(line: Line, spot: &Spot) -> Result<Line, OutOfMemory>
+    ensures { IfOk result (λ l. l ≡ line ++ step_words spot.now.sequence spot.now.path) }
+{
+    match &spot.sequence {
+        Some(name) => with_step(line, name.as_str(), spot.path.as_slice()),
+        None => Ok(line),
+    }
+}
+
+/// A line with a place after it: the sequence and the path of its step, its part, and in code its line and column. `OutOfMemory` where memory is
+/// refused.
+pub fn with_spot(line: Line, spot: &Spot) -> Result<Line, OutOfMemory>
+    ensures { IfOk result (λ l. l ≡ line ++ spot_words spot.now) }
+{
+    let line = with_step_of(line, spot)?.text(part_text(spot.part))?;
+    with_code_place(line, spot.part, spot.place)
+}
+
 /// A place in a step of a sequence.
-pub fn with_spot(
+pub fn with_spot_in(
     line: Line,
     sequence: &str,
     path: &[u64],

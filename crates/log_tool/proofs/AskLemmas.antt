@@ -1,5 +1,5 @@
 -- What is asked for, by how the source was read.
-use Rattle.std.proofs.Common.{◌≡◌, ℕ, ◌<◌, ◌≤◌, List, [], length, Option, None, Some, Result, Ok, Err, refl}
+use Rattle.std.proofs.Common.{◌≡◌, ℕ, ◌<◌, ◌≤◌, List, length, Option, Some, Result, Ok, Err, refl}
 use Rattle.std.specs.Prelude.{IfOk}
 use Rattle.dap_base.specs.declared.text.OutOfMemory.{OutOfMemory}
 use Rattle.job_check.specs.declared.own.Own.TheVariants as own
@@ -7,16 +7,12 @@ use Rattle.job_check.specs.declared.running.RunRefusal.{RunRefusal}
 use Rattle.job_check.specs.declared.running.RunRefusal.TheVariants as refusals
 use Rattle.job_check.specs.Running.{IsRefusedRun, OnEnd}
 use Rattle.job_source.specs.Source.{AreBytesOf, limit}
+use Rattle.job_source.proofs.SourceLemmas.{some_bytes}
 use Rattle.log_words.specs.declared.answer.Asked.{Asked}
 use Rattle.log_words.specs.Asks as words
 use Rattle.log_tool.specs.Asked.{Asks, AsksOfBytes, IsUsage, job, no_run, of_refusal, too_long, usage}
 use Rattle.log_tool.specs.declared.asking.Answer.{Answer}
 use Rattle.log_tool.specs.declared.asking.Answer.TheVariants as answers
-
--- some bytes of a source
-some_bytes : (left : Option (List ℕ)) → (bytes : List ℕ) × AreBytesOf left bytes
-some_bytes None = ([], tt)
-some_bytes (Some bytes) = (bytes, refl)
 
 -- the words ask for nothing
 pub with_usage : (given : List (List ℕ)) (left : Option (List ℕ)) → IsUsage given → (bytes : List ℕ) × AreBytesOf left bytes × Asks given bytes answers.Usage

@@ -1,7 +1,8 @@
 -- What a whole call does, and what follows from it.
-use Rattle.std.proofs.Common.{◌≡◌, ◌≢◌, ◌∙◌, ◌⊎◌, ℕ, List, Option, Some, None, Result, Ok, Err, inl, inr, refl, ap, sym, subst, arith}
+use Rattle.std.proofs.Common.{◌≡◌, ◌≢◌, ◌∙◌, ◌⊎◌, ℕ, List, Option, Some, Result, Ok, Err, inl, inr, refl, ap, sym, subst}
 use Rattle.std.specs.Prelude.{IfOk, OnOk}
 use Rattle.dap_base.specs.Causes.{IsQuiet, Rose}
+use Rattle.dap_base.proofs.Basics.{not_rose}
 use Rattle.text_lines.specs.Causes.{NamesFault}
 use Rattle.log_tool.specs.Answers.{answer_status}
 use Rattle.job_check.specs.declared.running.RunRefusal.{RunRefusal}
@@ -9,6 +10,7 @@ use Rattle.job_check.specs.declared.running.RunRefusal.TheVariants as refusals
 use Rattle.log_tool.specs.Asked.{Asks, IsLine, IsUsage, Runs, job, no_run, of_refusal, run, too_long, usage}
 use Rattle.log_tool.specs.Calls.{Blames, Call, Does, FailsPutting, IsDisturbed, IsDone, IsFinished, IsOfRun, RunsTo, does, no_memory, unread}
 use Rattle.job_source.specs.Source.{AreBytesOf}
+use Rattle.job_source.proofs.SourceLemmas.{same_bytes}
 use Rattle.log_tool.specs.declared.asking.Answer.{Answer}
 use Rattle.log_tool.specs.declared.asking.Answer.TheVariants as answers
 use Rattle.log_tool.specs.declared.asking.Unasked.{Unasked}
@@ -17,9 +19,6 @@ use Rattle.log_tool.specs.declared.status.Status.{Status}
 use Rattle.log_tool.specs.declared.status.Status.TheVariants as status
 use Rattle.log_tool.proofs.AnswerLemmas.{fails_disturbed, fails_how, undisturbed, usage_status, used}
 use Rattle.log_tool.proofs.OneAnswer.{runs_of, status_of}
-
-pub not_rose : (a b : ℕ) → IsQuiet a b → Rose a b → ⊥
-not_rose a b quiet rose = let same = quiet.same in let below = quiet.below in omega (arith, same, below, rose)
 
 -- ---- what was asked for
 
@@ -134,10 +133,6 @@ run_by call did is =
     let found = answered call did (run_calm call.end is) in
     let runs : Runs call.words found.bytes (answer_status found.answer) = runs_by call.words found.bytes found.answer found.asks (subst IsOfRun found.status is) in
     (found.bytes, found.are, subst (λ (end : Status). Runs call.words found.bytes end) (sym found.status) runs)
-
-same_bytes : (left : Option (List ℕ)) (bytes found : List ℕ) → left ≡ Some bytes → AreBytesOf left found → found ≡ bytes
-same_bytes None bytes found is are = absurd (cc)
-same_bytes (Some xs) bytes found is are = are ∙ (cc)
 
 run_or : (end own is : Status) → own ≡ is → (end ≡ own) ⊎ FailsPutting end → (end ≡ is) ⊎ IsDisturbed end
 run_or end own is same (inl e) = inl (e ∙ same)

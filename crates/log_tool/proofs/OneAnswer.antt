@@ -1,11 +1,12 @@
 -- Words and bytes ask for one answer.
-use Rattle.std.proofs.Common.{◌≡◌, ◌∙◌, ◌<◌, ◌≤◌, ℕ, List, length, Option, Some, ap, sym, subst, arith}
+use Rattle.std.proofs.Common.{◌≡◌, ◌∙◌, ◌≤◌, ℕ, List, length, Option, Some, ap, sym, subst}
 use Rattle.job_check.specs.declared.own.Own.TheVariants as own
 use Rattle.job_check.specs.declared.running.RunRefusal.{RunRefusal}
 use Rattle.job_check.specs.declared.running.ValidRun.{ValidRun}
 use Rattle.job_check.specs.Running.{IsSameRun, IsValidRun}
 use Rattle.job_check.proofs.OneRun as one
 use Rattle.job_source.specs.Source.{limit}
+use Rattle.job_source.proofs.SourceLemmas.{not_both}
 use Rattle.job_text.specs.declared.job.Job.{Job}
 use Rattle.log_lines.specs.LogText.{LogText}
 use Rattle.log_words.specs.declared.answer.Asked.{Asked}
@@ -59,9 +60,6 @@ one_of_bytes bytes a x y (run valid log runs is_log e) (run other its others is_
     let same : subject_of other a.sequence ≡ subject_of valid a.sequence =
     one_subject other valid a.sequence (one.one_run bytes own.Nothing a.selection a.sequence other valid others runs) in
     e ∙ ap logged (one_log a.turns a.fail (subject_of valid a.sequence) log its is_log (subst (λ (s : Subject). IsLogOf a.turns a.fail s its) same is_its)) ∙ sym f
-
-not_both : (n : ℕ) → limit < n → n ≤ limit → ⊥
-not_both n long short = omega (arith, long, short)
 
 pub one_answer : (given : List (List ℕ)) (bytes : List ℕ) (x y : Answer) → Asks given bytes x → Asks given bytes y → x ≡ y
 one_answer given bytes x y (usage none e) (usage nothing f) = e ∙ sym f

@@ -60,7 +60,8 @@ fn ask_of_bytes(alloc: Global, asked: &Asked, bytes: &[u8]) -> Result<Answer, Ou
 
 // What the source asks for.
 fn ask_of_source<S: Source>(alloc: Global, asked: &Asked, source: &mut S) -> Result<Answer, Unasked>
-    ensures asked { (given : List (List ℕ)) → words_asked.Asks given asked.now → IfOk result (λ answer. (bytes : List ℕ) × AreBytesOf (S.left source.old) bytes × Asks given bytes answer) }
+    ensures asked { (given : List (List ℕ)) → words_asked.Asks given asked.now
+        → IfOk result (λ answer. (bytes : List ℕ) × AreBytesOf (S.left source.old) bytes × Asks given bytes answer) }
     ensures taken { OnOk result (AreTaken (S.left source.old) (S.left source.new)) }
     ensures source { NamesFault Unasked.ReadFault (S.faults source.old) (S.faults source.new) result }
 {

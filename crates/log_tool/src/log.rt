@@ -91,7 +91,8 @@ fn has_result(variables: &Globals<u64>) -> bool
 
 // How a run came out, where it is asked for whether it fails.
 fn status_of(fail: bool, run: &Logged) -> RunStatus
-    ensures { (s : Subject) (left : TargetState) (turns : ℕ) → IsRun s.program s.target left run.now → IsSeen turns s.program s.target run.now → result ≡ run_status fail s }
+    ensures { (s : Subject) (left : TargetState) (turns : ℕ) → IsRun s.program s.target left run.now
+        → IsSeen turns s.program s.target run.now → result ≡ run_status fail s }
 {
     match run.ending {
         LoggedEnding::Done => {

@@ -1,4 +1,3 @@
 pub mod NotedLemmas
 pub mod EndLemmas
-pub mod PortLemmas
 pub mod PollLemmas

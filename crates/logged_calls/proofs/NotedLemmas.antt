@@ -16,6 +16,7 @@ use Rattle.sequence_rules.specs.Machine as machine
 use Rattle.sequence_rules.specs.Machine.{State, Out, end_state}
 use Rattle.run_events.specs.Events.{Event, MadeUnit, Makes, Writes, all_made, end_in, units_from, units_between}
 use Rattle.run_events.specs.OfValues.{line_of, written_line, new_line, function_events}
+use Rattle.run_events.proofs.Said.{length_on}
 use Rattle.log_lines.specs.LogLines.{LogLines, listed, listed_all}
 use Rattle.logged_calls.specs.declared.held.LoggedEnd.{LoggedEnd}
 use Rattle.logged_calls.specs.declared.held.LoggedEnd.TheVariants as end
@@ -34,10 +35,6 @@ units_on w n [] ys = ap (λ k. units_from w k ys) (omega arith)
 units_on w n (x ∷ xs) ys =
     let count : suc n + length xs ≡ n + suc (length xs) = omega arith in
     ap (λ more. record { number = n; ask = x; end = end_in w x } ∷ more) (units_on (left_at w x) (suc n) xs ys ∙ ap (λ k. units_from (left_at w x) (suc n) xs ++ units_from (left_by (left_at w x) xs) k ys) count)
-
-length_on : (xs ys : List Ask) → suc (length (xs ++ ys)) ≡ suc (length xs) + length ys
-length_on [] ys = omega arith
-length_on (x ∷ xs) ys = (let rest = length_on xs ys in omega (arith, rest))
 
 made_on : (xs ys : List MadeUnit) → all_made (xs ++ ys) ≡ all_made xs ++ all_made ys
 made_on [] ys = refl

@@ -8,19 +8,18 @@ use Rattle.direct_calls.specs.Made.{IsDone, call_end_of}
 use Rattle.direct_calls.specs.declared.made.Made.{Made}
 use Rattle.direct_calls.specs.declared.made.Made.TheVariants as made
 use Rattle.sequence_trees.specs.declared.spot.Spot.{Spot}
-use Rattle.target_calls.specs.World.{left_at}
 use Rattle.target_calls.specs.declared.calls.Ask.{Ask}
 use Rattle.target_machine.specs.Plain.{Action, CallEnd, Answered, Skipped, Faulted, Small, call_done, call_actions, ended, given, in_order, is_fault, is_small, issued, large_after, result_of}
 use Rattle.target_machine.specs.State.{TargetState}
 use Rattle.target_machine.specs.declared.unit.Call.{Call}
 use Rattle.sequence_rules.specs.Direct.{Now}
 use Rattle.sequence_rules.specs.Machine.{State}
-use Rattle.run_events.specs.Events.{MadeUnit, Makes, TimesOut, Matches, all_made, units_between, units_from}
+use Rattle.run_events.specs.Events.{Makes, TimesOut, Matches, all_made, units_between, units_from}
 use Rattle.run_events.specs.OfSteps.{poll_end, polled_events}
-use Rattle.log_lines.specs.LogLines.{LogLines, listed, listed_all}
+use Rattle.log_lines.specs.LogLines.{Lists, LogLines, listed, listed_all}
 use Rattle.logged_calls.specs.declared.held.Stopped.{Stopped}
-use Rattle.logged_calls.specs.Held.{Noted, SeenAsPoll, poll_seen}
-use Rattle.logged_calls.proofs.NotedLemmas.{all_on, between_is, no_units}
+use Rattle.logged_calls.specs.Held.{Noted, SeenAsPoll}
+use Rattle.logged_calls.proofs.NotedLemmas.{all_on, between_is, no_units, noted_none, noted_one}
 
 -- a call that forgives nothing is not skipped
 over : (faulted small : Bool) (n : ℕ) (t : TargetState) (large : List ℕ) (actions : List Action) → (ended faulted false small n t large actions).end ≡ Skipped → ⊥
@@ -79,8 +78,16 @@ poll_stopped s r old new stopped spot turns h k =
 pub no_zero : (value : ℕ) → (value ≡ 0 → ⊥) → nat_eq value 0 ≡ false
 no_zero value some = elim (eqb_tells value 0) [ inl h ↦ absurd (some h.1) | inr h ↦ h.0 ]
 
-pub timed_out : (r : Result (Unit {0}) OutOfMemory) (spot : Spot) (turns value : ℕ) (old new : LogLines) → value ≡ 0 → OnOk r (new ≡ listed old (TimesOut spot turns)) → OnOk r (new ≡ listed_all old (poll_end spot turns (Some (Answered value))))
-timed_out r spot turns value old new none h = subst (λ v. OnOk r (new ≡ listed_all old (poll_end spot turns (Some (Answered v))))) (sym none) h
+pub timed_out : (r : Result (Unit {0}) OutOfMemory) (spot : Spot) (turns value : ℕ) (old new : LogLines) → value ≡ 0 → Lists old new r (TimesOut spot turns) → OnOk r (new ≡ listed_all old (poll_end spot turns (Some (Answered value))))
+timed_out (Ok done) spot turns value old new none h = subst (λ v. new ≡ listed_all old (poll_end spot turns (Some (Answered v)))) (sym none) h
+timed_out (Err refused) spot turns value old new none h = tt
 
-pub matched : (r : Result (Unit {0}) OutOfMemory) (spot : Spot) (turns value : ℕ) (old new : LogLines) → (value ≡ 0 → ⊥) → OnOk r (new ≡ listed old (Matches spot)) → OnOk r (new ≡ listed_all old (poll_end spot turns (Some (Answered value))))
-matched r spot turns value old new some h = subst (λ b. OnOk r (new ≡ listed old (cond b (TimesOut spot turns) (Matches spot)))) (sym (no_zero value some)) h
+pub matched : (r : Result (Unit {0}) OutOfMemory) (spot : Spot) (turns value : ℕ) (old new : LogLines) → (value ≡ 0 → ⊥) → Lists old new r (Matches spot) → OnOk r (new ≡ listed_all old (poll_end spot turns (Some (Answered value))))
+matched (Ok done) spot turns value old new some h = subst (λ b. new ≡ listed old (cond b (TimesOut spot turns) (Matches spot))) (sym (no_zero value some)) h
+matched (Err refused) spot turns value old new some h = tt
+
+-- what is noted of a unit
+pub ruleset units = (noted_none, noted_one, polled_none, polled_answered, polled_faulted, polled_small)
+
+-- what is noted of a poll
+pub ruleset polls = (noted_none, polled_none, poll_noted, poll_stopped)

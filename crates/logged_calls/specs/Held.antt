@@ -1,5 +1,5 @@
 -- What a logged run holds, as a state of the meaning; how what the code answers is that of the meaning; and what it notes.
-use Rattle.std.specs.Prelude.{◌≡◌, ℕ, suc, ◌+◌, false, codes, nat_eq, if◌then◌else◌, List, [], ◌∷◌, ◌++◌, length, Some, None, Result, Ok, Err}
+use Rattle.std.specs.Prelude.{◌≡◌, ℕ, suc, ◌+◌, Bool, false, codes, nat_eq, if◌then◌else◌, List, [], ◌∷◌, ◌++◌, length, Some, None, Result, Ok, Err}
 use Rattle.target_calls.specs.World.{World, left_at}
 use Rattle.target_calls.specs.declared.calls.Ask.{Ask}
 use Rattle.sequence_trees.specs.declared.spot.Spot.{Spot}
@@ -9,7 +9,8 @@ use Rattle.target_machine.specs.declared.unit.Call.TheVariants.{Access}
 use Rattle.dap_base.specs.Outcome.{◌>>=◌}
 use Rattle.target_machine.specs.declared.unit.HaltCause.TheVariants.{Unsupported}
 use Rattle.target_machine.specs.declared.unit.Unit.TheVariants as unit
-use Rattle.sequence_rules.specs.Calls.{global, ask}
+use Rattle.sequence_rules.specs.Calls.{Port, global, ask, line_result}
+use Rattle.sequence_rules.specs.declared.ports.Port.{Port as CallPort}
 use Rattle.sequence_rules.specs.Direct.{Now, direct}
 use Rattle.sequence_rules.specs.Machine as machine
 use Rattle.sequence_rules.specs.Machine.{State, Out, halt}
@@ -50,6 +51,10 @@ abbrev pub Means : {A : Type 0} → LoggedEnd → Result A Stopped → State ℕ
 Means e (Ok x) now out = out ≡ Ok (x, now)
 Means e (Err stopped) now out = EndsAs e now out
 
+-- From one state to another the code answers and leaves what the meaning does.
+abbrev pub ComesTo : {A : Type 0} → Held → TargetState → Held → TargetState → Result A Stopped → (State ℕ Now → Out ℕ Now A) → Type 0
+ComesTo old before new after result meaning = Means new.end result (state_of new after) (meaning (state_of old before))
+
 -- this is so, unless memory was refused
 abbrev pub Unless : {A : Type 0} → LoggedEnd → Result A Stopped → Type 0 → Type 0
 Unless e (Ok x) P = P
@@ -62,6 +67,14 @@ abbrev pub left_by : World → List Ask → World
 left_by w [] = w
 left_by w (ask ∷ asks) = left_by (left_at w ask) asks
 
+-- the port of a memory or AP call, as the meaning has it
+abbrev pub port_view : CallPort → Port
+port_view port = record { ap = port.ap; forgive = port.forgive; dp = port.dp }
+
+-- the port of an access on debug port 0
+abbrev pub port_at : ℕ → Bool → Port
+port_at ap forgive = record { ap = ap; forgive = forgive; dp = 0 }
+
 -- from s to r these units were made, and they were noted
 pub record Noted (s r : State ℕ Now) (old new : LogLines) : Type 0 where
   pub more : List Ask
@@ -70,12 +83,31 @@ pub record Noted (s r : State ℕ Now) (old new : LogLines) : Type 0 where
   pub lines : r.lines ≡ s.lines
   pub log : new ≡ listed_all old (all_made (units_from s.rest.world (suc (length s.rest.calls)) more))
 
+-- the units that were made were noted, unless memory was refused
+abbrev pub NotesUnits : {A : Type 0} → Held → TargetState → Held → TargetState → Result A Stopped → Type 0
+NotesUnits old before new after result = Unless new.end result (Noted (state_of old before) (state_of new after) old.log new.log)
+
+-- The code makes the units of the meaning: it answers and leaves what the meaning does, and notes the units.
+pub record MakesUnits {A : Type 0} (old : Held) (before : TargetState) (new : Held) (after : TargetState) (result : Result A Stopped)
+    (meaning : State ℕ Now → Out ℕ Now A) : Type 0 where
+  pub gives : ComesTo old before new after result meaning
+  pub noted : NotesUnits old before new after result
+
+-- these events were noted, unless memory was refused
+abbrev pub NotesEvents : {A : Type 0} → Held → Held → Result A Stopped → List Event → Type 0
+NotesEvents old new result events = Unless new.end result (new.log ≡ listed_all old.log events)
+
 -- the line was noted, where it is one more; else nothing was
 abbrev pub LineNoted : {A : Type 0} → LoggedEnd → Result A Stopped → State ℕ Now → State ℕ Now → LogLines → LogLines → List ℕ → Type 0
 LineNoted e (Ok x) s r old new line = (r.lines ≡ s.lines + 1) × (new ≡ listed old (Writes line)) × (r.rest.calls ≡ s.rest.calls)
 LineNoted (end.Halted cause) (Err stopped) s r old new line = (r.lines ≡ s.lines) × (new ≡ old) × (r.rest.calls ≡ s.rest.calls)
 LineNoted (end.Faulted u) (Err stopped) s r old new line = ⊥
 LineNoted end.OutOfMemory (Err stopped) s r old new line = Unit {0}
+
+-- The code writes a line on any target, and answers the value. It answers and leaves what the meaning does, and notes the line.
+pub record WritesLine (old new : Held) (result : Result ℕ Stopped) (line : List ℕ) (value : ℕ) : Type 0 where
+  pub gives : (target : TargetState) → ComesTo old target new target result (line_result (direct false) line value)
+  pub noted : (target : TargetState) → LineNoted new.end result (state_of old target) (state_of new target) old.log new.log line
 
 -- a poll of CTRL/STAT, and what it answers: 1 where its value was found, 0 where its turns are used
 abbrev pub poll_value : ℕ × ℕ → ℕ → State ℕ Now → Out ℕ Now ℕ
@@ -90,3 +122,11 @@ poll_seen spot turns (Err stopped) = []
 -- what is seen of a poll whose unit was made from s to r: its unit, and how it ended by what the unit answered
 pub record SeenAsPoll (s r : State ℕ Now) (result : Result ℕ Stopped) : Type 0 where
   pub seen : (spot : Spot) (turns : ℕ) → polled_events spot turns (units_between s r) ≡ all_made (units_between s r) ++ poll_seen spot turns result
+
+-- the same from one state to another, unless memory was refused
+abbrev pub SeesPoll : Held → TargetState → Held → TargetState → Result ℕ Stopped → Type 0
+SeesPoll old before new after result = Unless new.end result (SeenAsPoll (state_of old before) (state_of new after) result)
+
+-- of a poll with so many turns its unit and how it ended were noted, unless memory was refused
+abbrev pub NotesPoll : Held → TargetState → Held → TargetState → Result ℕ Stopped → Spot → ℕ → Type 0
+NotesPoll old before new after result spot turns = NotesEvents old new result (polled_events spot turns (units_between (state_of old before) (state_of new after)))

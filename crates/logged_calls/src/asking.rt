@@ -7,11 +7,10 @@ ghost use Rattle.sequence_rules.specs.Calls as c;
 ghost use Rattle.sequence_rules.specs.Direct.{Now, direct};
 ghost use Rattle.sequence_rules.specs.Machine.{State};
 ghost use Rattle.sequence_rules.specs.Shared.{bindings_of};
-ghost use Rattle.run_events.specs.Events.{units_between};
-ghost use Rattle.run_events.specs.OfSteps.{poll_end, polled_events};
+ghost use Rattle.run_events.specs.OfSteps.{poll_end};
 ghost use Rattle.log_lines.specs.LogLines.{listed_all};
 ghost use Rattle.sequence_rules.specs.Variables.{value_named};
-ghost use Rattle.logged_calls.specs.Held.{Means, Noted, SeenAsPoll, Unless, poll_value, state_of};
+ghost use Rattle.logged_calls.specs.Held.{ComesTo, MakesUnits, NotesPoll, SeesPoll, poll_value, port_view};
 
 use crate::held::{Held, LoggedEnd, Stopped};
 use dap_base::OutOfMemory;
@@ -34,7 +33,7 @@ fn value_of(held: &Held, name: &str) -> u64
 // The variables that a memory or AP call uses.
 pub(crate) fn port_of(held: &Held) -> Port
     ensures { (s : State ℕ Now) → s.globals ≡ bindings_of held.now.globals
-        → c.port (direct false) s ≡ Ok (record { ap = result.ap; forgive = result.forgive; dp = result.dp }, s) }
+        → c.port (direct false) s ≡ Ok (port_view result, s) }
 {
     let ap = value_of(held, "__ap");
     let control = value_of(held, "__errorcontrol");
@@ -54,7 +53,7 @@ pub(crate) fn debug_port(held: &Held) -> u64
 }
 
 // An access as a unit, made at once and noted, unless it would be number 1,000,001.
-#[tactic(auto, unfolding(sequence_rules::specs::Calls::ask, sequence_rules::specs::Calls::answered, sequence_rules::specs::Direct::direct, sequence_rules::specs::Direct::made), using(crate::proofs::NotedLemmas::noted_none, crate::proofs::NotedLemmas::noted_one, crate::proofs::PollLemmas::polled_none, crate::proofs::PollLemmas::polled_answered, crate::proofs::PollLemmas::polled_faulted, crate::proofs::PollLemmas::polled_small))]
+#[tactic(auto, unfolding(sequence_rules::specs::Calls::ask, sequence_rules::specs::Calls::answered, sequence_rules::specs::Direct::direct, sequence_rules::specs::Direct::made), using(crate::proofs::PollLemmas::units))]
 pub(crate) fn ask(
     unit: Unit,
     forgive: bool,
@@ -62,9 +61,8 @@ pub(crate) fn ask(
     target: &mut Target,
 ) -> Result<u64, Stopped>
     requires { IsSound unit }
-    ensures gives { Means held.new.end result (state_of held.new target.new) (c.ask (direct false) unit forgive (state_of held.old target.old)) }
-    ensures noted { Unless held.new.end result (Noted (state_of held.old target.old) (state_of held.new target.new) held.old.log held.new.log) }
-    ensures polled { forgive ≡ false → Unless held.new.end result (SeenAsPoll (state_of held.old target.old) (state_of held.new target.new) result) }
+    ensures makes { MakesUnits held.old target.old held.new target.new result (c.ask (direct false) unit forgive) }
+    ensures polled { forgive ≡ false → SeesPoll held.old target.old held.new target.new result }
     ensures word { IfOk result (λ value. value < 2 ^ 32) }
 {
     if held.units >= MOST_UNITS {
@@ -117,8 +115,7 @@ pub(crate) fn ask_for_result(
     target: &mut Target,
 ) -> Result<u64, Stopped>
     requires { IsSound unit }
-    ensures gives { Means held.new.end result (state_of held.new target.new) (c.if_read (direct false) read (c.ask (direct false) unit forgive (state_of held.old target.old))) }
-    ensures noted { Unless held.new.end result (Noted (state_of held.old target.old) (state_of held.new target.new) held.old.log held.new.log) }
+    ensures { MakesUnits held.old target.old held.new target.new result (λ s. c.if_read (direct false) read (c.ask (direct false) unit forgive s)) }
 {
     let value = ask(unit, forgive, held, target)?;
     Ok(if read { value } else { 0 })
@@ -137,7 +134,7 @@ fn note_end(value: u64, turns: u32, log: &mut EventLog) -> Result<(), OutOfMemor
 
 /// A poll of CTRL/STAT until `(read & mask) == requested`, at most `turns` reads, made as one unit: 1 where the value was found, 0
 /// where the turns are used. It halts where `__dp` is not 0. The unit is noted, and how the poll ended.
-#[tactic(auto, using(crate::proofs::NotedLemmas::noted_none, crate::proofs::PollLemmas::polled_none, crate::proofs::PollLemmas::poll_noted, crate::proofs::PollLemmas::poll_stopped))]
+#[tactic(auto, using(crate::proofs::PollLemmas::polls))]
 pub fn ask_poll(
     mask: u32,
     requested: u32,
@@ -147,9 +144,9 @@ pub fn ask_poll(
 ) -> Result<u64, Stopped>
     requires least { 1 ≤ turns }
     requires most { turns ≤ 60000000 }
-    ensures gives { Means held.new.end result (state_of held.new target.new) (poll_value (mask, requested) turns (state_of held.old target.old)) }
-    ensures noted { (spot : Spot) → Unless held.new.end result (held.new.log ≡ listed_all held.old.log (polled_events spot turns (units_between (state_of held.old target.old) (state_of held.new target.new)))) }
-    ensures polled { Unless held.new.end result (SeenAsPoll (state_of held.old target.old) (state_of held.new target.new) result) }
+    ensures gives { ComesTo held.old target.old held.new target.new result (poll_value (mask, requested) turns) }
+    ensures noted { (spot : Spot) → NotesPoll held.old target.old held.new target.new result spot turns }
+    ensures polled { SeesPoll held.old target.old held.new target.new result }
 {
     if debug_port(held) != 0 {
         held.end = LoggedEnd::Halted(HaltCause::Unsupported);
@@ -172,8 +169,7 @@ pub fn ask_poll(
 #[tactic(auto, unfolding(sequence_rules::specs::Calls::command, sequence_rules::specs::Calls::numbered, sequence_rules::specs::Direct::direct, sequence_rules::specs::Direct::made), using(crate::proofs::NotedLemmas::noted_none))]
 pub(crate) fn command(call: ProbeCall, held: &mut Held, target: &mut Target) -> Result<u64, Stopped>
     requires { IsSoundProbe call }
-    ensures gives { Means held.new.end result (state_of held.new target.new) (c.command (direct false) call (state_of held.old target.old)) }
-    ensures noted { Unless held.new.end result (Noted (state_of held.old target.old) (state_of held.new target.new) held.old.log held.new.log) }
+    ensures { MakesUnits held.old target.old held.new target.new result (c.command (direct false) call) }
 {
     if held.units >= MOST_UNITS {
         held.end = LoggedEnd::Halted(HaltCause::AccessLimit);

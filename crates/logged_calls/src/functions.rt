@@ -3,8 +3,7 @@ ghost use Rattle.std.specs.Prelude.{◌≡◌, ℕ, List, None, false};
 ghost use Rattle.sequence_rules.specs.Calls as c;
 ghost use Rattle.sequence_rules.specs.Direct.{direct};
 ghost use Rattle.run_events.specs.OfValues.{function_events, line_of};
-ghost use Rattle.log_lines.specs.LogLines.{listed_all};
-ghost use Rattle.logged_calls.specs.Held.{Means, Noted, Unless, state_of};
+ghost use Rattle.logged_calls.specs.Held.{ComesTo, NotesEvents, NotesUnits, state_of};
 
 use crate::held::{Held, LoggedEnd, Stopped};
 use crate::lines::{number_at, write_load, write_message, write_query, write_query_value};
@@ -23,8 +22,9 @@ fn call_unit(
     held: &mut Held,
     target: &mut Target,
 ) -> Result<u64, Stopped>
-    ensures gives { (text : List ℕ) → line_of function text numbers.now ≡ None → Means held.new.end result (state_of held.new target.new) (c.function_result (direct false) function text numbers.now (state_of held.old target.old)) }
-    ensures noted { Unless held.new.end result (Noted (state_of held.old target.old) (state_of held.new target.new) held.old.log held.new.log) }
+    ensures gives { (text : List ℕ) → line_of function text numbers.now ≡ None
+        → ComesTo held.old target.old held.new target.new result (c.function_result (direct false) function text numbers.now) }
+    ensures noted { NotesUnits held.old target.old held.new target.new result }
 {
     let first = number_at(numbers, 0);
     let second = number_at(numbers, 1);
@@ -72,9 +72,9 @@ pub fn make_call(
     target: &mut Target,
 ) -> Result<u64, Stopped>
     // The result, the variables, the counts, the calls and the target are those of the meaning; and why the call ends.
-    ensures gives { Means held.new.end result (state_of held.new target.new) (c.function_result (direct false) function text.now numbers.now (state_of held.old target.old)) }
+    ensures gives { ComesTo held.old target.old held.new target.new result (c.function_result (direct false) function text.now numbers.now) }
     // What is seen of the call is noted.
-    ensures noted { Unless held.new.end result (held.new.log ≡ listed_all held.old.log (function_events function text.now numbers.now (state_of held.old target.old))) }
+    ensures noted { NotesEvents held.old held.new result (function_events function text.now numbers.now (state_of held.old target.old)) }
 {
     match function {
         Function::Message => write_message(text, numbers, alloc, held),

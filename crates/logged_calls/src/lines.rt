@@ -1,10 +1,7 @@
 //! Lines that sequences write, noted in the log.
-ghost use Rattle.std.specs.Prelude.{◌≡◌, ℕ, List, IfOk, drop, slice_index, false};
-ghost use Rattle.target_machine.specs.State.{TargetState};
-ghost use Rattle.sequence_rules.specs.Calls as c;
+ghost use Rattle.std.specs.Prelude.{◌≡◌, ℕ, List, IfOk, drop, slice_index};
 ghost use Rattle.sequence_rules.specs.Lines.{load_line, message_line, query_line, value_line};
-ghost use Rattle.sequence_rules.specs.Direct.{direct};
-ghost use Rattle.logged_calls.specs.Held.{LineNoted, Means, state_of};
+ghost use Rattle.logged_calls.specs.Held.{WritesLine};
 
 use crate::held::{Held, LoggedEnd, Stopped};
 use dap_base::OutOfMemory;
@@ -16,10 +13,7 @@ use text_lines::Line;
 // Notes a line, and then this is the value, unless it would be line 100,001.
 #[tactic(auto, unfolding(sequence_rules::specs::Calls::line_result, sequence_rules::specs::Direct::direct))]
 fn write_line(line: Result<Line, OutOfMemory>, value: u64, held: &mut Held) -> Result<u64, Stopped>
-    ensures gives { (target : TargetState) (text : List ℕ) → IfOk line (λ l. l ≡ text)
-        → Means held.new.end result (state_of held.new target) (c.line_result (direct false) text value (state_of held.old target)) }
-    ensures noted { (target : TargetState) (text : List ℕ) → IfOk line (λ l. l ≡ text)
-        → LineNoted held.new.end result (state_of held.old target) (state_of held.new target) held.old.log held.new.log text }
+    ensures { (text : List ℕ) → IfOk line (λ l. l ≡ text) → WritesLine held.old held.new result text value }
 {
     if held.lines >= MOST_LINES {
         held.end = LoggedEnd::Halted(HaltCause::MessageLimit);
@@ -54,8 +48,7 @@ pub(crate) fn write_message(
     alloc: Global,
     held: &mut Held,
 ) -> Result<u64, Stopped>
-    ensures gives { (target : TargetState) → Means held.new.end result (state_of held.new target) (c.line_result (direct false) (message_line (slice_index numbers.now 0) text.now (drop 1 numbers.now)) 0 (state_of held.old target)) }
-    ensures noted { (target : TargetState) → LineNoted held.new.end result (state_of held.old target) (state_of held.new target) held.old.log held.new.log (message_line (slice_index numbers.now 0) text.now (drop 1 numbers.now)) }
+    ensures { WritesLine held.old held.new result (message_line (slice_index numbers.now 0) text.now (drop 1 numbers.now)) 0 }
 {
     let more = if numbers.is_empty() {
         numbers
@@ -76,8 +69,7 @@ pub(crate) fn write_query(
     alloc: Global,
     held: &mut Held,
 ) -> Result<u64, Stopped>
-    ensures gives { (target : TargetState) → Means held.new.end result (state_of held.new target) (c.line_result (direct false) (query_line (slice_index numbers.now 0) text.now (slice_index numbers.now 1)) (slice_index numbers.now 1) (state_of held.old target)) }
-    ensures noted { (target : TargetState) → LineNoted held.new.end result (state_of held.old target) (state_of held.new target) held.old.log held.new.log (query_line (slice_index numbers.now 0) text.now (slice_index numbers.now 1)) }
+    ensures { WritesLine held.old held.new result (query_line (slice_index numbers.now 0) text.now (slice_index numbers.now 1)) (slice_index numbers.now 1) }
 {
     let default = number_at(numbers, 1);
     write_line(
@@ -94,8 +86,7 @@ pub(crate) fn write_query_value(
     alloc: Global,
     held: &mut Held,
 ) -> Result<u64, Stopped>
-    ensures gives { (target : TargetState) → Means held.new.end result (state_of held.new target) (c.line_result (direct false) (value_line text.now (slice_index numbers.now 0)) (slice_index numbers.now 0) (state_of held.old target)) }
-    ensures noted { (target : TargetState) → LineNoted held.new.end result (state_of held.old target) (state_of held.new target) held.old.log held.new.log (value_line text.now (slice_index numbers.now 0)) }
+    ensures { WritesLine held.old held.new result (value_line text.now (slice_index numbers.now 0)) (slice_index numbers.now 0) }
 {
     let default = number_at(numbers, 0);
     write_line(value_line(alloc, text, default), default, held)
@@ -103,8 +94,7 @@ pub(crate) fn write_query_value(
 
 // `LoadDebugInfo`.
 pub(crate) fn write_load(text: &str, alloc: Global, held: &mut Held) -> Result<u64, Stopped>
-    ensures gives { (target : TargetState) → Means held.new.end result (state_of held.new target) (c.line_result (direct false) (load_line text.now) 0 (state_of held.old target)) }
-    ensures noted { (target : TargetState) → LineNoted held.new.end result (state_of held.old target) (state_of held.new target) held.old.log held.new.log (load_line text.now) }
+    ensures { WritesLine held.old held.new result (load_line text.now) 0 }
 {
     write_line(load_line(alloc, text), 0, held)
 }

@@ -3,7 +3,7 @@ ghost use Rattle.std.specs.Prelude.{◌≡◌, ◌⊎◌, ℕ, ◌<◌, ◌^◌,
 ghost use Rattle.sequence_rules.specs.Calls as c;
 ghost use Rattle.sequence_rules.specs.Direct.{Now, direct};
 ghost use Rattle.sequence_rules.specs.Machine.{State};
-ghost use Rattle.logged_calls.specs.Held.{Means, Noted, Unless, state_of};
+ghost use Rattle.logged_calls.specs.Held.{MakesUnits, port_at, port_view};
 
 use crate::asking::{ask, ask_for_result, port_of};
 use crate::held::{Held, LoggedEnd, Stopped};
@@ -34,8 +34,7 @@ fn ask_second_half(
 ) -> Result<u64, Stopped>
     requires aligned { address % 8 ≡ 0 }
     requires low { low < 2 ^ 32 }
-    ensures gives { Means held.new.end result (state_of held.new target.new) (c.second_half (direct false) read (record { ap = ap; forgive = forgive; dp = 0 }) address value low (state_of held.old target.old)) }
-    ensures noted { Unless held.new.end result (Noted (state_of held.old target.old) (state_of held.new target.new) held.old.log held.new.log) }
+    ensures { MakesUnits held.old target.old held.new target.new result (c.second_half (direct false) read (port_at ap forgive) address value low) }
 {
     let unit = memory_unit(4, read, ap, address + 4, value / 0x1_0000_0000);
     let high = match ask(unit, forgive, held, target) {
@@ -57,8 +56,7 @@ fn ask_two_units(
     target: &mut Target,
 ) -> Result<u64, Stopped>
     requires aligned { address % 8 ≡ 0 }
-    ensures gives { Means held.new.end result (state_of held.new target.new) (c.two_units (direct false) read (record { ap = ap; forgive = forgive; dp = 0 }) address value (state_of held.old target.old)) }
-    ensures noted { Unless held.new.end result (Noted (state_of held.old target.old) (state_of held.new target.new) held.old.log held.new.log) }
+    ensures { MakesUnits held.old target.old held.new target.new result (c.two_units (direct false) read (port_at ap forgive) address value) }
 {
     let unit = memory_unit(4, read, ap, address, value);
     let low = match ask(unit, forgive, held, target) {
@@ -80,8 +78,7 @@ fn access_memory_at(
     target: &mut Target,
 ) -> Result<u64, Stopped>
     requires { (size ≡ 1) ⊎ ((size ≡ 2) ⊎ ((size ≡ 4) ⊎ (size ≡ 8))) }
-    ensures gives { Means held.new.end result (state_of held.new target.new) (c.memory_at (direct false) size read address value (record { ap = port.ap; forgive = port.forgive; dp = port.dp }) (state_of held.old target.old)) }
-    ensures noted { Unless held.new.end result (Noted (state_of held.old target.old) (state_of held.new target.new) held.old.log held.new.log) }
+    ensures { MakesUnits held.old target.old held.new target.new result (c.memory_at (direct false) size read address value (port_view port)) }
 {
     let ap = match memory_port(size, address, port.ap, port.dp) {
         Ok(ap) => ap,
@@ -114,8 +111,7 @@ pub(crate) fn access_memory(
     target: &mut Target,
 ) -> Result<u64, Stopped>
     requires { (size ≡ 1) ⊎ ((size ≡ 2) ⊎ ((size ≡ 4) ⊎ (size ≡ 8))) }
-    ensures gives { Means held.new.end result (state_of held.new target.new) (c.memory (direct false) size read address value (state_of held.old target.old)) }
-    ensures noted { Unless held.new.end result (Noted (state_of held.old target.old) (state_of held.new target.new) held.old.log held.new.log) }
+    ensures { MakesUnits held.old target.old held.new target.new result (c.memory (direct false) size read address value) }
 {
     access_memory_at(size, read, address, value, port_of(held), held, target)
 }

@@ -3,7 +3,7 @@ ghost use Rattle.std.specs.Prelude.{false};
 ghost use Rattle.target_machine.specs.Sound.{IsSoundProbe};
 ghost use Rattle.sequence_rules.specs.Calls as c;
 ghost use Rattle.sequence_rules.specs.Direct.{direct};
-ghost use Rattle.logged_calls.specs.Held.{Means, Noted, Unless, state_of};
+ghost use Rattle.logged_calls.specs.Held.{MakesUnits};
 
 use crate::asking::{command, debug_port};
 use crate::held::{Held, LoggedEnd, Stopped};
@@ -18,8 +18,7 @@ fn command_without_result(
     target: &mut Target,
 ) -> Result<u64, Stopped>
     requires { IsSoundProbe call }
-    ensures gives { Means held.new.end result (state_of held.new target.new) (c.zero_of (direct false) (c.command (direct false) call (state_of held.old target.old))) }
-    ensures noted { Unless held.new.end result (Noted (state_of held.old target.old) (state_of held.new target.new) held.old.log held.new.log) }
+    ensures { MakesUnits held.old target.old held.new target.new result (λ s. c.zero_of (direct false) (c.command (direct false) call s)) }
 {
     command(call, held, target)?;
     Ok(0)
@@ -28,8 +27,7 @@ fn command_without_result(
 // `DAP_WriteABORT`, on debug port 0 alone.
 #[tactic(auto, unfolding(sequence_rules::specs::Calls::abort, sequence_rules::specs::Calls::abort_at, sequence_rules::specs::Calls::zero_of), using(crate::proofs::NotedLemmas::noted_none))]
 pub(crate) fn abort(value: u64, held: &mut Held, target: &mut Target) -> Result<u64, Stopped>
-    ensures gives { Means held.new.end result (state_of held.new target.new) (c.zero_of (direct false) (c.abort (direct false) value (state_of held.old target.old))) }
-    ensures noted { Unless held.new.end result (Noted (state_of held.old target.old) (state_of held.new target.new) held.old.log held.new.log) }
+    ensures { MakesUnits held.old target.old held.new target.new result (λ s. c.zero_of (direct false) (c.abort (direct false) value s)) }
 {
     if debug_port(held) == 0 {
         command_without_result(
@@ -46,8 +44,7 @@ pub(crate) fn abort(value: u64, held: &mut Held, target: &mut Target) -> Result<
 // `DAP_Delay`, of at most 60,000,000 microseconds.
 #[tactic(auto, unfolding(sequence_rules::specs::Calls::delay, sequence_rules::specs::Calls::zero_of), using(crate::proofs::NotedLemmas::noted_none))]
 pub(crate) fn delay(micros: u64, held: &mut Held, target: &mut Target) -> Result<u64, Stopped>
-    ensures gives { Means held.new.end result (state_of held.new target.new) (c.zero_of (direct false) (c.delay (direct false) micros (state_of held.old target.old))) }
-    ensures noted { Unless held.new.end result (Noted (state_of held.old target.old) (state_of held.new target.new) held.old.log held.new.log) }
+    ensures { MakesUnits held.old target.old held.new target.new result (λ s. c.zero_of (direct false) (c.delay (direct false) micros s)) }
 {
     if micros > 60_000_000 {
         held.end = LoggedEnd::Halted(HaltCause::ArgumentOutOfRange);
@@ -59,8 +56,7 @@ pub(crate) fn delay(micros: u64, held: &mut Held, target: &mut Target) -> Result
 // `DAP_SWJ_Clock`, of 1 to 2^32 - 1 hertz.
 #[tactic(auto, unfolding(sequence_rules::specs::Calls::clock, sequence_rules::specs::Calls::zero_of), using(crate::proofs::NotedLemmas::noted_none))]
 pub(crate) fn set_clock(hertz: u64, held: &mut Held, target: &mut Target) -> Result<u64, Stopped>
-    ensures gives { Means held.new.end result (state_of held.new target.new) (c.zero_of (direct false) (c.clock (direct false) hertz (state_of held.old target.old))) }
-    ensures noted { Unless held.new.end result (Noted (state_of held.old target.old) (state_of held.new target.new) held.old.log held.new.log) }
+    ensures { MakesUnits held.old target.old held.new target.new result (λ s. c.zero_of (direct false) (c.clock (direct false) hertz s)) }
 {
     if hertz == 0 || hertz > 0xFFFF_FFFF {
         held.end = LoggedEnd::Halted(HaltCause::ArgumentOutOfRange);
@@ -78,8 +74,7 @@ pub(crate) fn set_pins(
     held: &mut Held,
     target: &mut Target,
 ) -> Result<u64, Stopped>
-    ensures gives { Means held.new.end result (state_of held.new target.new) (c.pins (direct false) output select wait (state_of held.old target.old)) }
-    ensures noted { Unless held.new.end result (Noted (state_of held.old target.old) (state_of held.new target.new) held.old.log held.new.log) }
+    ensures { MakesUnits held.old target.old held.new target.new result (c.pins (direct false) output select wait) }
 {
     match pins_command(output, select, wait) {
         Ok(call) => command(call, held, target),
@@ -98,8 +93,7 @@ pub(crate) fn send_bits(
     held: &mut Held,
     target: &mut Target,
 ) -> Result<u64, Stopped>
-    ensures gives { Means held.new.end result (state_of held.new target.new) (c.zero_of (direct false) (c.line_bits (direct false) count bits (state_of held.old target.old))) }
-    ensures noted { Unless held.new.end result (Noted (state_of held.old target.old) (state_of held.new target.new) held.old.log held.new.log) }
+    ensures { MakesUnits held.old target.old held.new target.new result (λ s. c.zero_of (direct false) (c.line_bits (direct false) count bits s)) }
 {
     if count == 0 || count > 64 {
         held.end = LoggedEnd::Halted(HaltCause::ArgumentOutOfRange);

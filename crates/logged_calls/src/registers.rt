@@ -2,7 +2,7 @@
 ghost use Rattle.std.specs.Prelude.{false};
 ghost use Rattle.sequence_rules.specs.Calls as c;
 ghost use Rattle.sequence_rules.specs.Direct.{direct};
-ghost use Rattle.logged_calls.specs.Held.{Means, Noted, Unless, state_of};
+ghost use Rattle.logged_calls.specs.Held.{MakesUnits, port_view};
 
 use crate::asking::{ask_for_result, debug_port, port_of};
 use crate::held::{Held, LoggedEnd, Stopped};
@@ -19,8 +19,7 @@ fn access_ap_at(
     held: &mut Held,
     target: &mut Target,
 ) -> Result<u64, Stopped>
-    ensures gives { Means held.new.end result (state_of held.new target.new) (c.ap_at (direct false) read addr value (record { ap = port.ap; forgive = port.forgive; dp = port.dp }) (state_of held.old target.old)) }
-    ensures noted { Unless held.new.end result (Noted (state_of held.old target.old) (state_of held.new target.new) held.old.log held.new.log) }
+    ensures { MakesUnits held.old target.old held.new target.new result (c.ap_at (direct false) read addr value (port_view port)) }
 {
     match ap_unit(read, addr, value, port.ap, port.dp) {
         Ok(unit) => ask_for_result(read, unit, port.forgive, held, target),
@@ -40,8 +39,7 @@ pub(crate) fn access_ap(
     held: &mut Held,
     target: &mut Target,
 ) -> Result<u64, Stopped>
-    ensures gives { Means held.new.end result (state_of held.new target.new) (c.ap_register (direct false) read addr value (state_of held.old target.old)) }
-    ensures noted { Unless held.new.end result (Noted (state_of held.old target.old) (state_of held.new target.new) held.old.log held.new.log) }
+    ensures { MakesUnits held.old target.old held.new target.new result (c.ap_register (direct false) read addr value) }
 {
     access_ap_at(read, addr, value, port_of(held), held, target)
 }
@@ -56,8 +54,7 @@ fn access_dp_at(
     held: &mut Held,
     target: &mut Target,
 ) -> Result<u64, Stopped>
-    ensures gives { Means held.new.end result (state_of held.new target.new) (c.dp_at (direct false) read addr value dp (state_of held.old target.old)) }
-    ensures noted { Unless held.new.end result (Noted (state_of held.old target.old) (state_of held.new target.new) held.old.log held.new.log) }
+    ensures { MakesUnits held.old target.old held.new target.new result (c.dp_at (direct false) read addr value dp) }
 {
     match dp_unit(read, addr, value, dp) {
         Ok(unit) => ask_for_result(read, unit, false, held, target),
@@ -77,8 +74,7 @@ pub(crate) fn access_dp(
     held: &mut Held,
     target: &mut Target,
 ) -> Result<u64, Stopped>
-    ensures gives { Means held.new.end result (state_of held.new target.new) (c.dp_register (direct false) read addr value (state_of held.old target.old)) }
-    ensures noted { Unless held.new.end result (Noted (state_of held.old target.old) (state_of held.new target.new) held.old.log held.new.log) }
+    ensures { MakesUnits held.old target.old held.new target.new result (c.dp_register (direct false) read addr value) }
 {
     access_dp_at(read, addr, value, debug_port(held), held, target)
 }

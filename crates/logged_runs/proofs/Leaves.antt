@@ -6,6 +6,7 @@ use Rattle.log_lines.specs.LogLines.{listed}
 use Rattle.run_coverage.specs.Covered.{IsOf, event_words}
 use Rattle.run_coverage.proofs.CoverLemmas.{not_noted}
 use Rattle.logged_runs.specs.Seen.{Notes, NotesAll, SeenSoFar, is_error, is_timeout}
+use Rattle.dap_base.proofs.Basics.{or_any}
 
 flag : (a b x : Bool) → b ≡ a → x ≡ false → b ≡ (a || (x || false))
 flag true b x h k = h
@@ -26,14 +27,9 @@ pub plain_one : (turns : ℕ) (a b : SeenSoFar) (e : Event) → b.log ≡ listed
 plain_one turns a b e l p c t r none nt nr =
     covered_one turns a b e l p (λ earlier of. subst (λ x. IsOf x (earlier ++ e ∷ [])) (sym c) (not_noted a.coverage earlier e none of)) t r nt nr
 
--- a loop times out
-or_true : (a : Bool) → true ≡ (a || true)
-or_true true = refl
-or_true false = refl
-
 pub timeout_all : (a b : SeenSoFar) (spot : Spot) (n : ℕ) → b.places ≡ a.places → ((earlier : List Event) → IsOf a.coverage earlier → IsOf b.coverage (earlier ++ TimesOut spot n ∷ [])) → b.timed_out ≡ true → b.error_shown ≡ a.error_shown
     → NotesAll a b (TimesOut spot n ∷ [])
-timeout_all a b spot n p c t r = record { places = p; covered = c; timed_out = t ∙ or_true a.timed_out; error_shown = flag a.error_shown b.error_shown false r refl }
+timeout_all a b spot n p c t r = record { places = p; covered = c; timed_out = t ∙ or_any a.timed_out; error_shown = flag a.error_shown b.error_shown false r refl }
 
 pub timeout_one : (turns : ℕ) (a b : SeenSoFar) (spot : Spot) (n : ℕ) → b.log ≡ listed a.log (TimesOut spot n) → b.places ≡ a.places → ((earlier : List Event) → IsOf a.coverage earlier → IsOf b.coverage (earlier ++ TimesOut spot n ∷ []))
     → b.timed_out ≡ true → b.error_shown ≡ a.error_shown → Notes turns a b (λ shows. TimesOut spot n ∷ [])

@@ -5,7 +5,6 @@ pub mod LoopEnds
 pub mod Loops
 pub mod Messages
 pub mod NoteLemmas
-pub mod Parts
 pub mod RunLemmas
 pub mod StartLemmas
 pub mod Turns

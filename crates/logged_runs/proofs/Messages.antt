@@ -1,6 +1,6 @@
 -- Which lines are those of messages of type 2.
-use Rattle.std.proofs.Common.{◌≡◌, ◌∙◌, ℕ, ◌+◌, ◌<◌, ◌^◌, nat_eq, nat_lt, slice_index, get_or, drop, Bool, true, false, cond, ◌||◌, ◌&&◌, List, [], ◌∷◌, ◌++◌, codes, decimal, Some, Ok, Err, refl, sym, ap, arith}
-use Rattle.std.proofs.lemmas.Bool.{eqb-true, le-ltb, lt-ltb, ne_eqb}
+use Rattle.std.proofs.Common.{◌≡◌, ◌∙◌, ℕ, ◌+◌, ◌<◌, ◌^◌, nat_eq, nat_lt, slice_index, get_or, drop, Bool, true, false, cond, ◌&&◌, List, [], ◌∷◌, ◌++◌, codes, decimal, Some, Ok, Err, refl, sym, ap, arith}
+use Rattle.std.proofs.lemmas.Bool.{eqb-true, le-ltb, lt-ltb, ne_eqb, and_right}
 use Rattle.std.proofs.lemmas.Fmt.{decimal_digit, decimal_injective, decimal_is_IsNumeral}
 use Rattle.std.proofs.lemmas.Str.Parse.{digit_from_value}
 use Rattle.std.specs.Str.Parse.{IsNumeral}
@@ -12,16 +12,13 @@ use Rattle.sequence_rules.specs.Lines.{message_line, query_line, value_line, loa
 use Rattle.sequence_rules.specs.Machine.{State, Out, end_state}
 use Rattle.run_events.specs.OfValues.{new_line, written_line}
 use Rattle.logged_runs.specs.Seen.{has_error, is_error_call, is_error_line}
+use Rattle.dap_base.proofs.Basics.{or_none}
 
 abbrev S : Type 0
 S = State ℕ Now
 
 not_two : (k : ℕ) → (k ≡ 2 → ⊥) → false ≡ nat_eq k 2
 not_two k some = sym (ne_eqb k 2 some)
-
-and_false : (b c : Bool) → c ≡ false → (b && c) ≡ false
-and_false true c h = h
-and_false false c h = refl
 
 decimal_two : decimal 2 ≡ 50 ∷ []
 decimal_two = decimal_digit 2 (omega arith)
@@ -42,7 +39,7 @@ by_digits k (d ∷ []) a b fits is h = one (nat_eq d 50) refl
 by_digits k (d ∷ e ∷ more) a b fits is h =
     let digit = digit_from_value e h.1.1.0 in
     let other : nat_eq e 32 ≡ false = ne_eqb e 32 (omega (arith, digit.0)) in
-    rw other (and_false (nat_eq d 50) false refl ∙ not_two k (λ two. longer (is ∙ ap decimal two ∙ decimal_two)))
+    rw other (and_right (nat_eq d 50) false refl ∙ not_two k (λ two. longer (is ∙ ap decimal two ∙ decimal_two)))
   where
     longer : d ∷ e ∷ more ≡ 50 ∷ [] → ⊥
     longer same = absurd cc
@@ -68,10 +65,6 @@ abbrev pub came : Out ℕ Now ℕ → Bool
 came (Ok x) = true
 came (Err e) = false
 
-or_none : (b : Bool) → b ≡ (b || false)
-or_none true = refl
-or_none false = refl
-
 nothing : (test : Bool) → has_error (cond test [] []) ≡ false
 nothing true = refl
 nothing false = refl
@@ -94,7 +87,7 @@ line_error line n s b is = by (nat_lt s.lines 100000) refl
 
     by : (c : Bool) → nat_lt s.lines 100000 ≡ c → has_error (cond (nat_lt s.lines (end_state (line_result (direct false) line n s)).lines) (written_line (Some line)) []) ≡ (b && came (line_result (direct false) line n s))
     by true e = rw e (rw more (sym (or_none (is_error_line line)) ∙ is ∙ and_true b))
-    by false e = rw e (rw same (sym (and_false b false refl)))
+    by false e = rw e (rw same (sym (and_right b false refl)))
 
 -- whether a call of a function writes the line of a message of type 2
 pub error_is : (function : Function) (text n : List ℕ) (s : S) → slice_index n 0 < 2 ^ 64

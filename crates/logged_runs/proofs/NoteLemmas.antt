@@ -1,6 +1,6 @@
 -- What is noted, one thing after the other.
 use Rattle.std.proofs.Common.{◌≡◌, ◌∙◌, ℕ, nat_le, Bool, true, false, ◌||◌, List, [], ◌∷◌, ◌++◌, cond, nat_eq, fold, OnOk, OnErr, Result, Ok, Err, refl, sym, ap, subst}
-use Rattle.std.proofs.lemmas.Bool.{eq-eqb, ne_eqb}
+use Rattle.std.proofs.lemmas.Bool.{eq-eqb}
 use Rattle.std.proofs.lemmas.List.{append_assoc, append-nil}
 use Rattle.std.proofs.lemmas.List.Folds.{list_any-append}
 use Rattle.sequence_trees.specs.declared.spot.Spot.{Spot}
@@ -15,22 +15,12 @@ use Rattle.logged_calls.specs.declared.held.LoggedEnd.TheVariants as end
 use Rattle.logged_calls.specs.declared.held.Stopped.{Stopped}
 use Rattle.logged_calls.proofs.NotedLemmas.{all_on}
 use Rattle.run_coverage.specs.Covered.{IsOf}
-use Rattle.logged_runs.specs.Seen.{Notes, NotesAll, SeenSoFar, has_error, has_timeout, is_error, is_timeout}
+use Rattle.logged_runs.specs.Seen.{Notes, NotesAll, SeenSoFar, Shown, has_error, has_timeout, is_error, is_timeout}
+use Rattle.dap_base.proofs.Basics.{or_none}
+use Rattle.code_check.proofs.Visible.{or_assoc}
 
 abbrev S : Type 0
 S = State ℕ Now
-
--- events by the turns that are shown
-abbrev pub Shown : Type 0
-Shown = (ℕ → Bool) → List Event
-
-or_false : (b : Bool) → b ≡ (b || false)
-or_false true = refl
-or_false false = refl
-
-or_assoc : (a b c : Bool) → ((a || b) || c) ≡ (a || (b || c))
-or_assoc true b c = refl
-or_assoc false b c = refl
 
 places_on : (places : List Spot) (xs ys : List Event) → fold places_after places (xs ++ ys) ≡ fold places_after (fold places_after places xs) ys
 places_on places [] ys = refl
@@ -42,8 +32,8 @@ all_none : (a : SeenSoFar) → NotesAll a a []
 all_none a = record {
   places = refl;
   covered = λ earlier of. subst (IsOf a.coverage) (sym (append-nil earlier)) of;
-  timed_out = or_false a.timed_out;
-  error_shown = or_false a.error_shown;
+  timed_out = or_none a.timed_out;
+  error_shown = or_none a.error_shown;
 }
 
 pub all_then : (a b c : SeenSoFar) (xs ys : List Event) → NotesAll a b xs → NotesAll b c ys → NotesAll a c (xs ++ ys)
@@ -194,9 +184,6 @@ take_second turns a b F G e result test is h = subst (λ t. Unless e result (Not
 
 pub is_zero : (n : ℕ) → n ≡ 0 → nat_eq n 0 ≡ true
 is_zero n is = eq-eqb n 0 is
-
-pub not_zero : (n : ℕ) → (n ≡ 0 → ⊥) → nat_eq n 0 ≡ false
-not_zero n some = ne_eqb n 0 some
 
 -- the same where nothing was refused
 pub notes_first : (turns : ℕ) (a b : SeenSoFar) (F G : Shown) (test : Bool) → test ≡ true → Notes turns a b F → Notes turns a b (λ shows. cond test (F shows) (G shows))

@@ -17,9 +17,9 @@ use Rattle.logged_calls.specs.declared.held.LoggedEnd.{LoggedEnd}
 use Rattle.logged_calls.specs.declared.held.LoggedEnd.TheVariants as end
 use Rattle.logged_calls.specs.declared.held.Stopped.{Stopped}
 use Rattle.logged_calls.proofs.NotedLemmas.{all_on}
-use Rattle.logged_runs.specs.Seen.{Notes, SeenSoFar}
+use Rattle.logged_runs.specs.Seen.{Notes, SeenSoFar, Shown}
 use Rattle.logged_runs.specs.Walk.{kept}
-use Rattle.logged_runs.proofs.NoteLemmas.{Shown, all_then, notes_as, notes_then, unless_map}
+use Rattle.logged_runs.proofs.NoteLemmas.{all_then, notes_as, notes_then, unless_map}
 
 abbrev S : Type 0
 S = State ℕ Now

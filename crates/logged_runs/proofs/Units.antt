@@ -1,6 +1,7 @@
 -- What is noted of calls of functions and of polls, besides the log.
 use Rattle.std.proofs.Common.{◌≡◌, ◌∙◌, ℕ, suc, ◌^◌, ◌<◌, OnOk, OnErr, nat_eq, nat_lt, slice_index, drop, length, codes, Bool, true, false, cond, ◌||◌, ◌&&◌, List, [], ◌∷◌, ◌++◌, fold, Option, None, Some, Result, Ok, Err, refl, sym, ap, subst}
 use Rattle.std.proofs.lemmas.List.{append_assoc, append-nil}
+use Rattle.std.proofs.lemmas.Bool.{and_right}
 use Rattle.sequence_trees.specs.declared.spot.Spot.{Spot}
 use Rattle.sequence_rules.specs.Direct.{Now, direct}
 use Rattle.dap_base.specs.Outcome.{◌>>=◌}
@@ -198,10 +199,6 @@ and_true : (b c : Bool) → c ≡ true → b ≡ (b && c)
 and_true true c h = sym h
 and_true false c h = refl
 
-and_false : (b c : Bool) → c ≡ false → (b && c) ≡ false
-and_false true c h = h
-and_false false c h = refl
-
 module _ (turns : ℕ) (a b : SeenSoFar) (function : Function) (text n : List ℕ) (s r : S) (p : b.places ≡ a.places) (c : b.coverage ≡ a.coverage) (t : b.timed_out ≡ a.timed_out) (fits : slice_index n 0 < 2 ^ 64) where
   abbrev out : Out ℕ Now ℕ
   out = function_result (direct false) function text n s
@@ -216,7 +213,7 @@ module _ (turns : ℕ) (a b : SeenSoFar) (function : Function) (text n : List �
   stopped_so : (x : machine.Over × S) → out ≡ Err x → b.error_shown ≡ a.error_shown → b.log ≡ listed_all a.log (function_events function text n s) → Notes turns a b (λ shows. function_events function text n s)
   stopped_so x is e log = record {
     log = log;
-    all = function_all a b function text n s p c t (e ∙ or_none a.error_shown _ (error_is function text n s fits ∙ and_false (is_error_call function n) (came out) (ap came is)));
+    all = function_all a b function text n s p c t (e ∙ or_none a.error_shown _ (error_is function text n s fits ∙ and_right (is_error_call function n) (came out) (ap came is)));
   }
 
   -- a call that did not

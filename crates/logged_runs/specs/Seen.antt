@@ -54,9 +54,13 @@ pub record NotesAll (old new : SeenSoFar) (events : List Event) : Type 0 where
   pub timed_out : new.timed_out ≡ (old.timed_out || has_timeout events)
   pub error_shown : new.error_shown ≡ (old.error_shown || has_error events)
 
+-- events by the turns that are shown
+abbrev pub Shown : Type 0
+Shown = (ℕ → Bool) → List Event
+
 -- Events were noted: in the log those that are shown, where of each loop so many turns and the last are; elsewhere all of them. What is
 -- seen is given by the turns that are shown.
-pub record Notes (turns : ℕ) (old new : SeenSoFar) (events : (ℕ → Bool) → List Event) : Type 0 where
+pub record Notes (turns : ℕ) (old new : SeenSoFar) (events : Shown) : Type 0 where
   pub log : new.log ≡ listed_all old.log (events (λ number. nat_le number turns))
   pub all : NotesAll old new (events each_turn)
 

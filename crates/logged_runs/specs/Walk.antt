@@ -1,5 +1,5 @@
 -- What a walk holds, as a state of the meaning and as what was seen; the sequences that it can call; places.
-use Rattle.std.specs.Prelude.{◌≡◌, ℕ, Bool, true, false, List, [], ◌∷◌, ◌++◌, take, Some, Result, Ok, Err, if◌then◌else◌, nat_eq, nat_lt}
+use Rattle.std.specs.Prelude.{◌≡◌, ℕ, Bool, true, false, List, [], ◌∷◌, ◌++◌, take, OnErr, OnOk, Some, Result, Ok, Err, if◌then◌else◌, nat_eq, nat_lt}
 use Rattle.dap_base.specs.Outcome.{◌>>=◌}
 use Rattle.expr_grammar.specs.declared.code.Name.{Name}
 use Rattle.expr_grammar.specs.Tree as t
@@ -18,12 +18,13 @@ use Rattle.run_events.specs.OfSteps.{spot_at}
 use Rattle.run_events.specs.OfValues.{value_events}
 use Rattle.log_lines.specs.LogLines.{LogLines}
 use Rattle.log_lines.specs.declared.log.LogMark.{LogMark}
-use Rattle.logged_calls.specs.Held.{EndsAs, state_of}
+use Rattle.logged_calls.specs.Held.{EndsAs, Means, Unless, state_of}
 use Rattle.logged_calls.specs.declared.held.LoggedEnd.{LoggedEnd}
+use Rattle.logged_calls.specs.declared.held.LoggedEnd.TheVariants as end
 use Rattle.logged_calls.specs.declared.held.Stopped.{Stopped}
 use Rattle.logged_runs.specs.declared.runner.LoggedRunner.{LoggedRunner}
 use Rattle.logged_runs.specs.declared.walked.Walked.{Walked}
-use Rattle.logged_runs.specs.Seen.{SeenSoFar}
+use Rattle.logged_runs.specs.Seen.{Notes, NotesAll, SeenSoFar, Shown}
 
 -- the state of a run on a target
 abbrev pub now : Walked → TargetState → State ℕ Now
@@ -38,6 +39,32 @@ seen walked = record {
   timed_out = walked.timed_out;
   error_shown = walked.error_shown;
 }
+
+-- From one state to another the walk answers and leaves what the meaning does.
+abbrev pub WalksAs : {A : Type 0} → Walked → TargetState → Walked → TargetState → Result A Stopped → (State ℕ Now → Out ℕ Now A) → Type 0
+WalksAs old before new after result meaning = Means new.held.end result (now new after) (meaning (now old before))
+
+-- What was seen on the way was noted, with so many turns of a loop shown besides the last, unless memory was refused.
+abbrev pub Sees : {A : Type 0} → ℕ → Walked → TargetState → Walked → Result A Stopped → (State ℕ Now → Shown) → Type 0
+Sees turns old before new result seen_from = Unless new.held.end result (Notes turns (seen old) (seen new) (seen_from (now old before)))
+
+-- An event was noted, whichever turns are shown, and the state is as before; or memory was refused.
+pub record NotesOne (old new : Walked) (result : Result (Unit {0}) Stopped) (event : Event) : Type 0 where
+  pub state : (target : TargetState) → OnOk result (now new target ≡ now old target)
+  pub refused : OnErr result (new.held.end ≡ end.OutOfMemory)
+  pub noted : (turns : ℕ) → OnOk result (Notes turns (seen old) (seen new) (λ shows. event ∷ []))
+
+-- Events were noted everywhere but in the log, and the state is as before; or memory was refused.
+pub record CoversAll (old new : Walked) (result : Result (Unit {0}) Stopped) (events : List Event) : Type 0 where
+  pub state : (target : TargetState) → OnOk result (now new target ≡ now old target)
+  pub log : OnOk result (new.held.log ≡ old.held.log)
+  pub refused : OnErr result (new.held.end ≡ end.OutOfMemory)
+  pub noted : OnOk result (NotesAll (seen old) (seen new) events)
+
+-- The state is changed so, on each target, and nothing was seen.
+pub record Changes (old new : Walked) (change : State ℕ Now → State ℕ Now) : Type 0 where
+  pub state : (target : TargetState) → now new target ≡ change (now old target)
+  pub seen : seen new ≡ seen old
 
 -- the sequences of the runner's set, from which calls lead at most so deep
 abbrev pub calls_of : LoggedRunner → ℕ → List ℕ → State ℕ Now → Out ℕ Now (Unit {0})
@@ -56,6 +83,10 @@ step_at name path = record { sequence = Some name; path = path }
 abbrev pub MeansAs : {A B : Type 0} → LoggedEnd → B → Result A Stopped → State ℕ Now → Out ℕ Now B → Type 0
 MeansAs e x (Ok y) s out = out ≡ Ok (x, s)
 MeansAs e x (Err stopped) s out = EndsAs e s out
+
+-- From one state to another the walk collects these values as the meaning does.
+abbrev pub CollectsAs : {A B : Type 0} → Walked → TargetState → Walked → TargetState → B → Result A Stopped → (State ℕ Now → Out ℕ Now B) → Type 0
+CollectsAs old before new after x result meaning = MeansAs new.held.end x result (now new after) (meaning (now old before))
 
 -- a turn after it is counted: its condition, and where that is not 0 what is done
 abbrev pub tested : (State ℕ Now → Out ℕ Now ℕ) → (State ℕ Now → Out ℕ Now (Unit {0})) → State ℕ Now → Out ℕ Now Bool

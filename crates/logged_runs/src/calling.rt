@@ -1,20 +1,12 @@
 //! Calls of functions and of sequences.
-ghost use Rattle.std.specs.Prelude.{◌≡◌, [], ◌++◌, ◌<◌, Option, Some, false, unwrap_or};
-ghost use Rattle.expr_grammar.specs.Tree.{tree, arg_tree, arg_trees};
+ghost use Rattle.std.specs.Prelude.{◌≡◌, [], ◌<◌, Some, unwrap_or};
 ghost use Rattle.function_table.specs.declared.function.Function.{Function};
-ghost use Rattle.logged_calls.specs.Held.{Means, Unless};
-ghost use Rattle.run_events.specs.Events as e;
-ghost use Rattle.run_events.specs.OfSteps as os;
-ghost use Rattle.run_events.specs.OfValues as o;
 ghost use Rattle.seq_check.specs.Answers.{checked_trees};
-ghost use Rattle.function_table.specs.Lookup.{function_named};
-ghost use Rattle.sequence_rules.specs.Direct.{direct};
-ghost use Rattle.sequence_rules.specs.Machine.{with_locals};
-ghost use Rattle.sequence_rules.specs.Steps as m;
-ghost use Rattle.sequence_rules.specs.Values as v;
 ghost use Rattle.sequence_trees.specs.Trees.{NoSteps, steps_tree, steps_named};
-ghost use Rattle.logged_runs.specs.Seen.{Notes};
-ghost use Rattle.logged_runs.specs.Walk.{MeansAs, calls_of, events_of, now, seen, step_at};
+ghost use Rattle.logged_runs.specs.OfSteps.{sequence_of, sequence_seen};
+ghost use Rattle.logged_runs.specs.OfValues.{appended_of, argument_of, argument_seen, arguments_of, arguments_seen, call_of};
+ghost use Rattle.logged_runs.specs.OfValues.{call_seen, called_seen, function_of, function_seen, named_seen, value_seen};
+ghost use Rattle.logged_runs.specs.Walk.{CollectsAs, Sees, WalksAs, calls_of};
 
 use crate::runner::LoggedRunner;
 use crate::walked::Walked;
@@ -37,8 +29,8 @@ impl<'a> LoggedRunner<'a> {
         walked: &mut Walked<'a>,
         target: &mut Target,
     ) -> Result<(), Stopped>
-        ensures gives { MeansAs walked.new.held.end numbers.new.items result (now walked.new target.new) (v.argument (direct false) (calls_of self.now depth) (arg_tree arg.now) numbers.old.items (now walked.old target.old)) }
-        ensures noted { Unless walked.new.held.end result (Notes self.now.turns (seen walked.old) (seen walked.new) (λ shows. o.argument_events (calls_of self.now depth) (events_of shows self.now depth) (arg_tree arg.now) (now walked.old target.old))) }
+        ensures gives { CollectsAs walked.old target.old walked.new target.new numbers.new.items result (argument_of self.now depth arg.now numbers.old.items) }
+        ensures noted { Sees self.now.turns walked.old target.old walked.new result (argument_seen self.now depth arg.now) }
     {
         match arg {
             Arg::Number(_, expr) => self.push_value(expr, numbers, depth, walked, target),
@@ -57,8 +49,8 @@ impl<'a> LoggedRunner<'a> {
         walked: &mut Walked<'a>,
         target: &mut Target,
     ) -> Result<(), Stopped>
-        ensures gives { MeansAs walked.new.held.end numbers.new.items result (now walked.new target.new) (v.appended (direct false) numbers.old.items (v.value (direct false) (calls_of self.now depth) (tree expr.now) (now walked.old target.old))) }
-        ensures noted { Unless walked.new.held.end result (Notes self.now.turns (seen walked.old) (seen walked.new) (λ shows. o.value_events (calls_of self.now depth) (events_of shows self.now depth) (tree expr.now) (now walked.old target.old))) }
+        ensures gives { CollectsAs walked.old target.old walked.new target.new numbers.new.items result (appended_of self.now depth numbers.old.items expr.now) }
+        ensures noted { Sees self.now.turns walked.old target.old walked.new result (value_seen self.now depth expr.now) }
     {
         let number = self.evaluate(expr, depth, walked, target)?;
         let Ok(()) = numbers.push(number) else {
@@ -79,8 +71,8 @@ impl<'a> LoggedRunner<'a> {
         walked: &mut Walked<'a>,
         target: &mut Target,
     ) -> Result<(), Stopped>
-        ensures gives { MeansAs walked.new.held.end numbers.new.items result (now walked.new target.new) (v.arguments (direct false) (calls_of self.now depth) (arg_trees args.now) numbers.old.items (now walked.old target.old)) }
-        ensures noted { Unless walked.new.held.end result (Notes self.now.turns (seen walked.old) (seen walked.new) (λ shows. o.arguments_events (calls_of self.now depth) (events_of shows self.now depth) (arg_trees args.now) numbers.old.items (now walked.old target.old))) }
+        ensures gives { CollectsAs walked.old target.old walked.new target.new numbers.new.items result (arguments_of self.now depth args.now numbers.old.items) }
+        ensures noted { Sees self.now.turns walked.old target.old walked.new result (arguments_seen self.now depth args.now numbers.old.items) }
     {
         for arg in args {
             match self.evaluate_argument(arg, numbers, depth, walked, target) {
@@ -93,7 +85,7 @@ impl<'a> LoggedRunner<'a> {
 
     // A call: its arguments, and then the function.
     #[cycle(walk)]
-    #[tactic(auto, unfolding(sequence_rules::specs::Values::call_of, sequence_rules::specs::Calls::guarded, sequence_rules::specs::Values::numbers_of, sequence_rules::specs::Direct::direct), using(crate::proofs::Ends::ends_call, crate::proofs::Parts::numbers_used))]
+    #[tactic(auto, unfolding(sequence_rules::specs::Values::call_of, sequence_rules::specs::Calls::guarded, sequence_rules::specs::Values::numbers_of, sequence_rules::specs::Direct::direct), using(crate::proofs::Ends::ends_call, sequence_rules::proofs::NowLemmas::numbers_as))]
     pub(crate) fn call(
         &self,
         called: &'a CalledName,
@@ -102,8 +94,8 @@ impl<'a> LoggedRunner<'a> {
         walked: &mut Walked<'a>,
         target: &mut Target,
     ) -> Result<u64, Stopped>
-        ensures gives { Means walked.new.held.end result (now walked.new target.new) (v.call_of (direct false) (calls_of self.now depth) called.now.name (arg_trees args.now) (v.arguments (direct false) (calls_of self.now depth) (arg_trees args.now) [] (now walked.old target.old))) }
-        ensures noted { Unless walked.new.held.end result (Notes self.now.turns (seen walked.old) (seen walked.new) (λ shows. o.arguments_events (calls_of self.now depth) (events_of shows self.now depth) (arg_trees args.now) [] (now walked.old target.old) ++ e.after (v.arguments (direct false) (calls_of self.now depth) (arg_trees args.now) [] (now walked.old target.old)) (λ n r. o.call_events (calls_of self.now depth) (events_of shows self.now depth) (function_named called.now.name.text) (v.text_of (arg_trees args.now)) n r))) }
+        ensures gives { WalksAs walked.old target.old walked.new target.new result (call_of self.now depth called.now.name args.now) }
+        ensures noted { Sees self.now.turns walked.old target.old walked.new result (call_seen self.now depth called.now.name args.now) }
     {
         let mut numbers = Vec::new(self.alloc);
         match self.evaluate_arguments(args, &mut numbers, depth, walked, target) {
@@ -132,8 +124,8 @@ impl<'a> LoggedRunner<'a> {
         walked: &mut Walked<'a>,
         target: &mut Target,
     ) -> Result<u64, Stopped>
-        ensures gives { Means walked.new.held.end result (now walked.new target.new) (v.call_result (direct false) (calls_of self.now depth) function text.now numbers.now (now walked.old target.old)) }
-        ensures noted { Unless walked.new.held.end result (Notes self.now.turns (seen walked.old) (seen walked.new) (λ shows. o.call_events (calls_of self.now depth) (events_of shows self.now depth) function text.now numbers.now (now walked.old target.old))) }
+        ensures gives { WalksAs walked.old target.old walked.new target.new result (function_of self.now depth function text.now numbers.now) }
+        ensures noted { Sees self.now.turns walked.old target.old walked.new result (function_seen self.now depth function text.now numbers.now) }
     {
         match function {
             None => Ok(0),
@@ -153,8 +145,8 @@ impl<'a> LoggedRunner<'a> {
         walked: &mut Walked<'a>,
         target: &mut Target,
     ) -> Result<u64, Stopped>
-        ensures gives { Means walked.new.held.end result (now walked.new target.new) (v.call_result (direct false) (calls_of self.now depth) (Some function) text.now numbers.now (now walked.old target.old)) }
-        ensures noted { Unless walked.new.held.end result (Notes self.now.turns (seen walked.old) (seen walked.new) (λ shows. o.call_events (calls_of self.now depth) (events_of shows self.now depth) (Some function) text.now numbers.now (now walked.old target.old))) }
+        ensures gives { WalksAs walked.old target.old walked.new target.new result (function_of self.now depth (Some function) text.now numbers.now) }
+        ensures noted { Sees self.now.turns walked.old target.old walked.new result (function_seen self.now depth (Some function) text.now numbers.now) }
     {
         match function {
             Function::Sequence => self.call_sequence(text, depth, walked, target),
@@ -172,8 +164,8 @@ impl<'a> LoggedRunner<'a> {
         walked: &mut Walked<'a>,
         target: &mut Target,
     ) -> Result<u64, Stopped>
-        ensures gives { Means walked.new.held.end result (now walked.new target.new) (v.call_result (direct false) (calls_of self.now depth) (Some Function.Sequence) name.now [] (now walked.old target.old)) }
-        ensures noted { Unless walked.new.held.end result (Notes self.now.turns (seen walked.old) (seen walked.new) (λ shows. o.called_events (calls_of self.now depth) (events_of shows self.now depth) name.now (now walked.old target.old))) }
+        ensures gives { WalksAs walked.old target.old walked.new target.new result (function_of self.now depth (Some Function.Sequence) name.now []) }
+        ensures noted { Sees self.now.turns walked.old target.old walked.new result (called_seen self.now depth name.now) }
     {
         match walked.call(name) {
             Ok(()) => {}
@@ -200,8 +192,8 @@ impl<'a> LoggedRunner<'a> {
         walked: &mut Walked<'a>,
         target: &mut Target,
     ) -> Result<(), Stopped>
-        ensures gives { Means walked.new.held.end result (now walked.new target.new) ((calls_of self.now depth) name.now (now walked.old target.old)) }
-        ensures noted { Unless walked.new.held.end result (Notes self.now.turns (seen walked.old) (seen walked.new) (λ shows. (events_of shows self.now depth) name.now (now walked.old target.old))) }
+        ensures gives { WalksAs walked.old target.old walked.new target.new result (calls_of self.now depth name.now) }
+        ensures noted { Sees self.now.turns walked.old target.old walked.new result (named_seen self.now depth name.now) }
     {
         if depth == 0 {
             return Ok(());
@@ -230,8 +222,8 @@ impl<'a> LoggedRunner<'a> {
         walked: &mut Walked<'a>,
         target: &mut Target,
     ) -> Result<(), Stopped>
-        ensures gives { Means walked.new.held.end result (now walked.new target.new) (m.sequence_result (direct false) (m.steps_result (direct false) self.now.turn_us (calls_of self.now depth) (steps_tree steps.now)) (now walked.old target.old)) }
-        ensures noted { Unless walked.new.held.end result (Notes self.now.turns (seen walked.old) (seen walked.new) (λ shows. os.steps_events shows self.now.turn_us (calls_of self.now depth) (events_of shows self.now depth) (step_at name.now []) 0 (steps_tree steps.now) (with_locals (now walked.old target.old) []))) }
+        ensures gives { WalksAs walked.old target.old walked.new target.new result (sequence_of self.now depth steps.now) }
+        ensures noted { Sees self.now.turns walked.old target.old walked.new result (sequence_seen self.now depth name.now steps.now) }
     {
         let dp = walked.get_global("__dp");
         let ap = walked.get_global("__ap");

@@ -1,19 +1,11 @@
 //! Controls and their turns.
-ghost use Rattle.std.specs.Prelude.{◌≡◌, ◌∷◌, ◌<◌, ◌≤◌, ℕ, Option, Some, false, option_map};
-ghost use Rattle.expr_grammar.specs.Tree.{tree};
-ghost use Rattle.logged_calls.specs.Held.{Means, Unless};
-ghost use Rattle.run_events.specs.Events as e;
-ghost use Rattle.run_events.specs.OfSteps as os;
-ghost use Rattle.run_events.specs.OfValues as o;
+ghost use Rattle.std.specs.Prelude.{◌≡◌, ◌<◌, ◌≤◌, ℕ, Some, false};
 ghost use Rattle.sequence_rules.specs.Direct.{direct};
-ghost use Rattle.sequence_rules.specs.Polls as p;
 ghost use Rattle.sequence_rules.specs.Steps as m;
-ghost use Rattle.sequence_rules.specs.Values as v;
-ghost use Rattle.sequence_trees.specs.Trees.{steps_tree};
-ghost use Rattle.logged_runs.specs.Seen.{Notes};
-ghost use Rattle.log_lines.specs.Places.{condition_spot};
-ghost use Rattle.sequence_trees.specs.declared.spot.Part.TheVariants as part;
-ghost use Rattle.logged_runs.specs.Walk.{kept, tested, calls_of, events_of, now, seen, step_at};
+ghost use Rattle.logged_runs.specs.OfSteps.{begun_seen, condition_of, condition_seen, control_of, control_seen, inside_of};
+ghost use Rattle.logged_runs.specs.OfSteps.{loop_of, loop_seen, poll_seen, repeat_of, repeat_seen, steps_seen, tested_of};
+ghost use Rattle.logged_runs.specs.OfSteps.{tested_seen, turn_of, turn_seen, turns_of, turns_seen};
+ghost use Rattle.logged_runs.specs.Walk.{Sees, WalksAs, kept};
 
 use crate::runner::LoggedRunner;
 use crate::steps::count_step;
@@ -41,8 +33,9 @@ impl<'a> LoggedRunner<'a> {
         walked: &mut Walked<'a>,
         target: &mut Target,
     ) -> Result<(), Stopped>
-        ensures gives { Means walked.new.held.end result (now walked.new target.new) (m.controlled (direct false) self.now.turn_us (calls_of self.now depth) (option_map tree cond.now) (option_map tree repeat.now) timeout (steps_tree steps.now) (m.steps_result (direct false) self.now.turn_us (calls_of self.now depth) (steps_tree steps.now)) (now walked.old target.old)) }
-        ensures noted { Unless walked.new.held.end result (Notes self.now.turns (seen walked.old) (seen walked.new) (λ shows. os.controlled_events shows self.now.turn_us (calls_of self.now depth) (events_of shows self.now depth) (step_at sequence.now path.now) (option_map tree cond.now) (option_map tree repeat.now) timeout (steps_tree steps.now) (m.inside (direct false) (m.steps_result (direct false) self.now.turn_us (calls_of self.now depth) (steps_tree steps.now))) (λ q. os.steps_events shows self.now.turn_us (calls_of self.now depth) (events_of shows self.now depth) (step_at sequence.now path.now) 0 (steps_tree steps.now) q) (now walked.old target.old))) }
+        ensures gives { WalksAs walked.old target.old walked.new target.new result (control_of self.now depth cond.now repeat.now timeout steps.now) }
+        ensures noted { Sees self.now.turns walked.old target.old walked.new result
+            (control_seen self.now depth sequence.now path.now cond.now repeat.now timeout steps.now) }
     {
         let chosen = match self.test_condition(sequence, path, cond, depth, walked, target) {
             Ok(chosen) => chosen,
@@ -69,8 +62,8 @@ impl<'a> LoggedRunner<'a> {
         walked: &mut Walked<'a>,
         target: &mut Target,
     ) -> Result<bool, Stopped>
-        ensures gives { Means walked.new.held.end result (now walked.new target.new) (m.condition (direct false) self.now.turn_us (calls_of self.now depth) (option_map tree cond.now) (now walked.old target.old)) }
-        ensures noted { Unless walked.new.held.end result (Notes self.now.turns (seen walked.old) (seen walked.new) (λ shows. os.condition_events shows self.now.turn_us (calls_of self.now depth) (events_of shows self.now depth) (step_at sequence.now path.now) (option_map tree cond.now) (now walked.old target.old))) }
+        ensures gives { WalksAs walked.old target.old walked.new target.new result (condition_of self.now depth cond.now) }
+        ensures noted { Sees self.now.turns walked.old target.old walked.new result (condition_seen self.now depth sequence.now path.now cond.now) }
     {
         match cond {
             None => Ok(true),
@@ -90,8 +83,8 @@ impl<'a> LoggedRunner<'a> {
         walked: &mut Walked<'a>,
         target: &mut Target,
     ) -> Result<bool, Stopped>
-        ensures gives { Means walked.new.held.end result (now walked.new target.new) (m.condition (direct false) self.now.turn_us (calls_of self.now depth) (Some (tree expr.now)) (now walked.old target.old)) }
-        ensures noted { Unless walked.new.held.end result (Notes self.now.turns (seen walked.old) (seen walked.new) (λ shows. os.condition_events shows self.now.turn_us (calls_of self.now depth) (events_of shows self.now depth) (step_at sequence.now path.now) (Some (tree expr.now)) (now walked.old target.old))) }
+        ensures gives { WalksAs walked.old target.old walked.new target.new result (condition_of self.now depth (Some expr.now)) }
+        ensures noted { Sees self.now.turns walked.old target.old walked.new result (condition_seen self.now depth sequence.now path.now (Some expr.now)) }
     {
         match walked.test(sequence, path, expr) {
             Ok(()) => {}
@@ -122,8 +115,8 @@ impl<'a> LoggedRunner<'a> {
         walked: &mut Walked<'a>,
         target: &mut Target,
     ) -> Result<(), Stopped>
-        ensures gives { Means walked.new.held.end result (now walked.new target.new) (m.repeat_result (direct false) self.now.turn_us (calls_of self.now depth) (option_map tree repeat.now) timeout (steps_tree steps.now) (m.steps_result (direct false) self.now.turn_us (calls_of self.now depth) (steps_tree steps.now)) (now walked.old target.old)) }
-        ensures noted { Unless walked.new.held.end result (Notes self.now.turns (seen walked.old) (seen walked.new) (λ shows. os.repeat_events shows self.now.turn_us (calls_of self.now depth) (events_of shows self.now depth) (step_at sequence.now path.now) (option_map tree repeat.now) timeout (steps_tree steps.now) (m.inside (direct false) (m.steps_result (direct false) self.now.turn_us (calls_of self.now depth) (steps_tree steps.now))) (λ q. os.steps_events shows self.now.turn_us (calls_of self.now depth) (events_of shows self.now depth) (step_at sequence.now path.now) 0 (steps_tree steps.now) q) (now walked.old target.old))) }
+        ensures gives { WalksAs walked.old target.old walked.new target.new result (repeat_of self.now depth repeat.now timeout steps.now) }
+        ensures noted { Sees self.now.turns walked.old target.old walked.new result (repeat_seen self.now depth sequence.now path.now repeat.now timeout steps.now) }
     {
         match repeat {
             None => self.run_inside(sequence, path, steps, depth, walked, target),
@@ -155,8 +148,8 @@ impl<'a> LoggedRunner<'a> {
     ) -> Result<(), Stopped>
         requires least { 1 ≤ count }
         requires most { count ≤ 60000000 }
-        ensures gives { Means walked.new.held.end result (now walked.new target.new) (m.loop_result (direct false) self.now.turn_us (calls_of self.now depth) (p.poll_of (tree expr.now) (steps_tree steps.now)) (tree expr.now) count (m.steps_result (direct false) self.now.turn_us (calls_of self.now depth) (steps_tree steps.now)) (now walked.old target.old)) }
-        ensures noted { Unless walked.new.held.end result (Notes self.now.turns (seen walked.old) (seen walked.new) (λ shows. e.Loops (condition_spot sequence.now path.now part.While) (tree expr.now) count ∷ os.loop_events shows self.now.turn_us (calls_of self.now depth) (events_of shows self.now depth) (condition_spot sequence.now path.now part.While) (p.poll_of (tree expr.now) (steps_tree steps.now)) (tree expr.now) count (m.inside (direct false) (m.steps_result (direct false) self.now.turn_us (calls_of self.now depth) (steps_tree steps.now))) (λ q. os.steps_events shows self.now.turn_us (calls_of self.now depth) (events_of shows self.now depth) (step_at sequence.now path.now) 0 (steps_tree steps.now) q) (now walked.old target.old))) }
+        ensures gives { WalksAs walked.old target.old walked.new target.new result (loop_of self.now depth expr.now count steps.now) }
+        ensures noted { Sees self.now.turns walked.old target.old walked.new result (begun_seen self.now depth sequence.now path.now expr.now count steps.now) }
     {
         match walked.begin_loop(sequence, path, expr, count) {
             Ok(()) => {}
@@ -181,8 +174,8 @@ impl<'a> LoggedRunner<'a> {
     ) -> Result<(), Stopped>
         requires least { 1 ≤ count }
         requires most { count ≤ 60000000 }
-        ensures gives { Means walked.new.held.end result (now walked.new target.new) (m.loop_result (direct false) self.now.turn_us (calls_of self.now depth) (p.poll_of (tree expr.now) (steps_tree steps.now)) (tree expr.now) count (m.steps_result (direct false) self.now.turn_us (calls_of self.now depth) (steps_tree steps.now)) (now walked.old target.old)) }
-        ensures noted { Unless walked.new.held.end result (Notes self.now.turns (seen walked.old) (seen walked.new) (λ shows. os.loop_events shows self.now.turn_us (calls_of self.now depth) (events_of shows self.now depth) (condition_spot sequence.now path.now part.While) (p.poll_of (tree expr.now) (steps_tree steps.now)) (tree expr.now) count (m.inside (direct false) (m.steps_result (direct false) self.now.turn_us (calls_of self.now depth) (steps_tree steps.now))) (λ q. os.steps_events shows self.now.turn_us (calls_of self.now depth) (events_of shows self.now depth) (step_at sequence.now path.now) 0 (steps_tree steps.now) q) (now walked.old target.old))) }
+        ensures gives { WalksAs walked.old target.old walked.new target.new result (loop_of self.now depth expr.now count steps.now) }
+        ensures noted { Sees self.now.turns walked.old target.old walked.new result (loop_seen self.now depth sequence.now path.now expr.now count steps.now) }
     {
         match poll_of(expr, steps) {
             Some((mask, requested)) => {
@@ -206,8 +199,8 @@ impl<'a> LoggedRunner<'a> {
         walked: &mut Walked<'a>,
         target: &mut Target,
     ) -> Result<(), Stopped>
-        ensures gives { Means walked.new.held.end result (now walked.new target.new) (m.turns (direct false) (v.value (direct false) (calls_of self.now depth) (tree expr.now)) (m.inside (direct false) (m.steps_result (direct false) self.now.turn_us (calls_of self.now depth) (steps_tree steps.now))) count (now walked.old target.old)) }
-        ensures noted { Unless walked.new.held.end result (Notes self.now.turns (seen walked.old) (seen walked.new) (λ shows. os.turns_events shows (condition_spot sequence.now path.now part.While) (v.value (direct false) (calls_of self.now depth) (tree expr.now)) (o.value_events (calls_of self.now depth) (events_of shows self.now depth) (tree expr.now)) (m.inside (direct false) (m.steps_result (direct false) self.now.turn_us (calls_of self.now depth) (steps_tree steps.now))) (λ q. os.steps_events shows self.now.turn_us (calls_of self.now depth) (events_of shows self.now depth) (step_at sequence.now path.now) 0 (steps_tree steps.now) q) 0 count (now walked.old target.old))) }
+        ensures gives { WalksAs walked.old target.old walked.new target.new result (turns_of self.now depth expr.now count steps.now) }
+        ensures noted { Sees self.now.turns walked.old target.old walked.new result (turns_seen self.now depth sequence.now path.now expr.now count steps.now) }
     {
         let mut made = 0;
         let mut mark = walked.held.log.mark();
@@ -246,8 +239,8 @@ impl<'a> LoggedRunner<'a> {
         walked: &mut Walked<'a>,
         target: &mut Target,
     ) -> Result<bool, Stopped>
-        ensures gives { Means walked.new.held.end result (now walked.new target.new) (m.turn (direct false) (v.value (direct false) (calls_of self.now depth) (tree expr.now)) (m.inside (direct false) (m.steps_result (direct false) self.now.turn_us (calls_of self.now depth) (steps_tree steps.now))) (now walked.old target.old)) }
-        ensures noted { Unless walked.new.held.end result (Notes self.now.turns (seen walked.old) (seen walked.new) (λ shows. os.turn_events shows (condition_spot sequence.now path.now part.While) (v.value (direct false) (calls_of self.now depth) (tree expr.now)) (o.value_events (calls_of self.now depth) (events_of shows self.now depth) (tree expr.now)) (m.inside (direct false) (m.steps_result (direct false) self.now.turn_us (calls_of self.now depth) (steps_tree steps.now))) (λ q. os.steps_events shows self.now.turn_us (calls_of self.now depth) (events_of shows self.now depth) (step_at sequence.now path.now) 0 (steps_tree steps.now) q) number (now walked.old target.old))) }
+        ensures gives { WalksAs walked.old target.old walked.new target.new result (turn_of self.now depth expr.now steps.now) }
+        ensures noted { Sees self.now.turns walked.old target.old walked.new result (turn_seen self.now depth sequence.now path.now number expr.now steps.now) }
     {
         match walked.turn(sequence, path, number) {
             Ok(()) => {}
@@ -273,8 +266,8 @@ impl<'a> LoggedRunner<'a> {
         walked: &mut Walked<'a>,
         target: &mut Target,
     ) -> Result<bool, Stopped>
-        ensures gives { Means walked.new.held.end result (now walked.new target.new) (tested (v.value (direct false) (calls_of self.now depth) (tree expr.now)) (m.inside (direct false) (m.steps_result (direct false) self.now.turn_us (calls_of self.now depth) (steps_tree steps.now))) (now walked.old target.old)) }
-        ensures noted { Unless walked.new.held.end result (Notes self.now.turns (seen walked.old) (seen walked.new) (λ shows. os.tested_events shows (condition_spot sequence.now path.now part.While) (v.value (direct false) (calls_of self.now depth) (tree expr.now)) (o.value_events (calls_of self.now depth) (events_of shows self.now depth) (tree expr.now)) (m.inside (direct false) (m.steps_result (direct false) self.now.turn_us (calls_of self.now depth) (steps_tree steps.now))) (λ q. os.steps_events shows self.now.turn_us (calls_of self.now depth) (events_of shows self.now depth) (step_at sequence.now path.now) 0 (steps_tree steps.now) q) (now walked.old target.old))) }
+        ensures gives { WalksAs walked.old target.old walked.new target.new result (tested_of self.now depth expr.now steps.now) }
+        ensures noted { Sees self.now.turns walked.old target.old walked.new result (tested_seen self.now depth sequence.now path.now expr.now steps.now) }
     {
         let number = match self.evaluate(expr, depth, walked, target) {
             Ok(number) => number,
@@ -306,8 +299,8 @@ impl<'a> LoggedRunner<'a> {
         walked: &mut Walked<'a>,
         target: &mut Target,
     ) -> Result<(), Stopped>
-        ensures gives { Means walked.new.held.end result (now walked.new target.new) (m.inside (direct false) (m.steps_result (direct false) self.now.turn_us (calls_of self.now depth) (steps_tree steps.now)) (now walked.old target.old)) }
-        ensures noted { Unless walked.new.held.end result (Notes self.now.turns (seen walked.old) (seen walked.new) (λ shows. os.steps_events shows self.now.turn_us (calls_of self.now depth) (events_of shows self.now depth) (step_at sequence.now path.now) 0 (steps_tree steps.now) (now walked.old target.old))) }
+        ensures gives { WalksAs walked.old target.old walked.new target.new result (inside_of self.now depth steps.now) }
+        ensures noted { Sees self.now.turns walked.old target.old walked.new result (steps_seen self.now depth sequence.now path.now steps.now) }
     {
         let count = walked.local_count();
         match self.run_steps(sequence, path, steps, depth, walked, target) {
@@ -332,8 +325,8 @@ fn run_poll(
 ) -> Result<(), Stopped>
     requires least { 1 ≤ count }
     requires most { count ≤ 60000000 }
-    ensures gives { Means walked.new.held.end result (now walked.new target.new) (m.poll_result (direct false) (mask, requested) count (now walked.old target.old)) }
-    ensures noted { (turns : ℕ) → Unless walked.new.held.end result (Notes turns (seen walked.old) (seen walked.new) (λ shows. os.poll_events (condition_spot sequence.now path.now part.While) (mask, requested) count (now walked.old target.old))) }
+    ensures gives { WalksAs walked.old target.old walked.new target.new result (m.poll_result (direct false) (mask, requested) count) }
+    ensures noted { (turns : ℕ) → Sees turns walked.old target.old walked.new result (poll_seen sequence.now path.now (mask, requested) count) }
 {
     match count_step(walked) {
         Ok(()) => {}

@@ -100,7 +100,8 @@ fn answer_run(ended: Result<(), Stopped>, walked: Walked) -> Result<Logged, OutO
     ensures answer { (p : Program) (start target : TargetState) → Means walked.entry.held.end ended (now walked.entry target) (meaning (start_world start None) p None)
         → (end_state (meaning (start_world start None) p None)).units ≡ units_of (outcome p start None) → IfOk result (λ run. IsRun p start target run) }
     ensures seen { (turns : ℕ) (p : Program) (start : TargetState) (first : SeenSoFar) → IsStart first
-        → Unless walked.entry.held.end ended (Notes turns first (seen walked.entry) (λ shows. events_in shows (start_world start None) p None)) → IfOk result (λ run. IsSeen turns p start run) }
+        → Unless walked.entry.held.end ended (Notes turns first (seen walked.entry) (λ shows. events_in shows (start_world start None) p None))
+        → IfOk result (λ run. IsSeen turns p start run) }
 {
     let ending = match ending_of(ended, &walked.held) {
         Ok(ending) => ending,

@@ -1,7 +1,7 @@
 //! What is seen, noted in the log and elsewhere: each call notes one event, or what is seen of one call of a function.
-ghost use Rattle.std.specs.Prelude.{◌≡◌, ◌∷◌, [], ◌≤◌, ℕ, false, true, Some, OnErr, OnOk};
+ghost use Rattle.std.specs.Prelude.{◌≡◌, ◌∷◌, [], ◌≤◌, ℕ, false, Some, OnErr, OnOk};
 ghost use Rattle.expr_grammar.specs.Tree.{stmt_tree, tree};
-ghost use Rattle.logged_calls.specs.Held.{Means, Unless, poll_value};
+ghost use Rattle.logged_calls.specs.Held.{poll_value};
 ghost use Rattle.logged_calls.specs.declared.held.LoggedEnd.TheVariants as end;
 ghost use Rattle.log_lines.specs.Places.{condition_spot, debug_spot, spot_in};
 ghost use Rattle.run_events.specs.Events as e;
@@ -14,9 +14,9 @@ ghost use Rattle.sequence_rules.specs.Steps.{dropped};
 ghost use Rattle.sequence_trees.specs.declared.spot.Part.TheVariants as part;
 ghost use Rattle.sequence_trees.specs.declared.spot.Spot.{Spot};
 ghost use Rattle.target_machine.specs.Plain.{Answered};
-ghost use Rattle.target_machine.specs.State.{TargetState};
-ghost use Rattle.logged_runs.specs.Seen.{Notes, NotesAll, is_error_call};
-ghost use Rattle.logged_runs.specs.Walk.{now, seen};
+ghost use Rattle.logged_runs.specs.Seen.{is_error_call};
+ghost use Rattle.logged_runs.specs.OfSteps.{while_spot};
+ghost use Rattle.logged_runs.specs.Walk.{CoversAll, NotesOne, Sees, WalksAs, now};
 
 use crate::walked::Walked;
 use dap_base::Place;
@@ -67,9 +67,7 @@ impl<'a> Walked<'a> {
         path: &[u64],
         statement: &'a Stmt,
     ) -> Result<(), Stopped>
-        ensures state { (target : TargetState) → OnOk result (now self.new target ≡ now self.old target) }
-        ensures refused { OnErr result (self.new.held.end ≡ end.OutOfMemory) }
-        ensures noted { (turns : ℕ) → OnOk result (Notes turns (seen self.old) (seen self.new) (λ shows. e.Begins (spot_in sequence.now path.now part.Block (place_of (stmt_tree statement.now))) (stmt_tree statement.now) ∷ [])) }
+        ensures { NotesOne self.old self.new result (e.Begins (spot_in sequence.now path.now part.Block (place_of (stmt_tree statement.now))) (stmt_tree statement.now)) }
     {
         let Ok(()) = self.held.log.begin(sequence, path, statement) else {
             return self.refuse();
@@ -88,9 +86,7 @@ impl<'a> Walked<'a> {
 
     /// A declaration of the debug variables begins.
     pub fn begin_debug(&mut self, statement: &'a Stmt) -> Result<(), Stopped>
-        ensures state { (target : TargetState) → OnOk result (now self.new target ≡ now self.old target) }
-        ensures refused { OnErr result (self.new.held.end ≡ end.OutOfMemory) }
-        ensures noted { (turns : ℕ) → OnOk result (Notes turns (seen self.old) (seen self.new) (λ shows. e.Begins (debug_spot (place_of (stmt_tree statement.now))) (stmt_tree statement.now) ∷ [])) }
+        ensures { NotesOne self.old self.new result (e.Begins (debug_spot (place_of (stmt_tree statement.now))) (stmt_tree statement.now)) }
     {
         let Ok(()) = self.held.log.begin_debug(statement) else {
             return self.refuse();
@@ -103,9 +99,7 @@ impl<'a> Walked<'a> {
 
     /// The `if` of a control begins.
     pub fn test(&mut self, sequence: &'a str, path: &[u64], expr: &'a Expr) -> Result<(), Stopped>
-        ensures state { (target : TargetState) → OnOk result (now self.new target ≡ now self.old target) }
-        ensures refused { OnErr result (self.new.held.end ≡ end.OutOfMemory) }
-        ensures noted { (turns : ℕ) → OnOk result (Notes turns (seen self.old) (seen self.new) (λ shows. e.Tests (condition_spot sequence.now path.now part.If) (tree expr.now) ∷ [])) }
+        ensures { NotesOne self.old self.new result (e.Tests (condition_spot sequence.now path.now part.If) (tree expr.now)) }
     {
         let Ok(()) = self.held.log.test(sequence, path, expr) else {
             return self.refuse();
@@ -118,9 +112,7 @@ impl<'a> Walked<'a> {
 
     /// The `if` of a control has this value.
     pub fn choose(&mut self, sequence: &str, path: &[u64], value: u64) -> Result<(), Stopped>
-        ensures state { (target : TargetState) → OnOk result (now self.new target ≡ now self.old target) }
-        ensures refused { OnErr result (self.new.held.end ≡ end.OutOfMemory) }
-        ensures noted { (turns : ℕ) → OnOk result (Notes turns (seen self.old) (seen self.new) (λ shows. e.Chooses (condition_spot sequence.now path.now part.If) value ∷ [])) }
+        ensures { NotesOne self.old self.new result (e.Chooses (condition_spot sequence.now path.now part.If) value) }
     {
         let Ok(()) = self.held.log.choose(value) else {
             return self.refuse();
@@ -139,9 +131,7 @@ impl<'a> Walked<'a> {
         expr: &'a Expr,
         count: u32,
     ) -> Result<(), Stopped>
-        ensures state { (target : TargetState) → OnOk result (now self.new target ≡ now self.old target) }
-        ensures refused { OnErr result (self.new.held.end ≡ end.OutOfMemory) }
-        ensures noted { (turns : ℕ) → OnOk result (Notes turns (seen self.old) (seen self.new) (λ shows. e.Loops (condition_spot sequence.now path.now part.While) (tree expr.now) count ∷ [])) }
+        ensures { NotesOne self.old self.new result (e.Loops (while_spot sequence.now path.now) (tree expr.now) count) }
     {
         let Ok(()) = self.held.log.begin_loop(sequence, path, expr, count) else {
             return self.refuse();
@@ -154,9 +144,7 @@ impl<'a> Walked<'a> {
 
     /// The turn of this number begins.
     pub fn turn(&mut self, sequence: &str, path: &[u64], number: u32) -> Result<(), Stopped>
-        ensures state { (target : TargetState) → OnOk result (now self.new target ≡ now self.old target) }
-        ensures refused { OnErr result (self.new.held.end ≡ end.OutOfMemory) }
-        ensures noted { (turns : ℕ) → OnOk result (Notes turns (seen self.old) (seen self.new) (λ shows. e.Turns (condition_spot sequence.now path.now part.While) number ∷ [])) }
+        ensures { NotesOne self.old self.new result (e.Turns (while_spot sequence.now path.now) number) }
     {
         let Ok(()) = self.held.log.turn(number) else {
             return self.refuse();
@@ -169,9 +157,7 @@ impl<'a> Walked<'a> {
 
     /// The `while` has this value in the turn.
     pub fn find(&mut self, value: u64) -> Result<(), Stopped>
-        ensures state { (target : TargetState) → OnOk result (now self.new target ≡ now self.old target) }
-        ensures refused { OnErr result (self.new.held.end ≡ end.OutOfMemory) }
-        ensures noted { (turns : ℕ) (spot : Spot) → OnOk result (Notes turns (seen self.old) (seen self.new) (λ shows. e.Finds spot value ∷ [])) }
+        ensures { (spot : Spot) → NotesOne self.old self.new result (e.Finds spot value) }
     {
         let Ok(()) = self.held.log.find(value) else {
             return self.refuse();
@@ -181,9 +167,7 @@ impl<'a> Walked<'a> {
 
     /// The `while` is left in the turn of this number.
     pub fn leave_loop(&mut self, sequence: &str, path: &[u64], number: u32) -> Result<(), Stopped>
-        ensures state { (target : TargetState) → OnOk result (now self.new target ≡ now self.old target) }
-        ensures refused { OnErr result (self.new.held.end ≡ end.OutOfMemory) }
-        ensures noted { (turns : ℕ) → OnOk result (Notes turns (seen self.old) (seen self.new) (λ shows. e.Leaves (condition_spot sequence.now path.now part.While) number ∷ [])) }
+        ensures { NotesOne self.old self.new result (e.Leaves (while_spot sequence.now path.now) number) }
     {
         let Ok(()) = self.held.log.leave_loop(number) else {
             return self.refuse();
@@ -196,9 +180,7 @@ impl<'a> Walked<'a> {
 
     /// The `while` has made so many turns, all that its timeout allows.
     pub fn time_out(&mut self, sequence: &str, path: &[u64], count: u32) -> Result<(), Stopped>
-        ensures state { (target : TargetState) → OnOk result (now self.new target ≡ now self.old target) }
-        ensures refused { OnErr result (self.new.held.end ≡ end.OutOfMemory) }
-        ensures noted { (turns : ℕ) → OnOk result (Notes turns (seen self.old) (seen self.new) (λ shows. e.TimesOut (condition_spot sequence.now path.now part.While) count ∷ [])) }
+        ensures { NotesOne self.old self.new result (e.TimesOut (while_spot sequence.now path.now) count) }
     {
         let Ok(()) = self.held.log.time_out(count) else {
             return self.refuse();
@@ -212,9 +194,7 @@ impl<'a> Walked<'a> {
 
     /// The variable of this name has this value now.
     pub fn assign(&mut self, name: &'a str, value: u64) -> Result<(), Stopped>
-        ensures state { (target : TargetState) → OnOk result (now self.new target ≡ now self.old target) }
-        ensures refused { OnErr result (self.new.held.end ≡ end.OutOfMemory) }
-        ensures noted { (turns : ℕ) → OnOk result (Notes turns (seen self.old) (seen self.new) (λ shows. e.Assigns name.now value ∷ [])) }
+        ensures { NotesOne self.old self.new result (e.Assigns name.now value) }
     {
         let Ok(()) = self.held.log.assign(name, value) else {
             return self.refuse();
@@ -224,9 +204,7 @@ impl<'a> Walked<'a> {
 
     /// The sequence of this name is called.
     pub fn call(&mut self, name: &'a str) -> Result<(), Stopped>
-        ensures state { (target : TargetState) → OnOk result (now self.new target ≡ now self.old target) }
-        ensures refused { OnErr result (self.new.held.end ≡ end.OutOfMemory) }
-        ensures noted { (turns : ℕ) → OnOk result (Notes turns (seen self.old) (seen self.new) (λ shows. e.Calls name.now ∷ [])) }
+        ensures { NotesOne self.old self.new result (e.Calls name.now) }
     {
         let Ok(()) = self.held.log.call(name) else {
             return self.refuse();
@@ -239,9 +217,7 @@ impl<'a> Walked<'a> {
 
     /// The last sequence that was called, and has not returned, returns.
     pub fn return_back(&mut self) -> Result<(), Stopped>
-        ensures state { (target : TargetState) → OnOk result (now self.new target ≡ now self.old target) }
-        ensures refused { OnErr result (self.new.held.end ≡ end.OutOfMemory) }
-        ensures noted { (turns : ℕ) → OnOk result (Notes turns (seen self.old) (seen self.new) (λ shows. e.Returns ∷ [])) }
+        ensures { NotesOne self.old self.new result e.Returns }
     {
         let Ok(()) = self.held.log.return_back() else {
             return self.refuse();
@@ -259,8 +235,8 @@ impl<'a> Walked<'a> {
         numbers: &[u64],
         target: &mut Target,
     ) -> Result<u64, Stopped>
-        ensures gives { Means self.new.held.end result (now self.new target.new) (function_result (direct false) function text.now numbers.now (now self.old target.old)) }
-        ensures noted { (turns : ℕ) → Unless self.new.held.end result (Notes turns (seen self.old) (seen self.new) (λ shows. function_events function text.now numbers.now (now self.old target.old))) }
+        ensures gives { WalksAs self.old target.old self.new target.new result (function_result (direct false) function text.now numbers.now) }
+        ensures noted { (turns : ℕ) → Sees turns self.old target.old self.new result (λ s shows. function_events function text.now numbers.now s) }
     {
         let value = match make_call(alloc, function, text, numbers, &mut self.held, target) {
             Ok(value) => value,
@@ -274,10 +250,7 @@ impl<'a> Walked<'a> {
 
     // A poll made all its turns.
     fn cover_timeout(&mut self, sequence: &str, path: &[u64]) -> Result<(), Stopped>
-        ensures state { (target : TargetState) → OnOk result (now self.new target ≡ now self.old target) }
-        ensures log { OnOk result (self.new.held.log ≡ self.old.held.log) }
-        ensures refused { OnErr result (self.new.held.end ≡ end.OutOfMemory) }
-        ensures noted { (count : ℕ) → OnOk result (NotesAll (seen self.old) (seen self.new) (e.TimesOut (condition_spot sequence.now path.now part.While) count ∷ [])) }
+        ensures { (count : ℕ) → CoversAll self.old self.new result (e.TimesOut (while_spot sequence.now path.now) count ∷ []) }
     {
         let Ok(()) = self.coverage.time_out(sequence, path) else {
             return self.refuse();
@@ -288,10 +261,7 @@ impl<'a> Walked<'a> {
 
     // A poll found its value.
     fn cover_match(&mut self, sequence: &str, path: &[u64]) -> Result<(), Stopped>
-        ensures state { (target : TargetState) → OnOk result (now self.new target ≡ now self.old target) }
-        ensures log { OnOk result (self.new.held.log ≡ self.old.held.log) }
-        ensures refused { OnErr result (self.new.held.end ≡ end.OutOfMemory) }
-        ensures noted { OnOk result (NotesAll (seen self.old) (seen self.new) (e.Matches (condition_spot sequence.now path.now part.While) ∷ [])) }
+        ensures { CoversAll self.old self.new result (e.Matches (while_spot sequence.now path.now) ∷ []) }
     {
         let Ok(()) = self.coverage.end_poll(sequence, path) else {
             return self.refuse();
@@ -301,10 +271,7 @@ impl<'a> Walked<'a> {
 
     // How a poll ended, by its value: all but the log.
     fn cover_poll(&mut self, sequence: &str, path: &[u64], value: u64) -> Result<(), Stopped>
-        ensures state { (target : TargetState) → OnOk result (now self.new target ≡ now self.old target) }
-        ensures log { OnOk result (self.new.held.log ≡ self.old.held.log) }
-        ensures refused { OnErr result (self.new.held.end ≡ end.OutOfMemory) }
-        ensures noted { (count : ℕ) → OnOk result (NotesAll (seen self.old) (seen self.new) (poll_end (condition_spot sequence.now path.now part.While) count (Some (Answered value)))) }
+        ensures { (count : ℕ) → CoversAll self.old self.new result (poll_end (while_spot sequence.now path.now) count (Some (Answered value))) }
     {
         if value == 0 {
             self.cover_timeout(sequence, path)
@@ -325,9 +292,9 @@ impl<'a> Walked<'a> {
     ) -> Result<(), Stopped>
         requires least { 1 ≤ count }
         requires most { count ≤ 60000000 }
-        ensures gives { Means self.new.held.end result (now self.new target.new) (dropped (direct false) (poll_value (mask, requested) count (now self.old target.old))) }
-        ensures noted { (turns : ℕ) → Unless self.new.held.end result (Notes turns (seen self.old) (seen self.new)
-            (λ shows. polled_events (condition_spot sequence.now path.now part.While) count (units_between (now self.old target.old) (now self.new target.new)))) }
+        ensures gives { WalksAs self.old target.old self.new target.new result (λ s. dropped (direct false) (poll_value (mask, requested) count s)) }
+        ensures noted { (turns : ℕ) → Sees turns self.old target.old self.new result
+            (λ s shows. polled_events (while_spot sequence.now path.now) count (units_between s (now self.new target.new))) }
     {
         let value = match ask_poll(mask, requested, count, &mut self.held, target) {
             Ok(value) => value,

@@ -1,13 +1,8 @@
 //! Whole runs: the debug variables, and then the sequence that a run starts with.
-ghost use Rattle.std.specs.Prelude.{[], false};
-ghost use Rattle.expr_grammar.specs.Tree.{code_trees, stmt_tree, tree};
-ghost use Rattle.logged_calls.specs.Held.{Means, Unless};
-ghost use Rattle.run_events.specs.OfRuns as r;
-ghost use Rattle.seq_check.specs.Answers.{checked_trees};
-ghost use Rattle.sequence_rules.specs.Direct.{direct};
-ghost use Rattle.sequence_rules.specs.Steps as m;
-ghost use Rattle.logged_runs.specs.Seen.{Notes};
-ghost use Rattle.logged_runs.specs.Walk.{debugged_one, defined, defined_events, now, one_events, seen};
+ghost use Rattle.std.specs.Prelude.{[]};
+ghost use Rattle.expr_grammar.specs.Tree.{stmt_tree, tree};
+ghost use Rattle.logged_runs.specs.OfSteps.{debugged_of, debugged_seen, run_of, run_seen};
+ghost use Rattle.logged_runs.specs.Walk.{Sees, WalksAs, debugged_one, defined, defined_events, one_events};
 
 use crate::runner::LoggedRunner;
 use crate::walked::Walked;
@@ -26,8 +21,8 @@ impl<'a> LoggedRunner<'a> {
         walked: &mut Walked<'a>,
         target: &mut Target,
     ) -> Result<(), Stopped>
-        ensures gives { Means walked.new.held.end result (now walked.new target.new) (defined self.now name.now (tree expr.now) (now walked.old target.old)) }
-        ensures noted { Unless walked.new.held.end result (Notes self.now.turns (seen walked.old) (seen walked.new) (λ shows. defined_events shows self.now name.now (tree expr.now) (now walked.old target.old))) }
+        ensures gives { WalksAs walked.old target.old walked.new target.new result (defined self.now name.now (tree expr.now)) }
+        ensures noted { Sees self.now.turns walked.old target.old walked.new result (λ s shows. defined_events shows self.now name.now (tree expr.now) s) }
     {
         let number = match self.evaluate(expr, 0, walked, target) {
             Ok(number) => number,
@@ -44,8 +39,8 @@ impl<'a> LoggedRunner<'a> {
         walked: &mut Walked<'a>,
         target: &mut Target,
     ) -> Result<(), Stopped>
-        ensures gives { Means walked.new.held.end result (now walked.new target.new) (debugged_one self.now (stmt_tree one.now) (now walked.old target.old)) }
-        ensures noted { Unless walked.new.held.end result (Notes self.now.turns (seen walked.old) (seen walked.new) (λ shows. one_events shows self.now (stmt_tree one.now) (now walked.old target.old))) }
+        ensures gives { WalksAs walked.old target.old walked.new target.new result (debugged_one self.now (stmt_tree one.now)) }
+        ensures noted { Sees self.now.turns walked.old target.old walked.new result (λ s shows. one_events shows self.now (stmt_tree one.now) s) }
     {
         match one {
             Stmt::Declare(name, expr) => {
@@ -67,8 +62,8 @@ impl<'a> LoggedRunner<'a> {
         walked: &mut Walked<'a>,
         target: &mut Target,
     ) -> Result<(), Stopped>
-        ensures gives { Means walked.new.held.end result (now walked.new target.new) (m.debugged (direct false) self.now.turn_us (checked_trees self.now.set.now) (code_trees code.now) (now walked.old target.old)) }
-        ensures noted { Unless walked.new.held.end result (Notes self.now.turns (seen walked.old) (seen walked.new) (λ shows. r.debugged_events shows self.now.turn_us (checked_trees self.now.set.now) (code_trees code.now) (now walked.old target.old))) }
+        ensures gives { WalksAs walked.old target.old walked.new target.new result (debugged_of self.now code.now) }
+        ensures noted { Sees self.now.turns walked.old target.old walked.new result (debugged_seen self.now code.now) }
     {
         for one in code {
             match self.define_one(one, walked, target) {
@@ -87,8 +82,8 @@ impl<'a> LoggedRunner<'a> {
         walked: &mut Walked<'a>,
         target: &mut Target,
     ) -> Result<(), Stopped>
-        ensures gives { Means walked.new.held.end result (now walked.new target.new) (m.run_of (direct false) self.now.turn_us (checked_trees self.now.set.now) start.now (now walked.old target.old)) }
-        ensures noted { Unless walked.new.held.end result (Notes self.now.turns (seen walked.old) (seen walked.new) (λ shows. r.run_events shows self.now.turn_us (checked_trees self.now.set.now) start.now (now walked.old target.old))) }
+        ensures gives { WalksAs walked.old target.old walked.new target.new result (run_of self.now start.now) }
+        ensures noted { Sees self.now.turns walked.old target.old walked.new result (run_seen self.now start.now) }
     {
         match self.define_all(self.set.debugvars().as_slice(), walked, target) {
             Ok(()) => {}

@@ -1,17 +1,12 @@
 //! Steps and statements.
 ghost use Rattle.std.specs.Prelude.{◌≡◌, [], ◌∷◌, ◌++◌, ◌<◌, false, IfOk};
-ghost use Rattle.expr_grammar.specs.Tree.{tree, stmt_tree, code_trees};
-ghost use Rattle.logged_calls.specs.Held.{Means, Unless};
-ghost use Rattle.run_events.specs.Events as e;
-ghost use Rattle.run_events.specs.OfSteps as os;
-ghost use Rattle.run_events.specs.OfValues as o;
 ghost use Rattle.sequence_rules.specs.Direct.{direct};
 ghost use Rattle.sequence_rules.specs.Steps as m;
-ghost use Rattle.sequence_rules.specs.Values as v;
-ghost use Rattle.sequence_trees.specs.Trees.{step_tree, steps_tree};
 ghost use Rattle.target_machine.specs.State.{TargetState};
-ghost use Rattle.logged_runs.specs.Seen.{Notes};
-ghost use Rattle.logged_runs.specs.Walk.{calls_of, events_of, now, seen, step_at};
+ghost use Rattle.logged_runs.specs.OfSteps.{block_of, block_seen, declared_of, declared_seen, done_seen, dropped_of};
+ghost use Rattle.logged_runs.specs.OfSteps.{dropped_seen, inner_seen, statement_of, statement_seen, step_of, step_seen, steps_of};
+ghost use Rattle.logged_runs.specs.OfSteps.{steps_seen};
+ghost use Rattle.logged_runs.specs.Walk.{Sees, WalksAs, seen};
 
 use crate::runner::LoggedRunner;
 use crate::walked::Walked;
@@ -36,8 +31,8 @@ impl<'a> LoggedRunner<'a> {
         walked: &mut Walked<'a>,
         target: &mut Target,
     ) -> Result<(), Stopped>
-        ensures gives { Means walked.new.held.end result (now walked.new target.new) (m.steps_result (direct false) self.now.turn_us (calls_of self.now depth) (steps_tree steps.now) (now walked.old target.old)) }
-        ensures noted { Unless walked.new.held.end result (Notes self.now.turns (seen walked.old) (seen walked.new) (λ shows. os.steps_events shows self.now.turn_us (calls_of self.now depth) (events_of shows self.now depth) (step_at sequence.now path.now) 0 (steps_tree steps.now) (now walked.old target.old))) }
+        ensures gives { WalksAs walked.old target.old walked.new target.new result (steps_of self.now depth steps.now) }
+        ensures noted { Sees self.now.turns walked.old target.old walked.new result (steps_seen self.now depth sequence.now path.now steps.now) }
     {
         for (number, step) in steps.iter().enumerate() {
             match self.run_inner(sequence, path, number as u64, step, depth, walked, target) {
@@ -60,8 +55,8 @@ impl<'a> LoggedRunner<'a> {
         walked: &mut Walked<'a>,
         target: &mut Target,
     ) -> Result<(), Stopped>
-        ensures gives { Means walked.new.held.end result (now walked.new target.new) (m.step (direct false) self.now.turn_us (calls_of self.now depth) (step_tree step.now) (now walked.old target.old)) }
-        ensures noted { Unless walked.new.held.end result (Notes self.now.turns (seen walked.old) (seen walked.new) (λ shows. os.step_events shows self.now.turn_us (calls_of self.now depth) (events_of shows self.now depth) (os.inner_step (step_at sequence.now path.now) number) (step_tree step.now) (now walked.old target.old))) }
+        ensures gives { WalksAs walked.old target.old walked.new target.new result (step_of self.now depth step.now) }
+        ensures noted { Sees self.now.turns walked.old target.old walked.new result (inner_seen self.now depth sequence.now path.now number step.now) }
     {
         let Ok(path) = inner_path(self.alloc, path, number) else {
             walked.held.end = LoggedEnd::OutOfMemory;
@@ -82,8 +77,8 @@ impl<'a> LoggedRunner<'a> {
         walked: &mut Walked<'a>,
         target: &mut Target,
     ) -> Result<(), Stopped>
-        ensures gives { Means walked.new.held.end result (now walked.new target.new) (m.step (direct false) self.now.turn_us (calls_of self.now depth) (step_tree step.now) (now walked.old target.old)) }
-        ensures noted { Unless walked.new.held.end result (Notes self.now.turns (seen walked.old) (seen walked.new) (λ shows. os.step_events shows self.now.turn_us (calls_of self.now depth) (events_of shows self.now depth) (step_at sequence.now path.now) (step_tree step.now) (now walked.old target.old))) }
+        ensures gives { WalksAs walked.old target.old walked.new target.new result (step_of self.now depth step.now) }
+        ensures noted { Sees self.now.turns walked.old target.old walked.new result (step_seen self.now depth sequence.now path.now step.now) }
     {
         match step {
             CheckedStep::Block(code) => {
@@ -120,8 +115,8 @@ impl<'a> LoggedRunner<'a> {
         walked: &mut Walked<'a>,
         target: &mut Target,
     ) -> Result<(), Stopped>
-        ensures gives { Means walked.new.held.end result (now walked.new target.new) (m.block (direct false) self.now.turn_us (calls_of self.now depth) (code_trees code.now) (now walked.old target.old)) }
-        ensures noted { Unless walked.new.held.end result (Notes self.now.turns (seen walked.old) (seen walked.new) (λ shows. os.block_events shows self.now.turn_us (calls_of self.now depth) (events_of shows self.now depth) (step_at sequence.now path.now) (code_trees code.now) (now walked.old target.old))) }
+        ensures gives { WalksAs walked.old target.old walked.new target.new result (block_of self.now depth code.now) }
+        ensures noted { Sees self.now.turns walked.old target.old walked.new result (block_seen self.now depth sequence.now path.now code.now) }
     {
         for one in code {
             match self.run_statement(sequence, path, one, depth, walked, target) {
@@ -144,8 +139,8 @@ impl<'a> LoggedRunner<'a> {
         walked: &mut Walked<'a>,
         target: &mut Target,
     ) -> Result<(), Stopped>
-        ensures gives { Means walked.new.held.end result (now walked.new target.new) (m.statement (direct false) self.now.turn_us (calls_of self.now depth) (stmt_tree one.now) (now walked.old target.old)) }
-        ensures noted { Unless walked.new.held.end result (Notes self.now.turns (seen walked.old) (seen walked.new) (λ shows. os.statement_events shows self.now.turn_us (calls_of self.now depth) (events_of shows self.now depth) (step_at sequence.now path.now) (stmt_tree one.now) (now walked.old target.old))) }
+        ensures gives { WalksAs walked.old target.old walked.new target.new result (statement_of self.now depth one.now) }
+        ensures noted { Sees self.now.turns walked.old target.old walked.new result (statement_seen self.now depth sequence.now path.now one.now) }
     {
         match walked.begin(sequence, path, one) {
             Ok(()) => {}
@@ -164,8 +159,8 @@ impl<'a> LoggedRunner<'a> {
         walked: &mut Walked<'a>,
         target: &mut Target,
     ) -> Result<(), Stopped>
-        ensures gives { Means walked.new.held.end result (now walked.new target.new) (m.statement (direct false) self.now.turn_us (calls_of self.now depth) (stmt_tree one.now) (now walked.old target.old)) }
-        ensures noted { Unless walked.new.held.end result (Notes self.now.turns (seen walked.old) (seen walked.new) (λ shows. e.after (m.counted (direct false) (now walked.old target.old)) (λ done r. os.done_events shows self.now.turn_us (calls_of self.now depth) (events_of shows self.now depth) (stmt_tree one.now) r))) }
+        ensures gives { WalksAs walked.old target.old walked.new target.new result (statement_of self.now depth one.now) }
+        ensures noted { Sees self.now.turns walked.old target.old walked.new result (done_seen self.now depth one.now) }
     {
         match one {
             Stmt::Empty(_) => count_step(walked),
@@ -185,8 +180,8 @@ impl<'a> LoggedRunner<'a> {
         walked: &mut Walked<'a>,
         target: &mut Target,
     ) -> Result<(), Stopped>
-        ensures gives { Means walked.new.held.end result (now walked.new target.new) (m.after_counted (direct false) (λ r. m.declared (direct false) name.now (v.value (direct false) (calls_of self.now depth) (tree expr.now) r)) (now walked.old target.old)) }
-        ensures noted { Unless walked.new.held.end result (Notes self.now.turns (seen walked.old) (seen walked.new) (λ shows. e.after (m.counted (direct false) (now walked.old target.old)) (λ done r. o.value_events (calls_of self.now depth) (events_of shows self.now depth) (tree expr.now) r ++ e.after (v.value (direct false) (calls_of self.now depth) (tree expr.now) r) (λ n q. e.Assigns name.now.text n ∷ [])))) }
+        ensures gives { WalksAs walked.old target.old walked.new target.new result (declared_of self.now depth name.now expr.now) }
+        ensures noted { Sees self.now.turns walked.old target.old walked.new result (declared_seen self.now depth name.now expr.now) }
     {
         match count_step(walked) {
             Ok(()) => {}
@@ -213,8 +208,8 @@ impl<'a> LoggedRunner<'a> {
         walked: &mut Walked<'a>,
         target: &mut Target,
     ) -> Result<(), Stopped>
-        ensures gives { Means walked.new.held.end result (now walked.new target.new) (m.after_counted (direct false) (λ r. m.dropped (direct false) (v.value (direct false) (calls_of self.now depth) (tree expr.now) r)) (now walked.old target.old)) }
-        ensures noted { Unless walked.new.held.end result (Notes self.now.turns (seen walked.old) (seen walked.new) (λ shows. e.after (m.counted (direct false) (now walked.old target.old)) (λ done r. o.value_events (calls_of self.now depth) (events_of shows self.now depth) (tree expr.now) r))) }
+        ensures gives { WalksAs walked.old target.old walked.new target.new result (dropped_of self.now depth expr.now) }
+        ensures noted { Sees self.now.turns walked.old target.old walked.new result (dropped_seen self.now depth expr.now) }
     {
         match count_step(walked) {
             Ok(()) => {}
@@ -239,7 +234,7 @@ fn inner_path(alloc: Global, path: &[u64], number: u64) -> Result<SmallVec<u64, 
 // Counts a step.
 #[tactic(auto, unfolding(sequence_rules::specs::Steps::counted))]
 pub(crate) fn count_step(walked: &mut Walked) -> Result<(), Stopped>
-    ensures gives { (target : TargetState) → Means walked.new.held.end result (now walked.new target) (m.counted (direct false) (now walked.old target)) }
+    ensures gives { (target : TargetState) → WalksAs walked.old target walked.new target result (m.counted (direct false)) }
     ensures seen { seen walked.new ≡ seen walked.old }
 {
     if walked.held.steps >= MOST_STEPS {

@@ -1,14 +1,9 @@
 //! The values of expressions.
-ghost use Rattle.std.specs.Prelude.{◌≡◌, [], ◌∷◌, ◌++◌, ◌<◌, Some, false, nat_eq, if◌then◌else◌};
+ghost use Rattle.std.specs.Prelude.{◌≡◌, ◌<◌};
 ghost use Rattle.expr_grammar.specs.Arithmetic.{truth};
-ghost use Rattle.expr_grammar.specs.Tree.{tree};
-ghost use Rattle.logged_calls.specs.Held.{Means, Unless};
-ghost use Rattle.run_events.specs.Events as e;
-ghost use Rattle.run_events.specs.OfValues as o;
-ghost use Rattle.sequence_rules.specs.Direct.{direct};
-ghost use Rattle.sequence_rules.specs.Values as v;
-ghost use Rattle.logged_runs.specs.Seen.{Notes};
-ghost use Rattle.logged_runs.specs.Walk.{calls_of, events_of, now, seen};
+ghost use Rattle.logged_runs.specs.OfValues.{and_of, and_seen, assigned_of, assigned_seen, binary_of, binary_seen, choice_of};
+ghost use Rattle.logged_runs.specs.OfValues.{choice_seen, or_of, or_seen, strict_of, strict_seen, unary_of, value_of, value_seen};
+ghost use Rattle.logged_runs.specs.Walk.{Sees, WalksAs};
 
 use crate::runner::LoggedRunner;
 use crate::walked::Walked;
@@ -27,8 +22,8 @@ impl<'a> LoggedRunner<'a> {
         walked: &mut Walked<'a>,
         target: &mut Target,
     ) -> Result<u64, Stopped>
-        ensures gives { Means walked.new.held.end result (now walked.new target.new) (v.value (direct false) (calls_of self.now depth) (tree expr.now) (now walked.old target.old)) }
-        ensures noted { Unless walked.new.held.end result (Notes self.now.turns (seen walked.old) (seen walked.new) (λ shows. o.value_events (calls_of self.now depth) (events_of shows self.now depth) (tree expr.now) (now walked.old target.old))) }
+        ensures gives { WalksAs walked.old target.old walked.new target.new result (value_of self.now depth expr.now) }
+        ensures noted { Sees self.now.turns walked.old target.old walked.new result (value_seen self.now depth expr.now) }
     {
         match expr {
             Expr::Number(number) => Ok(*number),
@@ -57,8 +52,8 @@ impl<'a> LoggedRunner<'a> {
         walked: &mut Walked<'a>,
         target: &mut Target,
     ) -> Result<u64, Stopped>
-        ensures gives { Means walked.new.held.end result (now walked.new target.new) (v.of_unary (direct false) op (v.value (direct false) (calls_of self.now depth) (tree operand.now) (now walked.old target.old))) }
-        ensures noted { Unless walked.new.held.end result (Notes self.now.turns (seen walked.old) (seen walked.new) (λ shows. o.value_events (calls_of self.now depth) (events_of shows self.now depth) (tree operand.now) (now walked.old target.old))) }
+        ensures gives { WalksAs walked.old target.old walked.new target.new result (unary_of self.now depth op operand.now) }
+        ensures noted { Sees self.now.turns walked.old target.old walked.new result (value_seen self.now depth operand.now) }
     {
         let number = self.evaluate(operand, depth, walked, target)?;
         Ok(unary_value(op, number))
@@ -76,8 +71,8 @@ impl<'a> LoggedRunner<'a> {
         walked: &mut Walked<'a>,
         target: &mut Target,
     ) -> Result<u64, Stopped>
-        ensures gives { Means walked.new.held.end result (now walked.new target.new) (v.strict_binary (direct false) op (v.value (direct false) (calls_of self.now depth) (tree left.now) (now walked.old target.old)) (v.value (direct false) (calls_of self.now depth) (tree right.now))) }
-        ensures noted { Unless walked.new.held.end result (Notes self.now.turns (seen walked.old) (seen walked.new) (λ shows. o.value_events (calls_of self.now depth) (events_of shows self.now depth) (tree left.now) (now walked.old target.old) ++ e.after (v.value (direct false) (calls_of self.now depth) (tree left.now) (now walked.old target.old)) (λ n r. o.value_events (calls_of self.now depth) (events_of shows self.now depth) (tree right.now) r))) }
+        ensures gives { WalksAs walked.old target.old walked.new target.new result (strict_of self.now depth op left.now right.now) }
+        ensures noted { Sees self.now.turns walked.old target.old walked.new result (strict_seen self.now depth left.now right.now) }
     {
         let left = match self.evaluate(left, depth, walked, target) {
             Ok(left) => left,
@@ -107,8 +102,8 @@ impl<'a> LoggedRunner<'a> {
         walked: &mut Walked<'a>,
         target: &mut Target,
     ) -> Result<u64, Stopped>
-        ensures gives { Means walked.new.held.end result (now walked.new target.new) (v.conjunction (direct false) (v.value (direct false) (calls_of self.now depth) (tree left.now) (now walked.old target.old)) (v.value (direct false) (calls_of self.now depth) (tree right.now))) }
-        ensures noted { Unless walked.new.held.end result (Notes self.now.turns (seen walked.old) (seen walked.new) (λ shows. o.value_events (calls_of self.now depth) (events_of shows self.now depth) (tree left.now) (now walked.old target.old) ++ e.after (v.value (direct false) (calls_of self.now depth) (tree left.now) (now walked.old target.old)) (λ n r. if nat_eq n 0 then [] else o.value_events (calls_of self.now depth) (events_of shows self.now depth) (tree right.now) r))) }
+        ensures gives { WalksAs walked.old target.old walked.new target.new result (and_of self.now depth left.now right.now) }
+        ensures noted { Sees self.now.turns walked.old target.old walked.new result (and_seen self.now depth left.now right.now) }
     {
         let left = match self.evaluate(left, depth, walked, target) {
             Ok(left) => left,
@@ -135,8 +130,8 @@ impl<'a> LoggedRunner<'a> {
         walked: &mut Walked<'a>,
         target: &mut Target,
     ) -> Result<u64, Stopped>
-        ensures gives { Means walked.new.held.end result (now walked.new target.new) (v.disjunction (direct false) (v.value (direct false) (calls_of self.now depth) (tree left.now) (now walked.old target.old)) (v.value (direct false) (calls_of self.now depth) (tree right.now))) }
-        ensures noted { Unless walked.new.held.end result (Notes self.now.turns (seen walked.old) (seen walked.new) (λ shows. o.value_events (calls_of self.now depth) (events_of shows self.now depth) (tree left.now) (now walked.old target.old) ++ e.after (v.value (direct false) (calls_of self.now depth) (tree left.now) (now walked.old target.old)) (λ n r. if nat_eq n 0 then o.value_events (calls_of self.now depth) (events_of shows self.now depth) (tree right.now) r else []))) }
+        ensures gives { WalksAs walked.old target.old walked.new target.new result (or_of self.now depth left.now right.now) }
+        ensures noted { Sees self.now.turns walked.old target.old walked.new result (or_seen self.now depth left.now right.now) }
     {
         let left = match self.evaluate(left, depth, walked, target) {
             Ok(left) => left,
@@ -164,8 +159,8 @@ impl<'a> LoggedRunner<'a> {
         walked: &mut Walked<'a>,
         target: &mut Target,
     ) -> Result<u64, Stopped>
-        ensures gives { Means walked.new.held.end result (now walked.new target.new) (v.of_binary (direct false) op (v.value (direct false) (calls_of self.now depth) (tree left.now) (now walked.old target.old)) (v.value (direct false) (calls_of self.now depth) (tree right.now))) }
-        ensures noted { Unless walked.new.held.end result (Notes self.now.turns (seen walked.old) (seen walked.new) (λ shows. o.value_events (calls_of self.now depth) (events_of shows self.now depth) (tree left.now) (now walked.old target.old) ++ e.after (v.value (direct false) (calls_of self.now depth) (tree left.now) (now walked.old target.old)) (λ n r. if o.needs_right op n then o.value_events (calls_of self.now depth) (events_of shows self.now depth) (tree right.now) r else []))) }
+        ensures gives { WalksAs walked.old target.old walked.new target.new result (binary_of self.now depth op left.now right.now) }
+        ensures noted { Sees self.now.turns walked.old target.old walked.new result (binary_seen self.now depth op left.now right.now) }
     {
         match op {
             BinaryOp::And => self.evaluate_and(left, right, depth, walked, target),
@@ -186,8 +181,8 @@ impl<'a> LoggedRunner<'a> {
         walked: &mut Walked<'a>,
         target: &mut Target,
     ) -> Result<u64, Stopped>
-        ensures gives { Means walked.new.held.end result (now walked.new target.new) (v.choice (direct false) (v.value (direct false) (calls_of self.now depth) (tree test.now) (now walked.old target.old)) (v.value (direct false) (calls_of self.now depth) (tree first.now)) (v.value (direct false) (calls_of self.now depth) (tree second.now))) }
-        ensures noted { Unless walked.new.held.end result (Notes self.now.turns (seen walked.old) (seen walked.new) (λ shows. o.value_events (calls_of self.now depth) (events_of shows self.now depth) (tree test.now) (now walked.old target.old) ++ e.after (v.value (direct false) (calls_of self.now depth) (tree test.now) (now walked.old target.old)) (λ n r. if nat_eq n 0 then o.value_events (calls_of self.now depth) (events_of shows self.now depth) (tree second.now) r else o.value_events (calls_of self.now depth) (events_of shows self.now depth) (tree first.now) r))) }
+        ensures gives { WalksAs walked.old target.old walked.new target.new result (choice_of self.now depth test.now first.now second.now) }
+        ensures noted { Sees self.now.turns walked.old target.old walked.new result (choice_seen self.now depth test.now first.now second.now) }
     {
         let number = match self.evaluate(test, depth, walked, target) {
             Ok(number) => number,
@@ -211,8 +206,8 @@ impl<'a> LoggedRunner<'a> {
         walked: &mut Walked<'a>,
         target: &mut Target,
     ) -> Result<u64, Stopped>
-        ensures gives { Means walked.new.held.end result (now walked.new target.new) (v.assigned (direct false) name.now (v.value (direct false) (calls_of self.now depth) (tree right.now) (now walked.old target.old))) }
-        ensures noted { Unless walked.new.held.end result (Notes self.now.turns (seen walked.old) (seen walked.new) (λ shows. o.value_events (calls_of self.now depth) (events_of shows self.now depth) (tree right.now) (now walked.old target.old) ++ e.after (v.value (direct false) (calls_of self.now depth) (tree right.now) (now walked.old target.old)) (λ n r. e.Assigns name.now.text n ∷ []))) }
+        ensures gives { WalksAs walked.old target.old walked.new target.new result (assigned_of self.now depth name.now right.now) }
+        ensures noted { Sees self.now.turns walked.old target.old walked.new result (assigned_seen self.now depth name.now right.now) }
     {
         let number = self.evaluate(right, depth, walked, target)?;
         walked.store(name.text.as_str(), number);

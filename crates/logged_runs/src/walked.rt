@@ -8,7 +8,7 @@ ghost use Rattle.sequence_rules.specs.Locals.{locals_of};
 ghost use Rattle.sequence_rules.specs.Machine.{with_locals, with_variables};
 ghost use Rattle.sequence_rules.specs.Shared.{bindings_of};
 ghost use Rattle.sequence_rules.specs.Variables.{bound, set_in, set_visible, value_named, visible};
-ghost use Rattle.logged_runs.specs.Walk.{now, seen};
+ghost use Rattle.logged_runs.specs.Walk.{Changes, now};
 
 use crate::places::Places;
 use dap_base::{NameText, OutOfMemory};
@@ -85,8 +85,7 @@ impl<'a> Walked<'a> {
 
     /// Gives a visible variable a value.
     pub fn store(&mut self, name: &str, value: u64)
-        ensures state { (target : TargetState) → now self.new target ≡ set_visible name.now value (now self.old target) }
-        ensures seen { seen self.new ≡ seen self.old }
+        ensures { Changes self.old self.new (set_visible name.now value) }
     {
         if !self.held.locals.set(name, value) {
             self.held.globals.set(name, value);
@@ -95,8 +94,7 @@ impl<'a> Walked<'a> {
 
     /// Declares a variable of the running sequence.
     pub fn declare(&mut self, alloc: Global, name: &NameText, value: u64) -> Result<(), OutOfMemory>
-        ensures state { (target : TargetState) → OnOk result (now self.new target ≡ with_locals (now self.old target) (locals_of self.old.held.locals ++ bound name.now value ∷ [])) }
-        ensures seen { OnOk result (seen self.new ≡ seen self.old) }
+        ensures { OnOk result (Changes self.old self.new (λ s. with_locals s (s.locals ++ bound name.now value ∷ []))) }
     {
         self.held.locals.add(alloc, name.as_str(), value)
     }
@@ -111,41 +109,35 @@ impl<'a> Walked<'a> {
     /// Takes the variables of the running sequence out.
     pub fn take_locals(&mut self, alloc: Global) -> Locals<u64>
         ensures taken { locals_of result ≡ locals_of self.old.held.locals }
-        ensures state { (target : TargetState) → now self.new target ≡ with_locals (now self.old target) [] }
-        ensures seen { seen self.new ≡ seen self.old }
+        ensures changes { Changes self.old self.new (λ s. with_locals s []) }
     {
         mem::replace(&mut self.held.locals, Locals::new(alloc))
     }
 
     /// Drops the variables of the running sequence after the first `len`.
     pub fn cut_back(&mut self, len: usize)
-        ensures state { (target : TargetState) → now self.new target ≡ with_locals (now self.old target) (take len (locals_of self.old.held.locals)) }
-        ensures seen { seen self.new ≡ seen self.old }
+        ensures { Changes self.old self.new (λ s. with_locals s (take len s.locals)) }
     {
         self.held.locals.truncate(len);
     }
 
     // Gives a variable that all sequences share a value.
     fn set_global(&mut self, name: &str, value: u64)
-        ensures state { (target : TargetState) → now self.new target
-            ≡ with_variables (now self.old target) (set_in (bindings_of self.old.held.globals) name.now value) (locals_of self.old.held.locals) }
-        ensures seen { seen self.new ≡ seen self.old }
+        ensures { Changes self.old self.new (λ s. with_variables s (set_in s.globals name.now value) s.locals) }
     {
         self.held.globals.set(name, value);
     }
 
     fn set_locals(&mut self, locals: Locals<u64>)
-        ensures state { (target : TargetState) → now self.new target ≡ with_locals (now self.old target) (locals_of locals) }
-        ensures seen { seen self.new ≡ seen self.old }
+        ensures { Changes self.old self.new (λ s. with_locals s (locals_of locals)) }
     {
         self.held.locals = locals;
     }
 
     /// Returns from a called sequence: gives the caller its `__dp`, `__ap` and `__errorcontrol`, and its own variables.
     pub fn give_back(&mut self, dp: u64, ap: u64, control: u64, locals: Locals<u64>)
-        ensures state { (target : TargetState) → now self.new target ≡ with_variables (now self.old target)
-            (set_in (set_in (set_in (bindings_of self.old.held.globals) (codes "__dp") dp) (codes "__ap") ap) (codes "__errorcontrol") control) (locals_of locals) }
-        ensures seen { seen self.new ≡ seen self.old }
+        ensures { Changes self.old self.new
+            (λ s. with_variables s (set_in (set_in (set_in s.globals (codes "__dp") dp) (codes "__ap") ap) (codes "__errorcontrol") control) (locals_of locals)) }
     {
         self.set_global("__dp", dp);
         self.set_global("__ap", ap);

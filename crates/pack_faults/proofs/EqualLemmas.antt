@@ -1,6 +1,7 @@
 -- Sets that are the same are equal.
 use Rattle.std.proofs.Common.{◌≡◌, ◌∙◌, ℕ, suc, ◌+◌, ◌<◌, ◌==◌, Bool, true, false, ◌&&◌, if◌then◌else◌, List, [], ◌∷◌, Option, Some, None, bytes_eq, length, drop, drop-cons, add-one, get_or, refl, ap, sym, true≢false, eqb-true, arith}
 use Rattle.std.proofs.lemmas.Slice.Eq.{bytes_eq-Decides}
+use Rattle.std.proofs.lemmas.Bool.{and_parts}
 use Rattle.device_tree.specs.Same.{same_text}
 use Rattle.device_tree.specs.StepTree.{StepTree, no_steps, block, control}
 use Rattle.device_tree.specs.StepsView.{steps_view}
@@ -10,7 +11,7 @@ use Rattle.sequence_resolve.specs.declared.entry.LevelKind.{LevelKind}
 use Rattle.sequence_resolve.specs.declared.entry.LevelKind.TheVariants as kinds
 use Rattle.sequence_resolve.specs.declared.entry.SeqEntry.{SeqEntry}
 use Rattle.sequence_resolve.specs.declared.entry.SeqSet.{SeqSet}
-use Rattle.set_lines.proofs.SameLemmas.{both, text_equal}
+use Rattle.set_lines.proofs.SameLemmas.{text_equal}
 use Rattle.pack_faults.specs.Equal.{same_flag, same_number, same_steps, same_step, all_same, level_number, same_entry, same_set}
 
 -- ---- item by item
@@ -40,7 +41,7 @@ all_equal same h [] [] e = refl
 all_equal same h [] (y ∷ ys) e = absurd (true≢false (sym e))
 all_equal same h (x ∷ xs) [] e = absurd (true≢false (sym e))
 all_equal same h (x ∷ xs) (y ∷ ys) e =
-    let p = both (same x y) (all_same same xs ys) e in
+    let p = and_parts (same x y) (all_same same xs ys) e in
     ap (λ z. z ∷ xs) (h x y p.0) ∙ ap (λ zs. y ∷ zs) (all_equal same h xs ys p.1)
 
 -- ---- steps
@@ -74,17 +75,17 @@ steps_equal no_steps (block d b more) e = absurd (true≢false (sym e))
 steps_equal no_steps (control d q u o more) e = absurd (true≢false (sym e))
 steps_equal (block c a rest) no_steps e = absurd (true≢false (sym e))
 steps_equal (block c a rest) (block d b more) e =
-    let p = both (bytes_eq c d && same_flag a b) (same_steps rest more) e in
-    let q = both (bytes_eq c d) (same_flag a b) p.0 in
+    let p = and_parts (bytes_eq c d && same_flag a b) (same_steps rest more) e in
+    let q = and_parts (bytes_eq c d) (same_flag a b) p.0 in
     ap (λ z. block z a rest) ((bytes_eq-Decides c d).0 q.0) ∙ ap (λ z. block d z rest) (flag_equal a b q.1) ∙ ap (block d b) (steps_equal rest more p.1)
 steps_equal (block c a rest) (control d q u o more) e = absurd (true≢false (sym e))
 steps_equal (control c r t s rest) no_steps e = absurd (true≢false (sym e))
 steps_equal (control c r t s rest) (block d b more) e = absurd (true≢false (sym e))
 steps_equal (control c r t s rest) (control d q u o more) e =
-    let p = both (same_text c d && (same_text r q && (same_number t u && same_steps s o))) (same_steps rest more) e in
-    let conds = both (same_text c d) _ p.0 in
-    let repeats = both (same_text r q) _ conds.1 in
-    let inner = both (same_number t u) (same_steps s o) repeats.1 in
+    let p = and_parts (same_text c d && (same_text r q && (same_number t u && same_steps s o))) (same_steps rest more) e in
+    let conds = and_parts (same_text c d) _ p.0 in
+    let repeats = and_parts (same_text r q) _ conds.1 in
+    let inner = and_parts (same_number t u) (same_steps s o) repeats.1 in
     ap (λ z. control z r t s rest) (text_equal c d conds.0) ∙ ap (λ z. control d z t s rest) (text_equal r q repeats.0)
     ∙ ap (λ z. control d q z s rest) (number_equal t u inner.0) ∙ ap (λ z. control d q u z rest) (steps_equal s o inner.1) ∙ ap (control d q u o) (steps_equal rest more p.1)
 
@@ -113,14 +114,14 @@ entry_equal_at x y p q r s =
 
 entry_equal : (x y : SeqEntry) → same_entry x y ≡ true → x ≡ y
 entry_equal x y e =
-    let names = both (bytes_eq x.name y.name) _ e in
-    let levels = both (level_number x.from == level_number y.from) _ names.1 in
-    let rest = both (same_flag x.disabled y.disabled) (same_steps x.steps y.steps) levels.1 in
+    let names = and_parts (bytes_eq x.name y.name) _ e in
+    let levels = and_parts (level_number x.from == level_number y.from) _ names.1 in
+    let rest = and_parts (same_flag x.disabled y.disabled) (same_steps x.steps y.steps) levels.1 in
     entry_equal_at x y ((bytes_eq-Decides x.name y.name).0 names.0) (level_equal x.from y.from levels.0) (flag_equal x.disabled y.disabled rest.0) (steps_equal x.steps y.steps rest.1)
 
 pub set_equal : (x y : SeqSet) → same_set x y ≡ true → x ≡ y
 set_equal x y e =
-    let p = both (bytes_eq x.debugvars y.debugvars) (all_same same_entry x.entries y.entries) e in
+    let p = and_parts (bytes_eq x.debugvars y.debugvars) (all_same same_entry x.entries y.entries) e in
     let vars : x.debugvars ≡ y.debugvars = (bytes_eq-Decides x.debugvars y.debugvars).0 p.0 in
     let list : x.entries ≡ y.entries = all_equal same_entry entry_equal x.entries y.entries p.1 in
     let first : x ≡ record y { debugvars = x.debugvars } = ap (λ v. record x { entries = v }) list in

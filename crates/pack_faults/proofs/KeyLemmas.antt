@@ -3,15 +3,16 @@ use Rattle.std.proofs.Common.{◌≡◌, ◌∙◌, ℕ, zero, suc, ◌+◌, ◌
 use Rattle.std.specs.Ordering.{is_eq, ordering_then, nat_cmp}
 use Rattle.std.specs.declared.cmp.Ordering.{Ordering}
 use Rattle.std.specs.declared.cmp.Ordering.TheVariants.{Less, Equal, Greater}
-use Rattle.std.specs.Cmp.{unsigned_tied}
+use Rattle.std.specs.Cmp.{unsigned_tied, both_ways}
 use Rattle.std.specs.Cmp.Lexicographic.{slice_cmp}
 use Rattle.std.specs.Option.{option_cmp}
 use Rattle.std.specs.BTreeMap.{BTreeMap, get}
 use Rattle.std.proofs.lemmas.Map.Text.{is_eq-slice_cmp}
 use Rattle.std.proofs.lemmas.Slice.Eq.{bytes_eq-Decides}
 use Rattle.std.proofs.lemmas.Option.{same_Some}
+use Rattle.std.proofs.lemmas.Bool.{and_parts}
 use Rattle.device_tree.specs.Same.{same_text}
-use Rattle.set_lines.proofs.SameLemmas.{both, text_equal}
+use Rattle.set_lines.proofs.SameLemmas.{text_equal}
 use Rattle.pack_faults.specs.declared.answer.Found.{Found}
 use Rattle.pack_faults.specs.declared.answer.PackFault.{PackFault}
 use Rattle.pack_faults.specs.declared.keys.FoundKey.{FoundKey}
@@ -21,6 +22,7 @@ use Rattle.pack_faults.specs.Merged.{same_found}
 use Rattle.pack_faults.specs.Lined.{lined_view}
 use Rattle.pack_faults.specs.Steps.{noted, with_found, with_each}
 use Rattle.pack_faults.proofs.SameLemmas.{and_true, text_itself, number_itself}
+use Rattle.sequence_resolve.proofs.WinnerLemmas.{not_first, later_at}
 
 -- ---- what is the same is equal
 
@@ -39,12 +41,12 @@ view_equal_at v w a b c d e f g =
 
 view_equal : (v w : KeyView) → same_view v w ≡ true → v ≡ w
 view_equal v w e =
-    let a = both (v.kind == w.kind) _ e in
-    let b = both _ (same_text v.text w.text) a.1 in
-    let c = both (same_text v.sequence w.sequence) _ b.0 in
-    let d = both (bytes_eq v.path w.path) _ c.1 in
-    let f = both (v.part == w.part) _ d.1 in
-    let g = both (v.line == w.line) (v.column == w.column) f.1 in
+    let a = and_parts (v.kind == w.kind) _ e in
+    let b = and_parts _ (same_text v.text w.text) a.1 in
+    let c = and_parts (same_text v.sequence w.sequence) _ b.0 in
+    let d = and_parts (bytes_eq v.path w.path) _ c.1 in
+    let f = and_parts (v.part == w.part) _ d.1 in
+    let g = and_parts (v.line == w.line) (v.column == w.column) f.1 in
     view_equal_at v w (eqb-true v.kind w.kind a.0) (text_equal v.sequence w.sequence c.0) ((bytes_eq-Decides v.path w.path).0 d.0) (eqb-true v.part w.part f.0)
     (eqb-true v.line w.line g.0) (eqb-true v.column w.column g.1) (text_equal v.text w.text b.1)
 
@@ -77,25 +79,20 @@ texts_tied None (Some y) = refl
 texts_tied (Some x) None = refl
 texts_tied (Some x) (Some y) = is_eq-slice_cmp x.now y.now
 
-pub same_bools : (a b : Bool) → (a ≡ true → b ≡ true) → (b ≡ true → a ≡ true) → a ≡ b
-same_bools true b there back = sym (there refl)
-same_bools false true there back = back refl
-same_bools false false there back = refl
-
 -- the same parts in the order of the fields
 abbrev in_order : KeyView → KeyView → Bool
 in_order v w = v.kind == w.kind && (v.line == w.line && (v.column == w.column && (v.part == w.part && (same_text v.sequence w.sequence && (bytes_eq v.path w.path && same_text v.text w.text)))))
 
 reordered : (v w : KeyView) → in_order v w ≡ same_view v w
-reordered v w = same_bools (in_order v w) (same_view v w) there back where
+reordered v w = both_ways (in_order v w) (same_view v w) there back where
   there : in_order v w ≡ true → same_view v w ≡ true
   there e =
-      let a = both (v.kind == w.kind) _ e in
-      let b = both (v.line == w.line) _ a.1 in
-      let c = both (v.column == w.column) _ b.1 in
-      let d = both (v.part == w.part) _ c.1 in
-      let f = both (same_text v.sequence w.sequence) _ d.1 in
-      let g = both (bytes_eq v.path w.path) (same_text v.text w.text) f.1 in
+      let a = and_parts (v.kind == w.kind) _ e in
+      let b = and_parts (v.line == w.line) _ a.1 in
+      let c = and_parts (v.column == w.column) _ b.1 in
+      let d = and_parts (v.part == w.part) _ c.1 in
+      let f = and_parts (same_text v.sequence w.sequence) _ d.1 in
+      let g = and_parts (bytes_eq v.path w.path) (same_text v.text w.text) f.1 in
       and_true (v.kind == w.kind) _ a.0 (and_true _ (same_text v.text w.text)
       (and_true (same_text v.sequence w.sequence) _ f.0 (and_true (bytes_eq v.path w.path) _ g.0 (and_true (v.part == w.part) _ d.0
       (and_true (v.line == w.line) (v.column == w.column) b.0 c.0)))) g.1)
@@ -123,17 +120,9 @@ key_tied p q =
 
 -- ---- where a fault is
 
-pub some_suc : (o : Option ℕ) (i : ℕ) → option_map (λ j. suc j) o ≡ Some i → (j : ℕ) × (o ≡ Some j) × (i ≡ suc j)
-some_suc None i e = absurd cc
-some_suc (Some j) i e = (j, refl, sym (same_Some (suc j) i e))
-
 none_suc : (o : Option ℕ) → option_map (λ j. suc j) o ≡ None → o ≡ None
 none_suc None e = refl
 none_suc (Some j) e = absurd cc
-
-pub nowhere : (b : Bool) (o : Option ℕ) → cond b (Some 0) (option_map (λ j. suc j) o) ≡ None → (b ≡ false) × (o ≡ None)
-nowhere true o e = absurd cc
-nowhere false o e = (refl, none_suc o e)
 
 pub within_at : (b : Bool) (o : Option ℕ) (n i : ℕ) → ((j : ℕ) → o ≡ Some j → j < n) → cond b (Some 0) (option_map (λ j. suc j) o) ≡ Some i → i < n + 1
 within_at true o n i less e = let same : 0 ≡ i = same_Some 0 i e in omega arith
@@ -155,7 +144,7 @@ there_at : (k : ℕ) (x : Found) (p : PackFault) (faults : List PackFault) (i : 
     → cond b (record { found = p.found; sets = noted k p.sets } ∷ faults) (p ∷ with_found k x faults) ≡ noted_at k (p ∷ faults) i d
 there_at k x p faults i d true is later e = rw (← same_Some 0 i e) refl
 there_at k x p faults i d false is later e =
-    let at = some_suc (place_in (found_view x) faults) i e in
+    let at = later_at (place_in (found_view x) faults) i e in
     rw at.2 (ap (λ ps. p ∷ ps) (later at.0 at.1))
 
 pub found_there : (k : ℕ) (x : Found) (faults : List PackFault) (i : ℕ) (d : PackFault) → place_in (found_view x) faults ≡ Some i → with_found k x faults ≡ noted_at k faults i d
@@ -165,7 +154,7 @@ found_there k x (p ∷ faults) i d e = there_at k x p faults i d (same_found x p
 pub found_last : (k : ℕ) (x : Found) (faults : List PackFault) → place_in (found_view x) faults ≡ None → with_found k x faults ≡ faults ++ record { found = x; sets = k ∷ [] } ∷ []
 found_last k x [] e = refl
 found_last k x (p ∷ faults) e =
-    let parts = nowhere (same_found x p.found) (place_in (found_view x) faults) e in
+    let parts = not_first (same_found x p.found) (place_in (found_view x) faults) e in
     rw parts.0 (ap (λ ps. p ∷ ps) (found_last k x faults parts.1))
 
 -- a change of the sets moves nothing
@@ -182,7 +171,7 @@ place_before v (q ∷ faults) p e = ap (λ o. cond (same_view v (found_view q.fo
 place_last : (v : KeyView) (faults : List PackFault) (p : PackFault) → place_in v faults ≡ None → same_view v (found_view p.found) ≡ true → place_in v (faults ++ p ∷ []) ≡ Some (length faults)
 place_last v [] p none e = rw e refl
 place_last v (q ∷ faults) p none e =
-    let parts = nowhere (same_view v (found_view q.found)) (place_in v faults) none in
+    let parts = not_first (same_view v (found_view q.found)) (place_in v faults) none in
     rw (parts.0, place_last v faults p parts.1 e) refl
 
 -- ---- the map

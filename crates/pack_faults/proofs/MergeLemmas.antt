@@ -1,8 +1,10 @@
 -- What is found in one more set, after what was found before.
-use Rattle.std.proofs.Common.{◌≡◌, ◌∙◌, ℕ, suc, ◌+◌, ◌-◌, ◌<◌, ◌==◌, Bool, true, false, cond, ◌||◌, List, [], ◌∷◌, ◌++◌, map, length, Result, Ok, Err, OnOk, append_assoc, append-nil, refl, ap, sym, subst, true≢false, eq-eqb, ne_eqb, arith}
+use Rattle.std.proofs.Common.{◌≡◌, ◌∙◌, ℕ, suc, ◌+◌, ◌-◌, ◌<◌, ◌==◌, Bool, true, false, cond, ◌||◌, List, [], ◌∷◌, ◌++◌, map, length, append_assoc, append-nil, refl, ap, sym, subst, true≢false, eq-eqb, ne_eqb, arith}
 use Rattle.std.specs.List.{AllByRecursion, list_any}
 use Rattle.std.proofs.lemmas.List.{map-append}
 use Rattle.std.proofs.lemmas.List.Folds.{list_any-append}
+use Rattle.std.proofs.Math.Bool.{or-false}
+use Rattle.std.proofs.lemmas.Bool.{or_parts}
 use Rattle.pack_faults.specs.declared.answer.Found.{Found}
 use Rattle.pack_faults.specs.Merged.{same_found, all_found, found_added, each_once, sets_having, with_sets, merged}
 use Rattle.pack_faults.specs.Steps.{is_last, noted, with_found, with_each}
@@ -17,20 +19,12 @@ Lists = List (List Found)
 abbrev has : Found → List Found → Bool
 has x fs = list_any (same_found x) fs
 
-or_false : (a b : Bool) → a || b ≡ false → (a ≡ false) × (b ≡ false)
-or_false true b e = absurd (true≢false e)
-or_false false b e = (refl, e)
-
 false_or : (a b : Bool) → a ≡ false → b ≡ false → a || b ≡ false
 false_or a b p q = rw (p, q) refl
 
 or_right : (a b c : Bool) → (a || (b || c)) ≡ ((a || b) || c)
 or_right true b c = refl
 or_right false b c = refl
-
-or_nil : (a : Bool) → (a || false) ≡ a
-or_nil true = refl
-or_nil false = refl
 
 or_self : (a b : Bool) → (b ≡ true → a ≡ true) → (a || b) ≡ a
 or_self true b h = refl
@@ -59,14 +53,14 @@ all_found-append (l ∷ done) found = ap (λ r. l ++ r) (all_found-append done f
 
 has_added_at : (seen : List Found) (f x : Found) (b : Bool) → has f seen ≡ b → has x (cond b seen (seen ++ f ∷ [])) ≡ (has x seen || same_found x f)
 has_added_at seen f x true is = sym (or_self (has x seen) (same_found x f) (λ same. subst (λ (z : Found). has z seen ≡ true) (sym (same_equal x f same)) is))
-has_added_at seen f x false is = list_any-append (same_found x) seen (f ∷ []) ∙ ap (λ b. has x seen || b) (or_nil (same_found x f))
+has_added_at seen f x false is = list_any-append (same_found x) seen (f ∷ []) ∙ ap (λ b. has x seen || b) (or-false (same_found x f))
 
 has_added : (seen : List Found) (f x : Found) → has x (found_added seen f) ≡ (has x seen || same_found x f)
 has_added seen f x = has_added_at seen f x (has f seen) refl
 
 -- what is found is among those that are each once, and no others
 pub has-each_once : (seen fs : List Found) (x : Found) → has x (each_once seen fs) ≡ (has x seen || has x fs)
-has-each_once seen [] x = sym (or_nil (has x seen))
+has-each_once seen [] x = sym (or-false (has x seen))
 has-each_once seen (f ∷ fs) x =
     has-each_once (found_added seen f) fs x ∙ ap (λ b. b || has x fs) (has_added seen f x) ∙ sym (or_right (has x seen) (same_found x f) (has x fs))
 
@@ -78,8 +72,8 @@ Apart (f ∷ fs) = (has f fs ≡ false) × Apart fs
 apart_last : (seen : List Found) (f : Found) → has f seen ≡ false → Apart seen → Apart (seen ++ f ∷ [])
 apart_last [] f lacks apart = (refl, tt)
 apart_last (g ∷ seen) f lacks apart =
-    let parts = or_false (same_found f g) (has f seen) lacks in (
-      list_any-append (same_found g) seen (f ∷ []) ∙ false_or (has g seen) (same_found g f || false) apart.0 (or_nil (same_found g f) ∙ turned f g parts.0),
+    let parts = or_parts (same_found f g) (has f seen) lacks in (
+      list_any-append (same_found g) seen (f ∷ []) ∙ false_or (has g seen) (same_found g f || false) apart.0 (or-false (same_found g f) ∙ turned f g parts.0),
       apart_last seen f parts.1 apart.1,
     )
 
@@ -158,7 +152,7 @@ has_last found x = list_any-append (same_found x) found (x ∷ []) ∙ at (has x
   at false = rw (same_itself x) refl
 
 has_other : (found : List Found) (x g : Found) → same_found g x ≡ false → has g (found ++ x ∷ []) ≡ has g found
-has_other found x g lacks = list_any-append (same_found g) found (x ∷ []) ∙ ap (λ b. has g found || (b || false)) lacks ∙ or_nil (has g found)
+has_other found x g lacks = list_any-append (same_found g) found (x ∷ []) ∙ ap (λ b. has g found || (b || false)) lacks ∙ or-false (has g found)
 
 sets_noted : (done : Lists) (found : List Found) (x : Found) → sets_having x 0 (after done found x) ≡ noted (length done) (sets_having x 0 (before done found))
 sets_noted done found x =
@@ -178,7 +172,7 @@ sets_other done found x g lacks =
 pub no_sets : (x : Found) (n : ℕ) (lists : Lists) → has x (all_found lists) ≡ false → sets_having x n lists ≡ []
 no_sets x n [] lacks = refl
 no_sets x n (l ∷ lists) lacks =
-    let parts = or_false (has x l) (has x (all_found lists)) (sym (list_any-append (same_found x) l (all_found lists)) ∙ lacks) in
+    let parts = or_parts (has x l) (has x (all_found lists)) (sym (list_any-append (same_found x) l (all_found lists)) ∙ lacks) in
     rw parts.0 (no_sets x (n + 1) lists parts.1)
 
 -- ---- the list so far
@@ -189,7 +183,7 @@ with_equal lists f ns e = ap (λ sets. record { found = f; sets = sets }) e
 others : (done : Lists) (found : List Found) (x : Found) (es : List Found) → has x es ≡ false → map (with_sets (after done found x)) es ≡ map (with_sets (before done found)) es
 others done found x [] lacks = refl
 others done found x (g ∷ es) lacks =
-    let parts = or_false (same_found x g) (has x es) lacks in
+    let parts = or_parts (same_found x g) (has x es) lacks in
     let first : with_sets (after done found x) g ≡ with_sets (before done found) g =
     with_equal (after done found x) g (sets_having g 0 (before done found)) (sets_other done found x g (turned x g parts.0)) in
     let rest = others done found x es parts.1 in
@@ -226,7 +220,7 @@ absent : (k : ℕ) (lists : Lists) (x : Found) (es : List Found) → has x es �
     → with_found k x (map (with_sets lists) es) ≡ map (with_sets lists) es ++ record { found = x; sets = k ∷ [] } ∷ []
 absent k lists x [] lacks = refl
 absent k lists x (g ∷ es) lacks =
-    let parts = or_false (same_found x g) (has x es) lacks in
+    let parts = or_parts (same_found x g) (has x es) lacks in
     rw parts.0 (ap (λ ps. with_sets lists g ∷ ps) (absent k lists x es parts.1))
 
 either : (done : Lists) (found : List Found) (x : Found) (es : List Found) (b : Bool) → has x es ≡ b → Apart es → (has x es ≡ false → sets_having x 0 (before done found) ≡ [])
@@ -268,9 +262,3 @@ merged_none done =
 -- one more set
 pub merged_set : (done : Lists) (fs : List Found) → with_each (length done) fs (merged done) ≡ merged (done ++ fs ∷ [])
 merged_set done fs = ap (with_each (length done) fs) (sym (merged_none done)) ∙ merged_more done [] fs
-
--- ---- as the code has it
-
-pub on_ok : {T E : Type 0} (r : Result T E) (P Q : Type 0) → OnOk r P → (P → Q) → OnOk r Q
-on_ok (Ok x) P Q h f = f h
-on_ok (Err e) P Q h f = tt

@@ -1,6 +1,7 @@
 -- What is the same is equal.
 use Rattle.std.proofs.Common.{◌≡◌, ◌∙◌, ℕ, ◌↔◌, ◌==◌, Bool, true, false, ◌&&◌, if◌then◌else◌, List, Option, Some, None, bytes_eq, refl, ap, sym, subst, true≢false, eq-eqb, eqb-true}
 use Rattle.std.proofs.lemmas.Slice.Eq.{bytes_eq-Decides}
+use Rattle.std.proofs.lemmas.Bool.{and_parts}
 use Rattle.device_tree.specs.Same.{same_text}
 use Rattle.sequence_trees.specs.declared.spot.Spot.{Spot}
 use Rattle.code_check.specs.declared.fault.FaultKind.{FaultKind}
@@ -8,7 +9,7 @@ use Rattle.code_check.specs.declared.fault.FaultKind.TheVariants as k
 use Rattle.code_check.specs.Order.{rank}
 use Rattle.dap_base.specs.declared.text.Place.{Place}
 use Rattle.set_lines.specs.Parts.{part_number}
-use Rattle.set_lines.proofs.SameLemmas.{both, same_part, text_equal}
+use Rattle.set_lines.proofs.SameLemmas.{same_part, text_equal}
 use Rattle.pack_faults.specs.declared.answer.Found.{Found}
 use Rattle.pack_faults.specs.Merged.{same_spot, same_found}
 
@@ -66,10 +67,10 @@ spot_equal_at x y p q r s =
 
 pub spot_equal : (x y : Spot) → same_spot x y ≡ true → x ≡ y
 spot_equal x y e =
-    let a = both (same_text x.sequence y.sequence) _ e in
-    let b = both (bytes_eq x.path y.path) _ a.1 in
-    let c = both (part_number x.part == part_number y.part) _ b.1 in
-    let d = both (x.place.line == y.place.line) (x.place.column == y.place.column) c.1 in
+    let a = and_parts (same_text x.sequence y.sequence) _ e in
+    let b = and_parts (bytes_eq x.path y.path) _ a.1 in
+    let c = and_parts (part_number x.part == part_number y.part) _ b.1 in
+    let d = and_parts (x.place.line == y.place.line) (x.place.column == y.place.column) c.1 in
     spot_equal_at x y (text_equal x.sequence y.sequence a.0) ((bytes_eq-Decides x.path y.path).0 b.0) (same_part x.part y.part c.0)
     (place_equal x.place y.place (eqb-true x.place.line y.place.line d.0) (eqb-true x.place.column y.place.column d.1))
 
@@ -97,8 +98,8 @@ found_equal_at x y p q r =
 
 pub same_equal : (x y : Found) → same_found x y ≡ true → x ≡ y
 same_equal x y e =
-    let a = both (rank x.fault.kind == rank y.fault.kind) _ e in
-    let b = both (same_spot x.fault.spot y.fault.spot) (same_text x.line y.line) a.1 in
+    let a = and_parts (rank x.fault.kind == rank y.fault.kind) _ e in
+    let b = and_parts (same_spot x.fault.spot y.fault.spot) (same_text x.line y.line) a.1 in
     found_equal_at x y (same_kind x.fault.kind y.fault.kind a.0) (spot_equal x.fault.spot y.fault.spot b.0) (text_equal x.line y.line b.1)
 
 pub same_itself : (x : Found) → same_found x x ≡ true

@@ -7,6 +7,7 @@ use Rattle.std.proofs.lemmas.Option.{slice_get-get_or, same_Some}
 use Rattle.std.proofs.lemmas.List.{map-append}
 use Rattle.std.proofs.lemmas.List.Elements.{All-weaker, All-push, All-append, All-map}
 use Rattle.std.proofs.lemmas.List.Quantifiers.{position-Some}
+use Rattle.std.proofs.lemmas.Bool.{and_parts}
 use Rattle.device_tree.specs.declared.pack.Level.{Level}
 use Rattle.device_tree.specs.declared.pack.Variant.{Variant}
 use Rattle.device_tree.specs.declared.pack.Pack.{Pack}
@@ -18,7 +19,6 @@ use Rattle.sequence_resolve.specs.Levels.{LevelAt, path_of, deepest}
 use Rattle.sequence_resolve.specs.Effective.{Candidate, candidates_at, candidates, AreWinners}
 use Rattle.sequence_resolve.specs.Resolving.{IsSetAlong}
 use Rattle.sequence_resolve.specs.Views.{place_view}
-use Rattle.set_lines.proofs.SameLemmas.{both}
 use Rattle.pack_faults.specs.declared.request.Request.{Request}
 use Rattle.pack_faults.specs.declared.known.KnownSet.{KnownSet}
 use Rattle.pack_faults.specs.declared.shared.PnameSet.{PnameSet}
@@ -40,16 +40,16 @@ no_text None e = refl
 no_text (Some x) e = absurd (true≢false (sym e))
 
 sequences_of : (level : Level) → is_bare level ≡ true → level.sequences ≡ []
-sequences_of level e = none_left level.sequences (both (is_empty level.sequences) (is_none level.debugvars) e).0
+sequences_of level e = none_left level.sequences (and_parts (is_empty level.sequences) (is_none level.debugvars) e).0
 
 debugvars_of : (level : Level) → is_bare level ≡ true → level.debugvars ≡ None
-debugvars_of level e = no_text level.debugvars (both (is_empty level.sequences) (is_none level.debugvars) e).1
+debugvars_of level e = no_text level.debugvars (and_parts (is_empty level.sequences) (is_none level.debugvars) e).1
 
 -- what is left of levels after a first one, which is left out where it and all after it have nothing
 candidates_at_first : (pname : Option (List ℕ)) (depth : ℕ) (l : LevelAt) (rest ls : List LevelAt) (b : Bool) → (is_bare l.level && is_empty rest) ≡ b
     → candidates pname (depth + 1) rest ≡ candidates pname (depth + 1) ls → candidates pname depth (cond b [] (l ∷ rest)) ≡ candidates pname depth (l ∷ ls)
 candidates_at_first pname depth l rest ls true is e =
-    let parts = both (is_bare l.level) (is_empty rest) is in
+    let parts = and_parts (is_bare l.level) (is_empty rest) is in
     let own : candidates_at pname l.kind depth l.level.sequences ≡ [] = ap (candidates_at pname l.kind depth) (sequences_of l.level parts.0) in
     let below : candidates pname (depth + 1) ls ≡ [] = sym e ∙ ap (candidates pname (depth + 1)) (none_left rest parts.1) in
     sym (ap (λ cs. cs ++ candidates pname (depth + 1) ls) own ∙ below)
@@ -63,7 +63,7 @@ candidates_trimmed pname depth (l ∷ ls) =
 deepest_at_first : (found : List ℕ) (l : LevelAt) (rest ls : List LevelAt) (b : Bool) → (is_bare l.level && is_empty rest) ≡ b
     → ((text : List ℕ) → deepest text rest ≡ deepest text ls) → deepest found (cond b [] (l ∷ rest)) ≡ deepest found (l ∷ ls)
 deepest_at_first found l rest ls true is e =
-    let parts = both (is_bare l.level) (is_empty rest) is in
+    let parts = and_parts (is_bare l.level) (is_empty rest) is in
     sym (ap (λ text. deepest (unwrap_or text found) ls) (debugvars_of l.level parts.0) ∙ sym (e found) ∙ ap (deepest found) (none_left rest parts.1))
 deepest_at_first found l rest ls false is e = e (unwrap_or l.level.debugvars found)
 
@@ -74,7 +74,7 @@ deepest_trimmed found (l ∷ ls) = deepest_at_first found l (trimmed ls) ls (is_
 pnames_at_first : (names : List (List ℕ)) (l : LevelAt) (rest ls : List LevelAt) (b : Bool) → (is_bare l.level && is_empty rest) ≡ b
     → ((more : List (List ℕ)) → pnames_along more rest ≡ pnames_along more ls) → pnames_along names (cond b [] (l ∷ rest)) ≡ pnames_along names (l ∷ ls)
 pnames_at_first names l rest ls true is e =
-    let parts = both (is_bare l.level) (is_empty rest) is in
+    let parts = and_parts (is_bare l.level) (is_empty rest) is in
     sym (ap (λ ss. pnames_along (pnames_after names ss) ls) (sequences_of l.level parts.0) ∙ sym (e names) ∙ ap (pnames_along names) (none_left rest parts.1))
 pnames_at_first names l rest ls false is e = e (pnames_after names l.level.sequences)
 

@@ -25,3 +25,4 @@ pub use known::KnownSet;
 pub use refusals::requested_sets;
 pub use request::{PackRefusal, Request, SetName};
 pub use sets::{DeviceSets, SetRef};
+pub use texts::copy_of;

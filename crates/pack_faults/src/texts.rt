@@ -14,7 +14,7 @@ pub fn text_of(name: Option<&NameText>) -> Option<&str>
     }
 }
 
-/// A copy of the text.
+/// A copy of a text, where there is one. `OutOfMemory` where memory is refused.
 pub fn copy_of(alloc: Global, text: Option<&str>) -> Result<Option<NameText>, OutOfMemory>
     ensures { IfOk result (λ copy. copy ≡ option_map (λ w. w.now) text.entry) }
 {

@@ -1,18 +1,19 @@
 -- Keys of warnings, and where each stands.
 use Rattle.std.proofs.Common.{◌≡◌, ◌∙◌, ℕ, zero, suc, ◌+◌, ◌<◌, ◌==◌, Bool, true, false, cond, ◌&&◌, List, [], ◌∷◌, ◌++◌, length, drop, drop-cons, add-one, map, get_or, slice_set, Option, Some, None, option_map, bytes_eq, refl, ap, sym, subst, true≢false, eqb-true, arith}
 use Rattle.std.specs.Ordering.{is_eq, nat_cmp}
-use Rattle.std.specs.Cmp.{unsigned_tied}
+use Rattle.std.specs.Cmp.{unsigned_tied, both_ways}
 use Rattle.std.specs.Cmp.Lexicographic.{slice_cmp}
 use Rattle.std.specs.Option.{option_cmp}
 use Rattle.std.specs.BTreeMap.{BTreeMap, get}
 use Rattle.std.proofs.lemmas.Map.Text.{is_eq-slice_cmp}
 use Rattle.std.proofs.lemmas.Slice.Eq.{bytes_eq-Decides}
 use Rattle.std.proofs.lemmas.Option.{same_Some}
+use Rattle.std.proofs.lemmas.Bool.{and_parts}
 use Rattle.device_tree.specs.Same.{same_text}
-use Rattle.set_lines.proofs.SameLemmas.{both, text_equal}
+use Rattle.set_lines.proofs.SameLemmas.{text_equal}
 use Rattle.pack_faults.specs.Steps.{noted}
 use Rattle.pack_faults.proofs.SameLemmas.{and_true, text_itself, number_itself}
-use Rattle.pack_faults.proofs.KeyLemmas.{text_cmp, texts_tied, same_bools, field, some_suc, nowhere, within_at}
+use Rattle.pack_faults.proofs.KeyLemmas.{text_cmp, texts_tied, field, within_at}
 use Rattle.pack_warnings.specs.declared.answer.FoundWarning.{FoundWarning}
 use Rattle.pack_warnings.specs.declared.answer.PackWarning.{PackWarning}
 use Rattle.pack_warnings.specs.declared.keys.WarningKey.{WarningKey}
@@ -20,6 +21,7 @@ use Rattle.pack_warnings.specs.declared.lined.LinedWarning.{LinedWarning}
 use Rattle.pack_warnings.specs.Keys.{KeyView, same_view, found_view, key_view, key_cmp, place_in, Knows, noted_at}
 use Rattle.pack_warnings.specs.Lined.{lined_view}
 use Rattle.pack_warnings.specs.Merged.{same_warning, with_warning, with_each}
+use Rattle.sequence_resolve.proofs.WinnerLemmas.{not_first, later_at}
 
 -- ---- what is the same is equal
 
@@ -40,13 +42,13 @@ view_equal_at v w a b c d e f g h =
 
 view_equal : (v w : KeyView) → same_view v w ≡ true → v ≡ w
 view_equal v w e =
-    let a = both (v.kind == w.kind) _ e in
-    let b = both _ (same_text v.name w.name && same_text v.text w.text) a.1 in
-    let c = both (same_text v.sequence w.sequence) _ b.0 in
-    let d = both (bytes_eq v.path w.path) _ c.1 in
-    let f = both (v.part == w.part) _ d.1 in
-    let g = both (v.line == w.line) (v.column == w.column) f.1 in
-    let h = both (same_text v.name w.name) (same_text v.text w.text) b.1 in
+    let a = and_parts (v.kind == w.kind) _ e in
+    let b = and_parts _ (same_text v.name w.name && same_text v.text w.text) a.1 in
+    let c = and_parts (same_text v.sequence w.sequence) _ b.0 in
+    let d = and_parts (bytes_eq v.path w.path) _ c.1 in
+    let f = and_parts (v.part == w.part) _ d.1 in
+    let g = and_parts (v.line == w.line) (v.column == w.column) f.1 in
+    let h = and_parts (same_text v.name w.name) (same_text v.text w.text) b.1 in
     view_equal_at v w (eqb-true v.kind w.kind a.0) (text_equal v.sequence w.sequence c.0) ((bytes_eq-Decides v.path w.path).0 d.0) (eqb-true v.part w.part f.0)
     (eqb-true v.line w.line g.0) (eqb-true v.column w.column g.1) (text_equal v.name w.name h.0) (text_equal v.text w.text h.1)
 
@@ -71,15 +73,15 @@ in_order v w = v.kind == w.kind && (v.line == w.line && (v.column == w.column &&
     && (bytes_eq v.path w.path && (same_text v.name w.name && same_text v.text w.text))))))
 
 reordered : (v w : KeyView) → in_order v w ≡ same_view v w
-reordered v w = same_bools (in_order v w) (same_view v w) there back where
+reordered v w = both_ways (in_order v w) (same_view v w) there back where
   there : in_order v w ≡ true → same_view v w ≡ true
   there e =
-      let a = both (v.kind == w.kind) _ e in
-      let b = both (v.line == w.line) _ a.1 in
-      let c = both (v.column == w.column) _ b.1 in
-      let d = both (v.part == w.part) _ c.1 in
-      let f = both (same_text v.sequence w.sequence) _ d.1 in
-      let g = both (bytes_eq v.path w.path) (same_text v.name w.name && same_text v.text w.text) f.1 in
+      let a = and_parts (v.kind == w.kind) _ e in
+      let b = and_parts (v.line == w.line) _ a.1 in
+      let c = and_parts (v.column == w.column) _ b.1 in
+      let d = and_parts (v.part == w.part) _ c.1 in
+      let f = and_parts (same_text v.sequence w.sequence) _ d.1 in
+      let g = and_parts (bytes_eq v.path w.path) (same_text v.name w.name && same_text v.text w.text) f.1 in
       and_true (v.kind == w.kind) _ a.0 (and_true _ (same_text v.name w.name && same_text v.text w.text)
       (and_true (same_text v.sequence w.sequence) _ f.0 (and_true (bytes_eq v.path w.path) _ g.0 (and_true (v.part == w.part) _ d.0
       (and_true (v.line == w.line) (v.column == w.column) b.0 c.0)))) g.1)
@@ -114,7 +116,7 @@ there_at : (k : ℕ) (x : FoundWarning) (p : PackWarning) (warnings : List PackW
     → cond b (record { found = p.found; sets = noted k p.sets } ∷ warnings) (p ∷ with_warning k x warnings) ≡ noted_at k (p ∷ warnings) i d
 there_at k x p warnings i d true is later e = rw (← same_Some 0 i e) refl
 there_at k x p warnings i d false is later e =
-    let at = some_suc (place_in (found_view x) warnings) i e in
+    let at = later_at (place_in (found_view x) warnings) i e in
     rw at.2 (ap (λ ps. p ∷ ps) (later at.0 at.1))
 
 pub found_there : (k : ℕ) (x : FoundWarning) (warnings : List PackWarning) (i : ℕ) (d : PackWarning) → place_in (found_view x) warnings ≡ Some i → with_warning k x warnings ≡ noted_at k warnings i d
@@ -124,7 +126,7 @@ found_there k x (p ∷ warnings) i d e = there_at k x p warnings i d (same_warni
 pub found_last : (k : ℕ) (x : FoundWarning) (warnings : List PackWarning) → place_in (found_view x) warnings ≡ None → with_warning k x warnings ≡ warnings ++ record { found = x; sets = k ∷ [] } ∷ []
 found_last k x [] e = refl
 found_last k x (p ∷ warnings) e =
-    let parts = nowhere (same_warning x p.found) (place_in (found_view x) warnings) e in
+    let parts = not_first (same_warning x p.found) (place_in (found_view x) warnings) e in
     rw parts.0 (ap (λ ps. p ∷ ps) (found_last k x warnings parts.1))
 
 -- a change of the sets moves nothing
@@ -141,7 +143,7 @@ place_before v (q ∷ warnings) p e = ap (λ o. cond (same_view v (found_view q.
 place_last : (v : KeyView) (warnings : List PackWarning) (p : PackWarning) → place_in v warnings ≡ None → same_view v (found_view p.found) ≡ true → place_in v (warnings ++ p ∷ []) ≡ Some (length warnings)
 place_last v [] p none e = rw e refl
 place_last v (q ∷ warnings) p none e =
-    let parts = nowhere (same_view v (found_view q.found)) (place_in v warnings) none in
+    let parts = not_first (same_view v (found_view q.found)) (place_in v warnings) none in
     rw (parts.0, place_last v warnings p parts.1 e) refl
 
 -- ---- the map

@@ -1,19 +1,9 @@
-//! Copies of texts and paths.
-ghost use Rattle.std.specs.Prelude.{◌≡◌, IfOk, option_map};
+//! Copies of paths.
+ghost use Rattle.std.specs.Prelude.{◌≡◌, IfOk};
 
-use dap_base::{ItemList, NameText, OutOfMemory};
+use dap_base::{ItemList, OutOfMemory};
 use sequence_trees::StepPath;
 use std::alloc::Global;
-
-/// A copy of the text.
-pub fn copy_of(alloc: Global, text: Option<&str>) -> Result<Option<NameText>, OutOfMemory>
-    ensures { IfOk result (λ copy. copy ≡ option_map (λ w. w.now) text.entry) }
-{
-    match text {
-        Some(text) => Ok(Some(NameText::new(alloc, text)?)),
-        None => Ok(None),
-    }
-}
 
 /// A copy of a path.
 pub fn copy_path(alloc: Global, path: &[u64]) -> Result<StepPath, OutOfMemory>

@@ -9,7 +9,7 @@ use Rattle.target_machine.specs.declared.unit.ProbeCall.{ProbeCall}
 use Rattle.probe_core.specs.Bench.{BenchState, StepsTo}
 use Rattle.probe_core.specs.Probe.{target_of, work_of}
 use Rattle.target_calls.specs.Asks.{AreAskable, is_forgiving}
-use Rattle.target_calls.specs.Journal.{Entry, actions_in, is_unforgiven}
+use Rattle.target_calls.specs.Journal.{Entry, is_unforgiven}
 use Rattle.target_calls.specs.Weights.{weight}
 use Rattle.target_calls.specs.World.{World, results, skips, small_now, start_world, stop, world_after}
 use Rattle.target_calls.specs.declared.calls.Ask.{Ask}
@@ -32,20 +32,17 @@ use Rattle.packed_access.specs.Logs.{LogState}
 use Rattle.packed_access.specs.Marks.{unmarked_append, unmarked_last}
 use Rattle.packed_access.proofs.CameLemmas.{HaveCome, have_come}
 use Rattle.packed_access.proofs.PushLemmas.{take_more}
+use Rattle.packed_access.specs.Stands.{none_flying}
 use Rattle.access_regs.specs.declared.planner.Planner.{Planner}
 
 -- ---- where nothing lies in the flight
 
-none_in : (flying : List Entry) → actions_in flying ≡ [] → flying ≡ []
-none_in [] h = refl
-none_in (e ∷ es) h = absurd (cc)
-
 pub at_rest : (p : Planner) (log : LogState) (rest : List Entry) (m0 m : BenchState) → (h : IsIssuing p log [] rest m0 m) → IsSending p log.calls log.confirmed log.came [] rest [] (take log.known log.results) m0 m
 at_rest p log rest m0 m h =
-    subst (λ (flying : List Entry). IsSending p log.calls log.confirmed log.came flying rest [] (take log.known log.results) m0 m) (none_in h.flying h.sending.on.flight) h.sending
+    subst (λ (flying : List Entry). IsSending p log.calls log.confirmed log.came flying rest [] (take log.known log.results) m0 m) (none_flying h.flying h.sending.on.flight) h.sending
 
 pub at_rest_count : (p : Planner) (log : LogState) (rest : List Entry) (m0 m : BenchState) → (h : IsIssuing p log [] rest m0 m) → log.confirmed ≡ length log.entries
-at_rest_count p log rest m0 m h = (let c = h.count in let n : length h.flying ≡ 0 = ap length (none_in h.flying h.sending.on.flight) in omega (arith, c, n))
+at_rest_count p log rest m0 m h = (let c = h.count in let n : length h.flying ≡ 0 = ap length (none_flying h.flying h.sending.on.flight) in omega (arith, c, n))
 
 -- a number more in a list
 last_taken : (xs : List ℕ) (k : ℕ) → length xs ≡ k + 1 → xs ≡ take k xs ++ get_or xs k 0 ∷ []
@@ -126,7 +123,7 @@ module _ (p : Planner) (log : LogState) (calls : List Ask) (ask : Ask) (x : Acti
   stop_there = subst (λ (l : List Ask). stop (start_world t0 None) l ≡ None) (first_all ∙ are) (come.none_stops.stops None tt)
 
   seam : issued p t0 log.calls ≡ h.sending.made ++ entry_of calls x ∷ []
-  seam = h.sending.on.are ∙ ap (λ (l : List Entry). h.sending.made ++ (l ++ entry_of calls x ∷ [])) (none_in h.flying h.sending.on.flight)
+  seam = h.sending.on.are ∙ ap (λ (l : List Entry). h.sending.made ++ (l ++ entry_of calls x ∷ [])) (none_flying h.flying h.sending.on.flight)
 
   made_before : length h.sending.made ≡ length log.entries
   made_before = h.sending.confirmed_is ∙ here

@@ -13,6 +13,7 @@ use Rattle.target_calls.specs.Asks.{IsAskable, is_forgiving, is_settled}
 use Rattle.target_calls.specs.Journal.{Entry}
 use Rattle.target_calls.specs.World.{results, skips, start_world, small_now}
 use Rattle.target_calls.specs.declared.calls.Ask.{Ask}
+use Rattle.target_calls.proofs.MarkLemmas.{settled_append}
 use Rattle.access_regs.specs.Entries.{kept_by, target_by}
 use Rattle.access_regs.specs.Journal.{issue_of, issued, numbered}
 use Rattle.access_regs.specs.Kept.{Kept}
@@ -136,11 +137,6 @@ module _ (p : Planner) (bench : BenchReported) (state : Option BenchState) (sent
 
 -- ---- issued whole
 
-settled_end : (calls : List Ask) (ask : Ask) → is_settled (calls ++ ask ∷ []) ≡ ask.settled
-settled_end [] ask = refl
-settled_end (c ∷ []) ask = refl
-settled_end (c ∷ d ∷ calls) ask = settled_end (d ∷ calls) ask
-
 pub set_here : (xs : List ℕ) (i v : ℕ) → i < length xs → get_or (set xs i v) i 0 ≡ v
 set_here [] i v less = absurd (omega (arith, less))
 set_here (x ∷ xs) zero v less = refl
@@ -237,7 +233,7 @@ module _ (p : Planner) (log : LogState) (accesses : List RegAccess) (calls : Lis
     };
     whole_is = refl;
     kept_is = ap (kept_by p u0) are ∙ (journal_grows p u0 calls ask unmarked).1 ∙ ap (λ (k : Kept). (issue_of p (target_by p u0 calls) k ask).kept) kept_is;
-    calm = λ settled. absurd (let x : false ≡ true = sym unmarked ∙ sym (settled_end calls ask) ∙ ap is_settled (sym are) ∙ settled in cc);
+    calm = λ settled. absurd (let x : false ≡ true = sym unmarked ∙ sym (settled_append calls ask) ∙ ap is_settled (sym are) ∙ settled in cc);
   }
 
 -- ---- where the bench is observable
@@ -259,7 +255,7 @@ pub stops_asked : (m0 : BenchState) (n : Option ℕ) (calls : List Ask) (ask : A
 stops_asked m0 n calls ask lines s unmarked there = stops_calls m0 n (calls ++ ask ∷ []) lines s (not_settled s) there
   where
     not_settled : (s : Stop) → AtCut s (λ r. is_settled (calls ++ ask ∷ []) ≡ true → ⊥)
-    not_settled (stops.Cut r) = λ settled. (let x : false ≡ true = sym unmarked ∙ sym (settled_end calls ask) ∙ settled in cc)
+    not_settled (stops.Cut r) = λ settled. (let x : false ≡ true = sym unmarked ∙ sym (settled_append calls ask) ∙ settled in cc)
     not_settled (stops.BenchFault issued confirmed) = tt
     not_settled stops.ReplyBad = tt
     not_settled stops.OutOfMemory = tt
@@ -273,7 +269,7 @@ asked_kept p bench state log sent got kept accesses ask m0 h none unmarked =
 
 -- and no settling was made after it
 pub asked_calm : (calls : List Ask) (ask : Ask) → ask.settled ≡ false → is_settled (calls ++ ask ∷ []) ≡ true → ⊥
-asked_calm calls ask unmarked settled = (let x : false ≡ true = sym unmarked ∙ sym (settled_end calls ask) ∙ settled in cc)
+asked_calm calls ask unmarked settled = (let x : false ≡ true = sym unmarked ∙ sym (settled_append calls ask) ∙ settled in cc)
 
 -- a call that was made at once
 pub begun_made : (p : Planner) (bench bench' : BenchReported) (state state' : Option BenchState) (log new : LogState) (sent got sent' got' : List ℕ) (kept kept' : Kept) (accesses accesses' : List RegAccess) (ask : Ask) (m0 : BenchState) → HasBegun p bench state log sent got kept accesses m0 → log.end ≡ None → ask.settled ≡ false →

@@ -1,7 +1,8 @@
 -- A unit that forgives nothing is asked: what its plan comes to.
-use Rattle.std.proofs.Common.{◌≡◌, ◌∙◌, ℕ, zero, suc, ◌-◌, Bool, true, false, cond, not, ◌&&◌, ◌||◌, nat_lt, List, [], ◌∷◌, ◌++◌, length, take, Option, Some, None, Result, Ok, Err, refl, sym, ap, subst, arith, length-append}
+use Rattle.std.proofs.Common.{◌≡◌, ◌∙◌, ℕ, zero, suc, ◌-◌, Bool, true, false, cond, not, ◌&&◌, nat_lt, List, [], ◌∷◌, ◌++◌, length, take, Option, Some, None, Result, Ok, Err, refl, sym, ap, subst, arith, length-append}
 use Rattle.std.proofs.lemmas.List.{map-append}
 use Rattle.std.specs.Prelude.{IfOk, OnOk, is_some, slice_index_or, slice_set}
+use Rattle.std.proofs.lemmas.Bool.{or_left}
 use Rattle.dap_base.specs.Bits.{has_bit}
 use Rattle.target_machine.specs.Fresh.{IsFresh}
 use Rattle.target_machine.specs.Lists.{after}
@@ -29,10 +30,9 @@ use Rattle.access_regs.specs.Plan.{cfg_plan, must_follow_settling, needs_cfg, ne
 use Rattle.access_regs.specs.declared.known.Known.{Known}
 use Rattle.access_regs.specs.declared.known.Unsettled.{Unsettled}
 use Rattle.access_regs.proofs.CostLemmas.{planned_reads}
-use Rattle.access_regs.proofs.EntryLemmas.{journal_grows}
+use Rattle.access_regs.proofs.EntryLemmas.{journal_grows, askable_first}
 use Rattle.access_calls.specs.declared.stop.Stop.{Stop}
 use Rattle.flight_laws.proofs.CfgLemmas.{small_by_cfg}
-use Rattle.flight_laws.proofs.OpenLemmas.{askable_first}
 use Rattle.flight_laws.proofs.SmallLemmas.{never_small}
 use Rattle.packed_access.specs.Begun.{HasAsked, HasBegun, HasIssued, IsIssuing, IsNoPoll, entries_of, own_entries, steps_left, target_issued}
 use Rattle.packed_access.specs.Logs.{LogState, asks_of, with_call, with_needs}
@@ -41,6 +41,7 @@ use Rattle.packed_access.proofs.AskLemmas.{begun_asked}
 use Rattle.packed_access.proofs.BegunLemmas.{fact_of, open_facts}
 use Rattle.packed_access.proofs.CfgLemmas.{cancel_back, target_moves}
 use Rattle.packed_access.proofs.ReadLemmas.{seam_of}
+use Rattle.packed_access.proofs.TryBeginLemmas.{askable_last}
 use Rattle.access_regs.specs.declared.planner.Planner.{Planner}
 use Rattle.access_regs.specs.declared.planner.Planner.TheVariants.{Managed, Plain}
 use Rattle.access_regs.specs.Journal.{is_alone}
@@ -57,10 +58,6 @@ begins_asked p bench state log new sent got kept accesses ask m0 h none ok unmar
 }
 
 -- ---- what is known where a call was asked
-
-askable_last : (xs : List Ask) (x : Ask) → AreAskable (xs ++ x ∷ []) → IsAskable x
-askable_last [] x h = h.0
-askable_last (y ∷ xs) x h = askable_last xs x h.1
 
 -- the calls may be asked, from a fresh target
 pub record AreSound (t : TargetState) (calls : List Ask) (ask : Ask) : Type 0 where
@@ -95,18 +92,6 @@ planned_issue p t k ask asked is mild apart =
 
 -- which units are made alone
 
-pub and_true : (a b : Bool) → (a && b) ≡ true → (a ≡ true) × (b ≡ true)
-and_true true b e = (refl, e)
-and_true false b e = absurd (cc)
-
-and_never : (a b : Bool) → b ≡ false → (a && b) ≡ false
-and_never true b e = e
-and_never false b e = refl
-
-pub apart_mild : (p : Planner) (forgive may : Bool) → (is_alone p forgive && may) ≡ false → (forgive && may) ≡ false
-apart_mild Managed forgive may e = e
-apart_mild Plain forgive may e = and_never forgive may e
-
 -- what is left then
 pub planned_left : (p : Planner) (x : Option BenchState) (log : LogState) (accesses : List RegAccess) (k : Kept) (calls : List Ask) (ask : Ask) (asked : AccessUnit) (m0 : BenchState) → ask.call ≡ Access asked → is_forgiving ask ≡ false → (is_alone p false && may_forgive (Access asked)) ≡ false → HasAsked p x log accesses k calls ask m0 →
     HasIssued p x log accesses (steps_left log (planned (target_issued p log m0) k asked).steps) m0
@@ -118,7 +103,7 @@ planned_left p x log accesses k calls ask asked m0 is mild apart h =
 
 -- ---- the settling
 
-settles_numbered : (units : ℕ) (xs : List RegAccess) → numbered units false (steps_of Settles xs) ≡ entries_of units Settles xs
+pub settles_numbered : (units : ℕ) (xs : List RegAccess) → numbered units false (steps_of Settles xs) ≡ entries_of units Settles xs
 settles_numbered units [] = refl
 settles_numbered units (x ∷ xs) = ap (λ l. record { unit = units; part = Settles; forgiving = false; action = Makes x } ∷ l) (settles_numbered units xs)
 
@@ -211,10 +196,6 @@ none_unsettled None b e h = refl
 none_unsettled (Some s) true e h = absurd (cc)
 none_unsettled (Some s) false e h = absurd (cc)
 
-or_first : (a b : Bool) → a ≡ true → (a || b) ≡ true
-or_first true b e = refl
-or_first false b e = absurd (cc)
-
 -- the settling is the whole one
 record IsAll (k : Kept) (asked : AccessUnit) : Type 0 where
   pub accesses : settle_before k asked ≡ settle k
@@ -229,7 +210,7 @@ all_settled k size read n address value needs = by_needs (needs_settle k asked) 
     by_needs : (b : Bool) → needs_settle k (unit.Memory size read n address value) ≡ b → IsAll k (unit.Memory size read n address value)
     by_needs true e = record { accesses = ap (λ (b : Bool). cond b (settle k) []) e; kept = ap (λ (b : Bool). cond b (settled k) k) e }
     by_needs false e =
-        let calm : k.unsettled ≡ None = none_unsettled k.unsettled (must_follow_settling k (unit.Memory size read n address value)) (or_first (needs_cfg k (unit.Memory size read n address value)) _ needs) e in
+        let calm : k.unsettled ≡ None = none_unsettled k.unsettled (must_follow_settling k (unit.Memory size read n address value)) (or_left (needs_cfg k (unit.Memory size read n address value)) _ needs) e in
         record {
           accesses = ap (λ (b : Bool). cond b (settle k) []) e ∙ ap (settling k) (sym calm);
           kept = ap (λ (b : Bool). cond b (settled k) k) e ∙ ap (settled_at k) (sym calm);

@@ -9,7 +9,7 @@ use Rattle.probe_core.specs.Bench.{BenchState}
 use Rattle.probe_core.specs.Bench.{Reported as BenchReported}
 use Rattle.probe_core.specs.Probe.{target_of}
 use Rattle.target_calls.specs.Asks.{is_settled}
-use Rattle.target_calls.specs.Journal.{Entry, Passes, actions_in}
+use Rattle.target_calls.specs.Journal.{Entry, Passes}
 use Rattle.target_calls.specs.World.{AtLeast, results, stop}
 use Rattle.target_calls.specs.declared.calls.Ask.{Ask}
 use Rattle.access_regs.specs.Entries.{kept_by}
@@ -29,7 +29,7 @@ use Rattle.flight_laws.specs.Ending.{IsEnded, StopsBy}
 use Rattle.flight_laws.proofs.EndLemmas.{begun_came, results_few}
 use Rattle.packed_access.specs.Begun.{HasBegun, HasEnded, HasIssued, IsIssuing, IsOpenAt, IsSince, StopsThere}
 use Rattle.packed_access.specs.Logs.{LogState, all_confirmed, all_taken, reported_by, result_at}
-use Rattle.packed_access.specs.Stands.{is_begun}
+use Rattle.packed_access.specs.Stands.{is_begun, none_flying}
 use Rattle.access_regs.specs.declared.planner.Planner.{Planner}
 
 -- ---- from a state where the bench is observable
@@ -77,10 +77,6 @@ ended_begun p bench state log sent got kept accesses m0 s h is =
     record { so = subst (λ (e : Option Stop). WhereObservable state (λ m. IsSince p e (reported_by bench state log sent got) log kept accesses m0 m)) (sym is) h.so }
 
 -- ---- no call stops
-
-none_flying : (flying : List Entry) → actions_in flying ≡ [] → flying ≡ []
-none_flying [] h = refl
-none_flying (e ∷ es) h = absurd (cc)
 
 whole_stops : (p : Planner) (log : LogState) (accesses : List RegAccess) (m0 m : BenchState) (n : Option ℕ) → IsIssuing p log accesses [] m0 m → accesses ≡ [] → AtLeast (length log.calls) n → stop (world_from m0 n) log.calls ≡ None
 whole_stops p log accesses m0 m n h empty enough =

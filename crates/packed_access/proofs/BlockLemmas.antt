@@ -5,7 +5,7 @@ use Rattle.std.proofs.lemmas.List.{map-append}
 use Rattle.std.proofs.lemmas.List.Sums.{sum_by-append, sum_by-cons}
 use Rattle.std.proofs.Math.Seq.{take-append_seam}
 use Rattle.std.specs.Prelude.{bit_and, sum_by}
-use Rattle.target_machine.specs.Plain.{Action, Makes}
+use Rattle.target_machine.specs.Plain.{Makes}
 use Rattle.target_machine.specs.declared.access.RegAccess.{RegAccess}
 use Rattle.probe_core.specs.declared.job.Limits.{Limits}
 use Rattle.target_machine.specs.Counts.{one_if}
@@ -14,6 +14,7 @@ use Rattle.access_regs.specs.Journal.{making}
 use Rattle.access_calls.specs.Bounds.{block_words, capacity}
 use Rattle.flight_forms.specs.Forms.{all_write_drw, writes_drw}
 use Rattle.flight_laws.specs.Packets.{drw_writes_in, is_drw_write}
+use Rattle.flight_laws.proofs.FlightLemmas.{flight_length, head_makes}
 use Rattle.bench_flights.specs.Full.{IsFull, transfer_accesses}
 use Rattle.packed_access.specs.Blocks.{AreBlocks, changes_after, changes_in, differs, others_in}
 
@@ -126,9 +127,6 @@ drw_by_parts false y n h = absurd (cc)
 drw_write : (a : RegAccess) → is_drw_write (Makes a) ≡ true → writes_drw a ≡ true
 drw_write a h = drw_by_parts a.ap a.read a.addr h
 
-pub head_same : (x y : Action) (xs ys : List Action) → x ∷ xs ≡ y ∷ ys → (x ≡ y) × (xs ≡ ys)
-head_same x y xs ys e = ((cc), (cc))
-
 all_writes : (es : List Entry) (accesses : List RegAccess) → actions_in es ≡ making accesses → changes_after true es ≡ 0 → all_write_drw accesses ≡ true
 all_writes [] [] e h = refl
 all_writes [] (a ∷ accesses) e h = absurd (cc)
@@ -136,7 +134,7 @@ all_writes (x ∷ es) [] e h = absurd (cc)
 all_writes (x ∷ es) (a ∷ accesses) e h = by_kind (λ f k. all_writes es accesses f k) (is_drw_write x.action) refl
   where
     p : (x.action ≡ Makes a) × (actions_in es ≡ making accesses)
-    p = head_same x.action (Makes a) (actions_in es) (making accesses) e
+    p = head_makes x.action (Makes a) (actions_in es) (making accesses) e
 
     by_kind : (actions_in es ≡ making accesses → changes_after true es ≡ 0 → all_write_drw accesses ≡ true) → (b : Bool) → is_drw_write x.action ≡ b → all_write_drw (a ∷ accesses) ≡ true
     by_kind again true is =
@@ -144,12 +142,6 @@ all_writes (x ∷ es) (a ∷ accesses) e h = by_kind (λ f k. all_writes es acce
         let rest = again p.1 (let k = ap (λ (b : Bool). differs true b + changes_after b es) is in omega (arith, k, h)) in
         (λ j. first j && rest j)
     by_kind again false is = absurd (let k = ap (λ (b : Bool). differs true b + changes_after b es) is in omega (arith, k, h))
-
-making_length : (es : List Entry) (accesses : List RegAccess) → actions_in es ≡ making accesses → length es ≡ length accesses
-making_length [] [] e = refl
-making_length [] (a ∷ accesses) e = absurd (cc)
-making_length (x ∷ es) [] e = absurd (cc)
-making_length (x ∷ es) (a ∷ accesses) e = ap suc (making_length es accesses (head_same x.action (Makes a) (actions_in es) (making accesses) e).1)
 
 -- ---- one more of them
 
@@ -162,7 +154,7 @@ module _ (full : ℕ) (limits : Limits) (made flying rest : List Entry) (e : Ent
   count = length made + length flying
 
   size : length flying ≡ length accesses
-  size = making_length flying accesses flight
+  size = flight_length flying accesses flight
 
   made_front : take (length made) all ≡ made
   made_front = take-append_seam made (flying ++ e ∷ rest)

@@ -1,5 +1,5 @@
 -- Calls all of whose entries were made have come.
-use Rattle.std.proofs.Common.{◌≡◌, ◌⊎◌, inl, inr, ◌∙◌, ℕ, suc, ◌+◌, ◌-◌, ◌<◌, ◌≤◌, Bool, true, false, cond, List, [], ◌∷◌, ◌++◌, length, take, drop, Option, Some, None, refl, sym, ap, subst, arith, append-nil, append_assoc, length-append}
+use Rattle.std.proofs.Common.{◌≡◌, ◌⊎◌, inl, inr, ◌∙◌, ℕ, suc, ◌+◌, ◌-◌, ◌<◌, ◌≤◌, Bool, true, false, List, [], ◌∷◌, ◌++◌, length, take, drop, Option, Some, None, refl, sym, ap, subst, arith, append-nil, append_assoc, length-append}
 use Rattle.std.proofs.Math.Seq.{take-append_seam, take-append-add, take-length}
 use Rattle.std.proofs.lemmas.Bool.{cases_lt}
 use Rattle.std.proofs.lemmas.List.{take-append-drop, length-take-le, length-map}
@@ -10,7 +10,7 @@ use Rattle.target_machine.specs.State.{TargetState}
 use Rattle.probe_core.specs.Bench.{BenchState}
 use Rattle.probe_core.specs.Probe.{target_of}
 use Rattle.target_calls.specs.Asks.{AreAskable, is_forgiving, is_settled, settled_last}
-use Rattle.target_calls.specs.Journal.{Entry, Passes, lines_before, settles, target_after}
+use Rattle.target_calls.specs.Journal.{Entry, Passes, lines_before, target_after}
 use Rattle.target_calls.specs.World.{AtLeast, World, results, small_now, start_world, stop, world_after}
 use Rattle.target_calls.specs.declared.calls.Ask.{Ask}
 use Rattle.target_calls.specs.declared.journal.Part.TheVariants.{Settles}
@@ -20,17 +20,18 @@ use Rattle.target_calls.proofs.MarkLemmas.{length_marked, marked_same, results_m
 use Rattle.access_regs.specs.Alone.{NoneFaults, alone}
 use Rattle.access_regs.specs.Entries.{kept_by, target_by}
 use Rattle.access_regs.specs.Journal.{Step, entries_at, finish_of, issue_of, issued, issued_from, kept_at, kept_from, numbered, steps_of, target_at}
-use Rattle.access_regs.specs.Kept.{Kept, nothing_kept}
+use Rattle.access_regs.specs.Kept.{nothing_kept}
 use Rattle.access_regs.specs.Plan.{settle}
 use Rattle.access_regs.specs.Stops.{NoneStops, world_at}
-use Rattle.access_regs.proofs.EntryLemmas.{journal_marks}
+use Rattle.access_regs.proofs.EntryLemmas.{journal_marks, askable_first}
 use Rattle.access_regs.proofs.Joins.{journal_joins}
 use Rattle.access_regs.proofs.Seams.{InFirst, InSecond, seam_in}
-use Rattle.access_regs.proofs.StopLists.{finish_settles, numbered_unit, passing_stops}
+use Rattle.access_regs.proofs.StopLists.{passing_stops}
 use Rattle.access_calls.specs.Reported.{world_from}
 use Rattle.flight_laws.specs.Flights.{IsCutAt}
-use Rattle.flight_laws.proofs.OpenLemmas.{askable_first, whole_results}
+use Rattle.flight_laws.proofs.OpenLemmas.{whole_results}
 use Rattle.flight_laws.proofs.StopLemmas.{came_before}
+use Rattle.flight_laws.proofs.SendLemmas.{settling_lines}
 use Rattle.packed_access.specs.Marks.{length_unmarked, marked_unmarked, take_unmarked, unmarked_last, unmarked_same}
 use Rattle.packed_access.specs.Stands.{begins_with}
 use Rattle.access_regs.specs.declared.planner.Planner.{Planner}
@@ -110,13 +111,6 @@ none_marked t large calls h = record {
   none = faults_marked t large calls h.none;
   stops = λ n least. stop_marked (world_at t large n) calls ∙ h.stops n (subst (λ (k : ℕ). AtLeast k n) (length_marked calls) least);
 }
-
--- an entry that settles after so many units has all their lines before it
-settling_lines : (n : ℕ) (k : Kept) (front : List Entry) (e : Entry) (more : List Entry) → numbered n false (steps_of Settles (settle k)) ≡ front ++ e ∷ more → lines_before e ≡ n
-settling_lines n k front e more is =
-    let so : settles e.part ≡ true = finish_settles n true k front e more is in
-    let unit : e.unit ≡ n = numbered_unit n false (steps_of Settles (settle k)) front e more is ∙ ap (λ (b : Bool). cond b n (n + 1)) so in
-    ap (λ (b : Bool). cond b e.unit (e.unit - 1)) so ∙ unit
 
 module _ (p : Planner) (calls : List Ask) (made more : List Entry) (confirmed : ℕ) (m0 : BenchState) (fresh : IsFresh (target_of m0.probe)) (askable : AreAskable (settled_last calls))
     (are : issued p (target_of m0.probe) (settled_last calls) ≡ made ++ more) (passes : Passes (target_of m0.probe) made) (confirmed_is : length made ≡ confirmed) (enough : length (issued p (target_of m0.probe) calls) ≤ confirmed) where

@@ -1,8 +1,9 @@
 -- The numbers of a stop, where of the first entries their numbers alone are kept.
-use Rattle.std.proofs.Common.{◌≡◌, ◌∙◌, ℕ, suc, ◌+◌, ◌-◌, ◌≤◌, Bool, true, false, List, [], ◌∷◌, ◌++◌, length, take, sum_by, slice_get, Some, option_map, sym, ap, arith, length-append}
+use Rattle.std.proofs.Common.{◌≡◌, ◌∙◌, ℕ, suc, ◌+◌, ◌-◌, ◌≤◌, Bool, List, [], ◌∷◌, ◌++◌, length, take, sum_by, slice_get, Some, option_map, sym, ap, arith, length-append}
 use Rattle.std.proofs.Math.Seq.{take-append-add}
 use Rattle.std.proofs.lemmas.List.Sums.{sum_by-append, sum_by-cons}
 use Rattle.target_machine.specs.Counts.{one_if}
+use Rattle.target_machine.proofs.CountLemmas.{one_most}
 use Rattle.target_calls.specs.Journal.{Entry, completes, is_skip}
 use Rattle.target_calls.specs.declared.calls.Ask.{Ask}
 use Rattle.target_calls.specs.declared.journal.Part.{Part}
@@ -14,16 +15,12 @@ use Rattle.access_calls.proofs.IssuedLemmas.{kept_numbers}
 use Rattle.packed_access.specs.Counted.{AreFew, IsCountOf}
 use Rattle.packed_access.specs.declared.confirmed.Confirmed.{Confirmed}
 
-one_few : (b : Bool) → one_if b ≤ 1
-one_few true = omega arith
-one_few false = omega arith
-
 -- no more units than entries
 pub kept_few : (f : Part → Bool) (kept : List Issued) → sum_by (λ (i : Issued). one_if (f i.part)) kept ≤ length kept
 kept_few f [] = omega arith
 kept_few f (i ∷ kept) =
     let here = sum_by-cons (λ (i : Issued). one_if (f i.part)) i kept in
-    let one = one_few (f i.part) in
+    let one = one_most (f i.part) in
     let more = kept_few f kept in
     omega (arith, here, one, more)
 

@@ -2,7 +2,6 @@
 use Rattle.std.proofs.Common.{◌≡◌, inl, inr, ◌∙◌, ℕ, zero, suc, ◌+◌, ◌≤◌, true, false, cond, List, [], ◌∷◌, ◌++◌, length, take, map, Option, Some, None, refl, sym, ap, subst, arith, append-nil, length-append}
 use Rattle.std.proofs.lemmas.List.{take-append-le}
 use Rattle.std.specs.Prelude.{slice_index}
-use Rattle.target_machine.specs.Plain.{Makes}
 use Rattle.target_machine.specs.State.{TargetState}
 use Rattle.target_machine.specs.declared.access.RegAccess.{RegAccess}
 use Rattle.probe_core.specs.Bench.{BenchState}
@@ -37,6 +36,7 @@ use Rattle.packed_access.specs.Logs.{LogState, reported_by}
 use Rattle.packed_access.specs.Marks.{unmarked_last, unmarked_marked}
 use Rattle.packed_access.specs.Stands.{open_flying}
 use Rattle.packed_access.proofs.BegunLemmas.{issued_begun, none_stopped, open_facts, open_where}
+use Rattle.packed_access.proofs.AskedLemmas.{settles_numbered}
 use Rattle.access_regs.specs.declared.planner.Planner.{Planner}
 
 -- ---- the first calls, of which the last may be marked
@@ -77,10 +77,6 @@ given_marked p t calls index place g = by_more g.more g.are
     by_more [] are = record { asks = g.asks; ask = record g.ask { settled = true }; more = []; are = ap settled_last are ∙ marked_end g.asks g.ask; at = g.at; mild = g.mild; large = small_marked (stop (start_world t None) g.asks) (world_after (start_world t None) g.asks) g.ask ∙ g.large; place_is = g.place_is }
     by_more (x ∷ more) are = record { asks = g.asks; ask = g.ask; more = settled_last (x ∷ more); are = ap settled_last are ∙ marked_later g.asks g.ask x more; at = g.at; mild = g.mild; large = g.large; place_is = g.place_is }
 
-settling_numbered : (units : ℕ) (xs : List RegAccess) → numbered units false (steps_of Settles xs) ≡ entries_of units Settles xs
-settling_numbered units [] = refl
-settling_numbered units (x ∷ xs) = ap (λ l. record { unit = units; part = Settles; forgiving = false; action = Makes x } ∷ l) (settling_numbered units xs)
-
 -- ---- the settling is still to be issued
 
 module _ (p : Planner) (bench : BenchReported) (state : Option BenchState) (sent got : List ℕ) (log : LogState) (kept : Kept) (accesses : List RegAccess) (m0 m : BenchState) (h : IsOpenAt p log kept accesses m0 m) where
@@ -104,7 +100,7 @@ module _ (p : Planner) (bench : BenchReported) (state : Option BenchState) (sent
 
   sending_is : IsSending p (settled_last log.calls) log.confirmed log.came flying_is.flying (entries_of (length log.calls) Settles (settle kept)) accesses (take log.known log.results) m0 m
   sending_is =
-      subst (λ (rest : List Entry). IsSending p (settled_last log.calls) log.confirmed log.came flying_is.flying rest accesses (take log.known log.results) m0 m) (settling_numbered (length log.calls) (settle kept))
+      subst (λ (rest : List Entry). IsSending p (settled_last log.calls) log.confirmed log.came flying_is.flying rest accesses (take log.known log.results) m0 m) (settles_numbered (length log.calls) (settle kept))
       (finish_sends p (reported_by bench state log sent got) kept accesses (take log.known log.results) m0 m flying_is)
 
   own_calls : (n : ℕ) → length (issued p t0 (take n (unmarked_last (settled_last log.calls)))) ≡ length (issued p t0 (take n (unmarked_last log.calls)))

@@ -1,8 +1,8 @@
 -- What each call of an access keeps.
 use Rattle.std.proofs.Common.{◌≡◌, ◌⊎◌, inl, inr, ℕ, ◌≤◌, List, Option, Some, None, refl, sym, subst, arith}
-use Rattle.probe_core.proofs.RunLemmas.{keeps_own_runs}
 use Rattle.probe_core.specs.Bench.{BenchState}
 use Rattle.probe_core.specs.Bench.{Reported as BenchReported}
+use Rattle.probe_core.proofs.StateSteps.{runs_self}
 use Rattle.target_calls.specs.World.{AtLeast}
 use Rattle.access_calls.specs.Causes.{EndedBy, code_of_cause}
 use Rattle.access_calls.specs.GoesOn.{GoesOn, StaysEnded}
@@ -64,7 +64,7 @@ goes_still b x old new packet reply packet' reply' none none' came known = recor
   limits = refl;
   faults = omega arith;
   exchanges = omega arith;
-  runs = keeps_own_runs x;
+  runs = runs_self x;
   known = omega (arith, known);
   left = λ n left. record { so = left_open old.end old.lines old.came n none (subst (λ (k : ℕ). AtLeast k n) came (subst (λ (e : Option Stop). IsLeftAt e new.lines new.came n) none' left.so)) };
   ended = subst (λ (e : Option Stop). StaysEnded (reported_by b x old packet reply) (reported_by b x new packet' reply') e) (sym none)
@@ -77,7 +77,7 @@ goes_later b x old new packet reply packet' reply' none none' came known = recor
   limits = refl;
   faults = omega arith;
   exchanges = omega arith;
-  runs = keeps_own_runs x;
+  runs = runs_self x;
   known = known;
   left = λ n left. record { so = left_open old.end old.lines old.came n none (least_less n old.came new.came came (subst (λ (e : Option Stop). IsLeftAt e new.lines new.came n) none' left.so)) };
   ended = subst (λ (e : Option Stop). StaysEnded (reported_by b x old packet reply) (reported_by b x new packet' reply') e) (sym none)

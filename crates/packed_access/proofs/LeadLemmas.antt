@@ -2,6 +2,7 @@
 use Rattle.std.proofs.Common.{◌≡◌, ◌∙◌, ℕ, Bool, true, false, not, cond, List, [], ◌∷◌, ◌++◌, Option, Some, None, refl, sym, ap, subst, append-nil, append_assoc}
 use Rattle.std.specs.Prelude.{◌||◌}
 use Rattle.std.specs.List.{list_any}
+use Rattle.std.proofs.lemmas.Bool.{or_parts, not-true}
 use Rattle.target_machine.specs.Lists.{after}
 use Rattle.target_machine.specs.Plain.{Action, Makes, acted, given, is_fault}
 use Rattle.target_machine.specs.State.{TargetState}
@@ -22,17 +23,9 @@ use Rattle.packed_access.proofs.TryStepLemmas.{after_making}
 
 -- ---- none of them is the access that the unit is for
 
-not_true : (b : Bool) → not b ≡ true → b ≡ false
-not_true true e = absurd (cc)
-not_true false e = refl
-
 not_ends : (b : Bool) → cond b Ends Leads ≡ Leads → b ≡ false
 not_ends true e = absurd (cc)
 not_ends false e = refl
-
-or_false : (a b : Bool) → (a || b) ≡ false → (a ≡ false) × (b ≡ false)
-or_false true b e = absurd (cc)
-or_false false b e = (refl, e)
 
 quiet_leads : (asked : AccessUnit) (leads : List RegAccess) (last : RegAccess) (s : Step) → steps_of_unit asked (leads ++ last ∷ []) ≡ steps_of Leads leads ++ s ∷ [] → list_any (is_end asked) (making leads) ≡ false
 quiet_leads asked [] last s e = refl
@@ -44,12 +37,12 @@ quiet_leads asked (x ∷ leads) last s e =
 quiet_front : (asked : AccessUnit) (front back : List RegAccess) → list_any (is_end asked) (making (front ++ back)) ≡ false → list_any (is_end asked) (making front) ≡ false
 quiet_front asked [] back e = refl
 quiet_front asked (x ∷ front) back e =
-    let both = or_false (is_last asked x) (list_any (is_end asked) (making (front ++ back))) e in
+    let both = or_parts (is_last asked x) (list_any (is_end asked) (making (front ++ back))) e in
     (λ j. both.0 j || quiet_front asked front back both.1 j)
 
 quiet_mid : (asked : AccessUnit) (front : List RegAccess) (lead : RegAccess) (back : List RegAccess) → list_any (is_end asked) (making (front ++ lead ∷ back)) ≡ false → is_last asked lead ≡ false
-quiet_mid asked [] lead back e = (or_false (is_last asked lead) (list_any (is_end asked) (making back)) e).0
-quiet_mid asked (x ∷ front) lead back e = quiet_mid asked front lead back (or_false (is_last asked x) (list_any (is_end asked) (making (front ++ lead ∷ back))) e).1
+quiet_mid asked [] lead back e = (or_parts (is_last asked lead) (list_any (is_end asked) (making back)) e).0
+quiet_mid asked (x ∷ front) lead back e = quiet_mid asked front lead back (or_parts (is_last asked x) (list_any (is_end asked) (making (front ++ lead ∷ back))) e).1
 
 last_parts : (asked : AccessUnit) (leads : List RegAccess) (last : RegAccess) (s : Step) → steps_of_unit asked (leads ++ last ∷ []) ≡ steps_of Leads leads ++ s ∷ [] → steps_of_unit asked (last ∷ []) ≡ s ∷ []
 last_parts asked [] last s e = e
@@ -63,7 +56,7 @@ none_mid u (x ∷ front) lead back h = none_mid (acted u (Makes x)).next front l
 
 module _ (asked : AccessUnit) (t : TargetState) (made leads : List RegAccess) (last : RegAccess) (ends : Bool) (rest more : List Action) (n : IsNext asked t made leads last ends rest more) where
   quiet_made : list_any (is_end asked) (making made) ≡ false
-  quiet_made = not_true (list_any (is_end asked) (making made)) n.first
+  quiet_made = not-true (list_any (is_end asked) (making made)) n.first
 
   quiet_all : list_any (is_end asked) (making leads) ≡ false
   quiet_all = quiet_leads asked leads last _ n.parts
@@ -85,7 +78,7 @@ module _ (asked : AccessUnit) (t : TargetState) (made leads : List RegAccess) (l
       first = early_now;
       are = refl;
       parts = ap (λ (b : Bool). record { part = cond b Ends Leads; action = Makes lead } ∷ []) lead_not;
-      early = early_at asked (made ++ front) (lead ∷ []) false (not_true (list_any (is_end asked) (making (made ++ front))) early_now) (ap (λ (b : Bool). b || false) lead_not);
+      early = early_at asked (made ++ front) (lead ∷ []) false (not-true (list_any (is_end asked) (making (made ++ front))) early_now) (ap (λ (b : Bool). b || false) lead_not);
       good = tt;
     }
 

@@ -8,6 +8,7 @@ use Rattle.target_machine.specs.Plain.{Commands, forgives}
 use Rattle.target_calls.specs.Asks.{settled_last}
 use Rattle.target_calls.specs.Journal.{Entry, settles}
 use Rattle.target_calls.specs.declared.calls.Ask.{Ask}
+use Rattle.target_calls.proofs.MarkLemmas.{length_marked}
 use Rattle.access_calls.specs.Issued.{AreKeptOf, kept_of, lines_before_kept}
 use Rattle.access_calls.specs.Numbers.{HasNumbers, StopNumbers, lines_at}
 use Rattle.access_calls.specs.declared.issued.Issued.{Issued}
@@ -22,12 +23,6 @@ pub marked_sound : (calls : List Ask) → AllByRecursion (λ ask. IsSoundCall as
 marked_sound [] h = h
 marked_sound (ask ∷ []) h = h
 marked_sound (ask ∷ next ∷ calls) h = (h.0, marked_sound (next ∷ calls) h.1)
-
--- as many calls as before
-pub marked_length : (calls : List Ask) → length (settled_last calls) ≡ length calls
-marked_length [] = refl
-marked_length (ask ∷ []) = refl
-marked_length (ask ∷ next ∷ calls) = ap suc (marked_length (next ∷ calls))
 
 -- an entry of one of so many calls is one of more calls
 pub units_more : (calls more : ℕ) (entries : List Issued) → calls ≤ more → AllByRecursion (IsOfCall calls) entries → AllByRecursion (IsOfCall more) entries
@@ -352,7 +347,7 @@ sound_cut calls results places room entries confirmed whole came known fence end
 pub sound_marked : (calls : List Ask) (results places : List ℕ) (room : ℕ) (entries : List Issued) (confirmed whole came known fence : ℕ) (end : Option Stop) (calls_gone places_gone memory : ℕ) (counted : Confirmed) (calls' : List Ask) → calls' ≡ settled_last calls → IsSoundLog calls results places room entries confirmed whole came known fence end calls_gone places_gone memory counted →
     IsSoundLog calls' results places room entries confirmed whole came known fence end calls_gone places_gone memory counted
 sound_marked calls results places room entries confirmed whole came known fence end calls_gone places_gone memory counted calls' is h =
-    let n : length calls ≡ length calls' = sym (ap length is ∙ marked_length calls) in
+    let n : length calls ≡ length calls' = sym (ap length is ∙ length_marked calls) in
     record {
       few = (let f = h.few in omega (arith, f, n));
       sound = subst (AllByRecursion (λ ask. IsSoundCall ask.call)) (sym is) (marked_sound calls h.sound);

@@ -10,6 +10,7 @@ use Rattle.target_machine.specs.Counts.{one_if}
 use Rattle.target_calls.specs.NeedPoints.{Asks, Cost, asked, capped_sum, needed, needed_more, used, with_call}
 use Rattle.target_calls.specs.declared.calls.Ask.{Ask}
 use Rattle.target_calls.specs.declared.calls.Slot.{Slot}
+use Rattle.target_calls.proofs.NeedLemmas.{needed_calls}
 use Rattle.access_regs.specs.Costs.{cost_by}
 use Rattle.packed_access.specs.Logs.{LogState, asks_of, with_asks, with_needs}
 use Rattle.packed_access.specs.Sparing.{AreNeeded, first_cost, marks_in}
@@ -45,10 +46,6 @@ most_needs : (n : ℕ) (a : Asks) → min (a.needs + n) (2 ^ 64 - 1) ≤ (needed
 most_needs zero a = omega arith
 most_needs (suc n) a = omega arith
 
-more_calls : (n : ℕ) (a : Asks) → (needed_more n a).calls ≡ a.calls
-more_calls zero a = refl
-more_calls (suc n) a = refl
-
 covers_same : (x needs needs' : ℕ) → min x (2 ^ 64 - 1) ≤ needs → min needs (2 ^ 64 - 1) ≤ needs' → min x (2 ^ 64 - 1) ≤ needs'
 covers_same x needs needs' h le = omega (arith, h, le)
 
@@ -73,7 +70,7 @@ needed_by p t a b ask h unmarked is = subst (λ (x : Asks). AreNeeded p t x) (sy
     by_cost : (c : Cost) → c ≡ cost_by p t a.calls ask → AreNeeded p t (asked c ask a)
     by_cost c same =
         let mid : Asks = with_call ask (needed_more c.before a) in
-        needed_asked p t a (asked c ask a) ask h unmarked (more_calls c.after mid ∙ ap (λ (l : List Ask). l ++ ask ∷ []) (more_calls c.before a))
+        needed_asked p t a (asked c ask a) ask h unmarked (needed_calls c.after mid ∙ ap (λ (l : List Ask). l ++ ask ∷ []) (needed_calls c.before a))
         (let x = most_needs c.before a in let y = most_needs c.after mid in let z = ap (λ (k : Cost). k.before) same in omega (arith, x, y, z))
 
 -- a command makes none before it counts as asked

@@ -1,6 +1,6 @@
 -- The starting packets of an access are paid for between its calls.
 use Rattle.std.proofs.Common.{◌≡◌, ◌⊎◌, inl, inr, ◌∙◌, ℕ, zero, suc, ◌+◌, ◌-◌, ◌^◌, ◌<◌, ◌≤◌, min, Bool, true, false, cond, List, [], ◌∷◌, ◌++◌, length, take, Option, Some, None, refl, sym, ap, subst, arith, append-nil}
-use Rattle.std.proofs.lemmas.Bool.{cases_lt}
+use Rattle.std.proofs.lemmas.Bool.{cases_lt, lt-ltb, le-ltb}
 use Rattle.std.specs.Prelude.{nat_lt}
 use Rattle.target_machine.specs.InRange.{IsInRange}
 use Rattle.target_machine.specs.declared.access.RegAccess.{RegAccess}
@@ -92,12 +92,6 @@ need_paid : (p : Planner) (x : Option BenchState) (limits given : Limits) (log :
 need_paid p x limits given log paid left more m0 h covers le =
     record { paid = paid; spared = has_same p x x limits given limits given log (with_asks log (needed (asks_of log))) paid m0 h refl refl refl refl refl; covers = λ managed. covers_need paid left more log.needs le (covers managed) }
 
-test_true : (i f : ℕ) → i < f → nat_lt i f ≡ true
-test_true i f less = grind (arith, less)
-
-test_false : (i f : ℕ) → f ≤ i → nat_lt i f ≡ false
-test_false i f ge = grind (arith, ge)
-
 -- what the test of a slot says
 pub is_under : (i known : ℕ) (b : Bool) → b ≡ nat_lt i known → b ≡ true → i < known
 is_under i known b is true_ = grind (arith, sym is ∙ true_)
@@ -110,9 +104,9 @@ pub paid_known : (p : Planner) (x : Option BenchState) (limits given : Limits) (
 paid_known p x limits given log new slot m0 h is known = subst (λ (l : LogState). HasPaid p limits given x l (left_of l) m0) (sym is) (by_fence (cases_lt slot.index log.fence))
   where
     by_fence : (slot.index < log.fence) ⊎ (log.fence ≤ slot.index) → HasPaid p limits given x (with_asks log (used slot (asks_of log))) (left_of (with_asks log (used slot (asks_of log)))) m0
-    by_fence (inl less) = subst (λ (b : Bool). HasPaid p limits given x (with_asks log (cond b (asks_of log) (needed (asks_of log)))) (left_of (with_asks log (cond b (asks_of log) (needed (asks_of log))))) m0) (sym (test_true slot.index log.fence less)) h
+    by_fence (inl less) = subst (λ (b : Bool). HasPaid p limits given x (with_asks log (cond b (asks_of log) (needed (asks_of log)))) (left_of (with_asks log (cond b (asks_of log) (needed (asks_of log))))) m0) (sym (lt-ltb slot.index log.fence less)) h
     by_fence (inr ge) =
-        subst (λ (b : Bool). HasPaid p limits given x (with_asks log (cond b (asks_of log) (needed (asks_of log)))) (left_of (with_asks log (cond b (asks_of log) (needed (asks_of log))))) m0) (sym (test_false slot.index log.fence ge))
+        subst (λ (b : Bool). HasPaid p limits given x (with_asks log (cond b (asks_of log) (needed (asks_of log)))) (left_of (with_asks log (cond b (asks_of log) (needed (asks_of log))))) m0) (sym (le-ltb slot.index log.fence ge))
         (need_paid p x limits given log h.paid (left_of log) (one_if (nat_lt log.known (length log.calls))) m0 h.spared h.covers (let a = left_most log.known (length log.calls) in omega (arith, a)))
 
 -- it came with a flight that was sent for it
@@ -136,12 +130,12 @@ paid_sent p x y limits given limits' given' log mid new values slot m0 h sent mi
 
     by_fence : (slot.index < mid.fence) ⊎ (mid.fence ≤ slot.index) → HasPaid p limits' given' y (with_asks mid (used slot (asks_of mid))) (left_of (with_asks mid (used slot (asks_of mid)))) m0
     by_fence (inl less) =
-        subst (λ (b : Bool). HasPaid p limits' given' y (with_asks mid (cond b (asks_of mid) (needed (asks_of mid)))) (left_of (with_asks mid (cond b (asks_of mid) (needed (asks_of mid))))) m0) (sym (test_true slot.index mid.fence less))
+        subst (λ (b : Bool). HasPaid p limits' given' y (with_asks mid (cond b (asks_of mid) (needed (asks_of mid)))) (left_of (with_asks mid (cond b (asks_of mid) (needed (asks_of mid))))) m0) (sym (lt-ltb slot.index mid.fence less))
         (let one = left_one log.known log.fence (omega (arith, less, fence, not)) in
         let none = left_none mid.known mid.fence (omega (arith, known, fence, within)) in
         record { paid = h.paid + 1; spared = sent h.paid h.spared; covers = λ managed. (let c = h.covers managed in omega (arith, c, one, none, needs)) })
     by_fence (inr ge) =
-        subst (λ (b : Bool). HasPaid p limits' given' y (with_asks mid (cond b (asks_of mid) (needed (asks_of mid)))) (left_of (with_asks mid (cond b (asks_of mid) (needed (asks_of mid))))) m0) (sym (test_false slot.index mid.fence ge))
+        subst (λ (b : Bool). HasPaid p limits' given' y (with_asks mid (cond b (asks_of mid) (needed (asks_of mid)))) (left_of (with_asks mid (cond b (asks_of mid) (needed (asks_of mid))))) m0) (sym (le-ltb slot.index mid.fence ge))
         (record {
           paid = h.paid + 1;
           spared = has_same p y y limits' given' limits' given' mid (with_asks mid (needed (asks_of mid))) (h.paid + 1) m0 (sent h.paid h.spared) refl refl refl refl refl;

@@ -11,8 +11,9 @@ use Rattle.flight_forms.specs.Packing.{IsTaken}
 use Rattle.access_regs.specs.Kept.{Kept, known}
 use Rattle.target_machine.specs.Registers.{cfg_register, csw_register}
 use Rattle.access_regs.specs.Plan.{cfg_plan, csw_needed, first_plan, high_needed, last_access, leads, plan, port_writes, select_needed, settle, settling, tar_needed, unless}
-use Rattle.access_regs.specs.declared.known.Known.{Known}
 use Rattle.access_regs.specs.declared.known.Unsettled.{Unsettled}
+use Rattle.access_regs.proofs.Few.{few_unless}
+use Rattle.access_regs.proofs.LightLemmas.{leads_short}
 
 clash_true : ◌≡◌ {A = Bool} true false → ⊥
 clash_true e = cc
@@ -35,9 +36,6 @@ settling_few : (k : Kept) (s : Option Unsettled) → length (settling k s) ≤ 2
 settling_few k None = omega arith
 settling_few k (Some s) = omega arith
 
-pub settle_few : (k : Kept) → length (settle k) ≤ 2
-settle_few k = settling_few k k.unsettled
-
 -- ---- the plan of a unit
 
 both_taken : (xs ys : List RegAccess) → AllByRecursion IsTaken xs → AllByRecursion IsTaken ys → AllByRecursion IsTaken (xs ++ ys)
@@ -47,10 +45,6 @@ both_taken (x ∷ xs) ys h k = (h.0, both_taken xs ys h.1 k)
 unless_taken : (b : Bool) (a : RegAccess) → IsTaken a → AllByRecursion IsTaken (unless b a)
 unless_taken true a h = tt
 unless_taken false a h = (h, tt)
-
-unless_few : (b : Bool) (a : RegAccess) → length (unless b a) ≤ 1
-unless_few true a = omega arith
-unless_few false a = omega arith
 
 dp_taken : (read : Bool) (addr value : ℕ) → IsSound (unit.Dp read addr value) → IsTaken (last_access (unit.Dp read addr value))
 dp_taken true addr value h = record { read = λ e r. h; write = λ e r. absurd (clash_true r) }
@@ -76,21 +70,6 @@ leads_taken k (unit.Ap read ap addr value) = unless_taken _ _ (select_taken ap (
 leads_taken k (unit.Dp read addr value) = tt
 leads_taken k (unit.Poll mask value turns) = tt
 
-pub leads_few : (k : Kept) (asked : AccessUnit) → length (leads k asked) ≤ 4
-leads_few k (unit.Memory size read ap address value) =
-    let n : Known = known k ap in
-    let a = length-append (select_needed k ap 0) (port_writes n size address) in
-    let b = length-append (csw_needed n size) (high_needed n address ++ tar_needed n address) in
-    let c = length-append (high_needed n address) (tar_needed n address) in
-    let s : length (select_needed k ap 0) ≤ 1 = unless_few _ _ in
-    let w : length (csw_needed n size) ≤ 1 = unless_few _ _ in
-    let h : length (high_needed n address) ≤ 1 = unless_few _ _ in
-    let t : length (tar_needed n address) ≤ 1 = unless_few _ _ in
-    omega (arith, a, b, c, s, w, h, t)
-leads_few k (unit.Ap read ap addr value) = (let s : length (select_needed k ap (addr / 16)) ≤ 1 = unless_few _ _ in omega (arith, s))
-leads_few k (unit.Dp read addr value) = omega arith
-leads_few k (unit.Poll mask value turns) = omega arith
-
 pub plan_taken : (k : Kept) (asked : AccessUnit) → IsSound asked → AllByRecursion IsTaken (plan k asked)
 plan_taken k asked h = both_taken (leads k asked) (last_access asked ∷ []) (leads_taken k asked) (last_taken asked h, tt)
 
@@ -111,7 +90,7 @@ pub plan_parts : (k : Kept) (asked : AccessUnit) (accesses : List RegAccess) →
 plan_parts k asked accesses is sound =
     let n : length accesses ≡ length (leads k asked) + 1 = ap length is ∙ length-append (leads k asked) (last_access asked ∷ []) in
     let at : length accesses - 1 ≡ length (leads k asked) = omega (arith, n) in
-    let few = leads_few k asked in
+    let few = leads_short k asked in
     let first : take (length accesses - 1) accesses ≡ leads k asked = (λ j. take (at j) (is j)) ∙ take-append_seam (leads k asked) (last_access asked ∷ []) in
     record {
       some = omega (arith, n);
@@ -134,7 +113,7 @@ pub first_some : (k : Kept) (ap : ℕ) → 0 < length (first_plan k ap)
 first_some k ap = (let n = first_count k ap in omega (arith, n))
 
 pub first_few : (k : Kept) (ap : ℕ) → length (first_plan k ap) ≤ 2
-first_few k ap = (let n = first_count k ap in let s : length (select_needed k ap 0) ≤ 1 = unless_few _ _ in omega (arith, n, s))
+first_few k ap = (let n = first_count k ap in let s : length (select_needed k ap 0) ≤ 1 = few_unless _ _ in omega (arith, n, s))
 
 -- ---- the read of CFG
 
@@ -148,4 +127,12 @@ pub cfg_some : (k : Kept) (ap : ℕ) → 0 < length (cfg_plan k ap)
 cfg_some k ap = (let n = cfg_count k ap in omega (arith, n))
 
 pub cfg_few : (k : Kept) (ap : ℕ) → length (cfg_plan k ap) ≤ 2
-cfg_few k ap = (let n = cfg_count k ap in let s : length (select_needed k ap (cfg_register / 16)) ≤ 1 = unless_few _ _ in omega (arith, n, s))
+cfg_few k ap = (let n = cfg_count k ap in let s : length (select_needed k ap (cfg_register / 16)) ≤ 1 = few_unless _ _ in omega (arith, n, s))
+
+-- ---- what a plan comes to
+
+pub ruleset cfg_planned = (cfg_taken, cfg_some, cfg_few)
+
+pub ruleset first_planned = (first_taken, first_some, first_few)
+
+pub ruleset planned = (plan_taken, leads_short, plan_parts)

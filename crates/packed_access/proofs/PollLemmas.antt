@@ -1,15 +1,14 @@
 -- A poll as the last call.
-use Rattle.std.proofs.Common.{◌≡◌, ◌∙◌, ℕ, zero, suc, ◌+◌, ◌-◌, ◌≤◌, Bool, true, false, cond, ◌&&◌, eqb, List, [], ◌∷◌, ◌++◌, length, take, Option, Some, None, refl, sym, ap, subst, arith, length-append}
+use Rattle.std.proofs.Common.{◌≡◌, ◌∙◌, ℕ, ◌+◌, ◌-◌, ◌≤◌, Bool, true, false, cond, List, [], ◌∷◌, ◌++◌, length, take, Option, Some, None, refl, sym, ap, subst, arith, length-append}
 use Rattle.std.proofs.Math.Seq.{take-append_seam}
 use Rattle.std.proofs.lemmas.Bool.{eqb-true}
 use Rattle.std.proofs.lemmas.Nat.{and_assoc}
 use Rattle.std.specs.Prelude.{bit_and, is_some, slice_get}
-use Rattle.target_machine.specs.Attempt.{Attempt, attempt, bank}
+use Rattle.std.proofs.Math.Bool.{and-false}
+use Rattle.target_machine.specs.Attempt.{bank}
 use Rattle.dap_transfer.specs.State.{Setting}
 use Rattle.bench_flights.specs.Flown.{CanMatch, IsSetTo}
-use Rattle.target_machine.specs.declared.access.Outcome.{Outcome}
-use Rattle.target_machine.specs.declared.access.Outcome.TheVariants.{Value, Done, Fault}
-use Rattle.target_machine.specs.Plain.{Action, Polled, Polls, call_done, dp_read_of, looked, polled, result_of}
+use Rattle.target_machine.specs.Plain.{Action, Polls, call_done, polled, result_of}
 use Rattle.target_machine.specs.Registers.{dpbanksel, select_stored}
 use Rattle.target_machine.specs.State.{TargetState}
 use Rattle.target_machine.specs.declared.unit.Call.{Call}
@@ -32,13 +31,12 @@ use Rattle.access_regs.specs.Journal.{Issue, after_settling, alone_at, by_cfg, i
 use Rattle.access_regs.specs.Kept.{Kept}
 use Rattle.access_regs.specs.Plan.{bank_zero, bank_zero_of}
 use Rattle.access_regs.proofs.AllCalls.{journal_follows}
-use Rattle.access_regs.proofs.EntryLemmas.{journal_grows}
+use Rattle.access_regs.proofs.EntryLemmas.{journal_grows, askable_first}
 use Rattle.access_regs.proofs.StopLists.{passing_stops}
 use Rattle.access_calls.specs.Issued.{kept_of}
 use Rattle.access_calls.specs.Standing.{WhereObservable}
 use Rattle.batch_packer.specs.Flying.{CanFly}
 use Rattle.flight_laws.specs.Sending.{IsSending}
-use Rattle.flight_laws.proofs.OpenLemmas.{askable_first}
 use Rattle.flight_laws.proofs.SmallLemmas.{not_small}
 use Rattle.packed_access.specs.Actions.{entry_of, log_done}
 use Rattle.packed_access.specs.Begun.{HasAsked, HasBegun, HasIssued, IsIssuing, most_weight, own_entries}
@@ -53,26 +51,23 @@ use Rattle.packed_access.proofs.NeedLemmas.{needs_more}
 use Rattle.access_regs.specs.declared.planner.Planner.{Planner}
 use Rattle.access_regs.specs.declared.planner.Planner.TheVariants.{Managed, Plain}
 use Rattle.access_regs.specs.Journal.{is_alone}
+use Rattle.access_regs.proofs.LightLemmas.{polled_few}
 
 -- ---- what a poll issues, and what is known after it
 
-and_no : (b : Bool) → (b && false) ≡ false
-and_no true = refl
-and_no false = refl
-
 poll_planned : (t : TargetState) (k : Kept) (mask requested turns : ℕ) → planned t k (unit.Poll mask requested turns) ≡ record { steps = record { part = Ends; action = Polls mask requested turns } ∷ []; kept = k }
-poll_planned t k mask requested turns = ap (λ (b : Bool). cond b (after_settling t k (λ u l. by_cfg u l (unit.Poll mask requested turns))) (by_cfg t k (unit.Poll mask requested turns))) (and_no (is_some k.unsettled))
+poll_planned t k mask requested turns = ap (λ (b : Bool). cond b (after_settling t k (λ u l. by_cfg u l (unit.Poll mask requested turns))) (by_cfg t k (unit.Poll mask requested turns))) (and-false (is_some k.unsettled))
 
 pub poll_issue : (p : Planner) (t : TargetState) (k : Kept) (forgive : Bool) (mask requested turns : ℕ) → issue p t k forgive (Access (unit.Poll mask requested turns)) ≡ record { steps = record { part = Ends; action = Polls mask requested turns } ∷ []; kept = k }
 poll_issue p t k forgive mask requested turns =
-    ap (λ (b : Bool). cond b (after_settling t k (alone_at forgive (unit.Poll mask requested turns))) (planned t k (unit.Poll mask requested turns))) (and_no (is_alone p forgive))
+    ap (λ (b : Bool). cond b (after_settling t k (alone_at forgive (unit.Poll mask requested turns))) (planned t k (unit.Poll mask requested turns))) (and-false (is_alone p forgive))
     ∙ poll_planned t k mask requested turns
 
 pub poll_issue_of : (p : Planner) (t : TargetState) (k : Kept) (ask : Ask) (mask requested turns : ℕ) → ask.call ≡ Access (unit.Poll mask requested turns) → issue_of p t k ask ≡ record { steps = record { part = Ends; action = Polls mask requested turns } ∷ []; kept = k }
 poll_issue_of p t k ask mask requested turns call = ap (issue p t k ask.forgive) call ∙ poll_issue p t k ask.forgive mask requested turns
 
 pub poll_mild : (ask : Ask) (mask requested turns : ℕ) → ask.call ≡ Access (unit.Poll mask requested turns) → is_forgiving ask ≡ false
-poll_mild ask mask requested turns call = ap (λ (c : Call). is_forgiving (record ask { call = c })) call ∙ and_no ask.forgive
+poll_mild ask mask requested turns call = ap (λ (c : Call). is_forgiving (record ask { call = c })) call ∙ and-false ask.forgive
 
 pub poll_entries : (p : Planner) (t : TargetState) (calls : List Ask) (k : Kept) (ask : Ask) (mask requested turns : ℕ) → ask.call ≡ Access (unit.Poll mask requested turns) → own_entries p t calls k ask ≡ entry_of calls (Polls mask requested turns) ∷ []
 poll_entries p t calls k ask mask requested turns call =
@@ -90,24 +85,8 @@ poll_not_small w calls ask mask requested turns call =
 
 -- ---- how much it weighs
 
-looked_few : (o : Outcome) (t : TargetState) (mask requested n : ℕ) (rest : Polled) → rest.reads ≤ n → (looked o t mask requested rest).reads ≤ suc n
-looked_few (Value v) t mask requested n rest le = one (eqb (bit_and v mask) requested)
-  where
-    one : (b : Bool) → (cond b (record { outcome = Value 1; reads = 1; next = t }) (record rest { reads = rest.reads + 1 })).reads ≤ suc n
-    one true = omega arith
-    one false = omega (arith, le)
-looked_few Done t mask requested n rest le = omega (arith, le)
-looked_few Fault t mask requested n rest le = omega arith
-
-reads_few : (turns mask requested : ℕ) (t : TargetState) → (polled turns mask requested t).reads ≤ turns
-unfolding polled
-reads_few zero mask requested t = omega arith
-reads_few (suc turns) mask requested t =
-    let first : Attempt = attempt t (dp_read_of 4) in
-    looked_few first.outcome first.next mask requested turns (polled turns mask requested first.next) (reads_few turns mask requested first.next)
-
 pub poll_light : (turns mask requested : ℕ) (t : TargetState) → turns ≤ 60000000 → (polled turns mask requested t).reads ≤ most_weight
-poll_light turns mask requested t few = (let r = reads_few turns mask requested t in omega (arith, r, few))
+poll_light turns mask requested t few = (let r = polled_few turns mask requested t in omega (arith, r, few))
 
 -- ---- what is kept after it
 

@@ -1,6 +1,6 @@
 -- Which calls end because their AP has no large addresses, in each world that is left.
 use Rattle.std.proofs.Common.{◌≡◌, ◌∙◌, ◌⊎◌, inl, inr, ℕ, ◌+◌, ◌<◌, ◌≤◌, Bool, true, false, ◌&&◌, List, [], ◌∷◌, ◌++◌, length, Option, Some, None, refl, sym, ap, arith, length-append}
-use Rattle.std.proofs.lemmas.Bool.{cases_lt}
+use Rattle.std.proofs.lemmas.Bool.{cases_lt, both_ways, false_from_ne_true}
 use Rattle.target_machine.specs.Plain.{call_done}
 use Rattle.target_machine.specs.State.{TargetState}
 use Rattle.target_machine.specs.declared.access.RegAccess.{RegAccess}
@@ -43,14 +43,6 @@ small_here t n calls ask none enough =
     let large = large_alone t [] n calls none enough in
     one_small (start_world t n) calls ask (none_stop t [] n calls none enough) ∙ (λ j. is_small_end (call_done (target j) (large j) ask.forgive ask.call).end)
 
-clash : (b : Bool) → b ≡ true → b ≡ false → ⊥
-clash true e f = cc
-clash false e f = cc
-
-not_true : (b : Bool) → (b ≡ true → ⊥) → b ≡ false
-not_true true h = absurd (h refl)
-not_true false h = refl
-
 small_in : (t : TargetState) (n : Option ℕ) (calls : List Ask) (ask : Ask) → (small_now (start_world t None) calls ask ≡ true → AtLeast (length calls) n) → small_now (start_world t n) calls ask ≡ small_now (start_world t None) calls ask
 small_in t n calls ask enough = by_stop (stop (start_world t n) calls) refl
   where
@@ -65,7 +57,7 @@ small_in t n calls ask enough = by_stop (stop (start_world t n) calls) refl
         (let both : ◌≡◌ {A = Option ℕ} None (Some k) = sym none ∙ e in cc)
 
     by_stop : (x : Option ℕ) → stop (start_world t n) calls ≡ x → small_now (start_world t n) calls ask ≡ small_now (start_world t None) calls ask
-    by_stop (Some k) e = ap (λ (x : Option ℕ). small_after x (world_after (start_world t n) calls) ask) e ∙ sym (not_true (small_now (start_world t None) calls ask) (stopped k e))
+    by_stop (Some k) e = ap (λ (x : Option ℕ). small_after x (world_after (start_world t n) calls) ask) e ∙ sym (false_from_ne_true (small_now (start_world t None) calls ask) (stopped k e))
     by_stop None e =
         let s : NeverStops t [] n calls = never_stops t [] n calls e in
         small_here t n calls ask s.none s.enough ∙ sym (small_here t None calls ask s.none tt)
@@ -94,7 +86,7 @@ small_came p log kept accesses calls ask m0 m h are small = by_place (cases_lt (
     by_place (inr le) =
         let g = h.issuing.given (length calls) le (let w = h.whole_is in let c = count in omega (arith, w, c)) in
         let same = same_seam calls g.asks ask g.ask [] g.more (sym are ∙ g.are) (sym g.at) in
-        absurd (clash (small_now (start_world (target_of m0.probe) None) calls ask) small ((λ j. small_now (start_world (target_of m0.probe) None) (same.0 j) (same.1 j)) ∙ g.large))
+        absurd (both_ways (small_now (start_world (target_of m0.probe) None) calls ask) ((λ j. small_now (start_world (target_of m0.probe) None) (same.0 j) (same.1 j)) ∙ g.large) small)
 
 -- so it is answered in each world that is left
 pub small_left : (p : Planner) (bench : BenchReported) (state : Option BenchState) (log : LogState) (sent got : List ℕ) (kept : Kept) (accesses : List RegAccess) (calls : List Ask) (ask : Ask) (m0 : BenchState) (n : Option ℕ) → HasBegun p bench state log sent got kept accesses m0 → log.end ≡ None → log.calls ≡ calls ++ ask ∷ [] →

@@ -1,6 +1,5 @@
 -- Few starting packets are sent.
 use Rattle.std.proofs.Common.{◌≡◌, ◌∙◌, ℕ, zero, suc, ◌+◌, ◌-◌, ◌*◌, ◌^◌, ◌<◌, ◌≤◌, Bool, true, List, [], ◌∷◌, ◌++◌, length, min, take, Option, Some, None, Result, Ok, Err, OnOk, refl, sym, ap, subst, arith, append-nil, append_assoc, length-append}
-use Rattle.std.proofs.lemmas.List.Sums.{sum_by-cons}
 use Rattle.std.proofs.Math.Seq.{take-append_seam}
 use Rattle.std.specs.Prelude.{IfSome}
 use Rattle.target_machine.specs.InRange.{IsInRange}
@@ -15,11 +14,11 @@ use Rattle.probe_core.specs.Reports.{AgreesWith}
 use Rattle.probe_core.specs.Probe.{target_of}
 use Rattle.probe_core.specs.Ranges.{AreLimits}
 use Rattle.probe_core.specs.declared.job.Limits.{Limits}
-use Rattle.target_calls.specs.Journal.{Entry, actions_in}
+use Rattle.target_calls.specs.Journal.{Entry}
 use Rattle.target_calls.specs.Weights.{registers_in, registers_of}
 use Rattle.target_calls.specs.declared.calls.Ask.{Ask}
 use Rattle.target_calls.proofs.EntryLemmas.{registers_append}
-use Rattle.access_regs.specs.Journal.{issued, making}
+use Rattle.access_regs.specs.Journal.{issued}
 use Rattle.access_calls.specs.Bounds.{capacity}
 use Rattle.access_calls.specs.Standing.{WhereObservable}
 use Rattle.batch_packer.specs.Flying.{CanFly}
@@ -32,10 +31,11 @@ use Rattle.target_calls.specs.NeedPoints.{capped_sum}
 use Rattle.access_calls.specs.Opening.{HasOpened, MayBegin, opened_bench}
 use Rattle.probe_core.specs.declared.job.Config.{Config as OpenConfig}
 use Rattle.packed_access.specs.Sparing.{HasPaid, HasSpared, IsSpared, counted}
-use Rattle.packed_access.proofs.BlockLemmas.{blocks_full, blocks_grown, head_same, sum_longer, sum_upto}
+use Rattle.packed_access.proofs.BlockLemmas.{blocks_full, blocks_grown, sum_longer, sum_upto}
 use Rattle.bench_flights.proofs.WireLemmas.{steps_map}
 use Rattle.access_regs.specs.declared.planner.Planner.{Planner}
 use Rattle.access_regs.specs.declared.planner.Planner.TheVariants.{Managed, Plain}
+use Rattle.flight_laws.proofs.ActionLemmas.{flight_registers}
 
 -- ---- register accesses of entries
 
@@ -46,15 +46,6 @@ registers_upto n k es le = sum_upto (λ e. registers_of e.action) n k es le
 -- and so has a longer list
 pub registers_longer : (n : ℕ) (xs ys : List Entry) → registers_in (take n xs) ≤ registers_in (take n (xs ++ ys))
 registers_longer n xs ys = sum_longer (λ e. registers_of e.action) n xs ys
-
--- each access of a flight is one
-flight_registers : (es : List Entry) (accesses : List RegAccess) → actions_in es ≡ making accesses → registers_in es ≡ length accesses
-flight_registers [] [] e = refl
-flight_registers [] (a ∷ accesses) e = absurd (cc)
-flight_registers (x ∷ es) [] e = absurd (cc)
-flight_registers (x ∷ es) (a ∷ accesses) e =
-    let p = head_same x.action (Makes a) (actions_in es) (making accesses) e in
-    sum_by-cons (λ (y : Entry). registers_of y.action) x es ∙ (λ j. registers_of (p.0 j) + flight_registers es accesses p.1 j) ∙ omega arith
 
 -- those that are confirmed once the flight came
 flight_adds : (p : Planner) (log : LogState) (accesses : List RegAccess) (rest : List Entry) (m0 m : BenchState) → IsIssuing p log accesses rest m0 m →

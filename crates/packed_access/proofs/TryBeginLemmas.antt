@@ -1,6 +1,7 @@
 -- A unit that forgives a fault, from its call to its first access.
 use Rattle.std.proofs.Common.{◌≡◌, ◌∙◌, ℕ, ◌+◌, ◌-◌, ◌<◌, Bool, true, false, cond, ◌&&◌, List, [], ◌∷◌, ◌++◌, length, take, Option, Some, None, refl, sym, ap, subst, arith, append_assoc, length-append}
 use Rattle.std.proofs.Math.Seq.{take-append_seam}
+use Rattle.std.proofs.lemmas.Bool.{and_from}
 use Rattle.target_machine.specs.Fresh.{IsFresh}
 use Rattle.target_machine.specs.Lists.{PassTo, after}
 use Rattle.target_machine.specs.Plain.{Makes, after_cfg, call_actions, cfg_actions, contains, may_forgive, memory_actions, needs_cfg as wants_cfg}
@@ -36,14 +37,11 @@ use Rattle.packed_access.proofs.ActionLemmas.{at_rest}
 use Rattle.packed_access.proofs.BegunLemmas.{fact_of, where_same}
 use Rattle.packed_access.specs.Marks.{unmarked_last}
 use Rattle.packed_access.proofs.CameLemmas.{HaveCome, have_come_own}
-use Rattle.packed_access.proofs.TryStepLemmas.{numbered_both}
 use Rattle.access_regs.specs.declared.planner.Planner.{Planner}
 use Rattle.access_regs.specs.Journal.{is_alone}
+use Rattle.access_regs.proofs.Lists.{numbered_append}
 
 -- ---- the call
-
-pub both_hold : (a b : Bool) → a ≡ true → b ≡ true → (a && b) ≡ true
-both_hold a b e f = (λ j. e j && f j)
 
 and_same : (b c : Bool) → c ≡ true → (b && c) ≡ b
 and_same true c e = e
@@ -59,7 +57,7 @@ alone_issue p forgive t calls k asked = alone_at forgive asked (target_settled p
 
 pub issue_is : (p : Planner) (forgive : Bool) (t : TargetState) (calls : List Ask) (k : Kept) (asked : AccessUnit) → is_alone p forgive ≡ true → may_forgive (Access asked) ≡ true →
     issue_of p (target_by p t calls) k (unit_ask asked forgive) ≡ after_settling (target_by p t calls) k (alone_at forgive asked)
-issue_is p forgive t calls k asked alone may = ap (λ (b : Bool). cond b (after_settling (target_by p t calls) k (alone_at forgive asked)) (planned (target_by p t calls) k asked)) (both_hold (is_alone p forgive) (may_forgive (Access asked)) alone may)
+issue_is p forgive t calls k asked alone may = ap (λ (b : Bool). cond b (after_settling (target_by p t calls) k (alone_at forgive asked)) (planned (target_by p t calls) k asked)) (and_from (is_alone p forgive) (may_forgive (Access asked)) alone may)
 
 settles_numbered : (units : ℕ) (b : Bool) (xs : List RegAccess) → numbered units b (steps_of Settles xs) ≡ entries_of units Settles xs
 settles_numbered units true [] = refl
@@ -72,7 +70,7 @@ pub entries_are : (p : Planner) (forgive : Bool) (t : TargetState) (calls : List
     own_entries p t calls k (unit_ask asked forgive) ≡ entries_of (length calls) Settles (settle k) ++ numbered (length calls) forgive (alone_issue p forgive t calls k asked).steps
 entries_are p forgive t calls k asked alone may =
     (λ j. numbered (length calls) (and_same forgive (may_forgive (Access asked)) may j) (issue_is p forgive t calls k asked alone may j).steps)
-    ∙ numbered_both (length calls) forgive (steps_of Settles (settle k)) (alone_issue p forgive t calls k asked).steps
+    ∙ numbered_append (length calls) forgive (steps_of Settles (settle k)) (alone_issue p forgive t calls k asked).steps
     ∙ ap (λ (l : List Entry). l ++ numbered (length calls) forgive (alone_issue p forgive t calls k asked).steps) (settles_numbered (length calls) forgive (settle k))
 
 -- an access port is unsettled only after a call

@@ -3,6 +3,7 @@ use Rattle.std.proofs.Common.{◌≡◌, ◌∙◌, ℕ, ◌+◌, ◌-◌, ◌^�
 use Rattle.std.proofs.Math.Seq.{take-append_seam, take-append-add}
 use Rattle.std.proofs.lemmas.List.{length-map, map-append, take_all}
 use Rattle.std.specs.Option.{unwrap_or}
+use Rattle.std.proofs.lemmas.Bool.{both_ways}
 use Rattle.target_machine.specs.Lists.{after}
 use Rattle.target_machine.specs.Plain.{Action, Commands, Makes, acted, forgives, given, is_fault}
 use Rattle.target_machine.specs.State.{TargetState}
@@ -37,14 +38,11 @@ use Rattle.packed_access.specs.Forgiving.{IsForgiven, IsNext, IsTrying}
 use Rattle.packed_access.specs.Logs.{LogState, all_confirmed}
 use Rattle.packed_access.proofs.ActionLemmas.{at_rest, at_rest_count}
 use Rattle.packed_access.proofs.SlotLemmas.{slot_gives}
-use Rattle.packed_access.proofs.TryStepLemmas.{IsSplit, after_making, none_at, none_both, none_clear, none_last, none_with, numbered_both, split_steps, steps_both, unit_actions_in, unit_forgiving}
+use Rattle.packed_access.proofs.TryStepLemmas.{IsSplit, after_making, none_at, none_both, none_clear, none_last, none_with, split_steps, steps_both, unit_actions_in, unit_forgiving}
 use Rattle.access_regs.specs.declared.planner.Planner.{Planner}
+use Rattle.access_regs.proofs.Lists.{numbered_append}
 use Rattle.flight_laws.specs.Actions.{AreForgiving}
 use Rattle.flight_laws.specs.Forgiving.{after_fault}
-
-clash : (b : Bool) → b ≡ true → b ≡ false → ⊥
-clash true e f = cc
-clash false e f = cc
 
 -- ---- entries that are issued where nothing lies in the flight
 
@@ -150,7 +148,7 @@ module _ (p : Planner) (forgive : Bool) (log : LogState) (asked : AccessUnit) (k
   later = numbered units forgive split.tail
 
   pub issuing : IsIssuing p log [] (flying ++ later) m0 m
-  issuing = subst (λ (l : List Entry). IsIssuing p log [] l m0 m) (ap (numbered units forgive) split.is ∙ numbered_both units forgive (steps_of_unit asked xs) split.tail) h.issuing
+  issuing = subst (λ (l : List Entry). IsIssuing p log [] l m0 m) (ap (numbered units forgive) split.is ∙ numbered_append units forgive (steps_of_unit asked xs) split.tail) h.issuing
 
   flight : actions_in flying ≡ making xs
   flight = unit_actions_in forgive units asked xs
@@ -218,7 +216,7 @@ module _ (p : Planner) (forgive : Bool) (log : LogState) (asked : AccessUnit) (k
     last_entry = record { unit = if settles last_part_is then units else units + 1; part = last_part_is; forgiving = forgive && not (settles last_part_is); action = Makes last }
 
     front_flying : flying ≡ numbered units forgive (steps_of_unit asked leads) ++ last_entry ∷ []
-    front_flying = ap (numbered units forgive) (steps_both asked leads (last ∷ [])) ∙ numbered_both units forgive (steps_of_unit asked leads) (steps_of_unit asked (last ∷ []))
+    front_flying = ap (numbered units forgive) (steps_both asked leads (last ∷ [])) ∙ numbered_append units forgive (steps_of_unit asked leads) (steps_of_unit asked (last ∷ []))
 
     seam : issued p (target_of m0.probe) log.calls ≡ (sending.made ++ numbered units forgive (steps_of_unit asked leads)) ++ last_entry ∷ later
     seam =
@@ -272,7 +270,7 @@ module _ (p : Planner) (forgive : Bool) (log : LogState) (asked : AccessUnit) (k
             let there : after (target_of m0.probe) (actions_in (sending.made ++ x.front)) ≡ after (target_of m.probe) (actions_in x.front) =
             after_split (target_of m0.probe) sending.made x.front ∙ ap (λ (u : TargetState). after u (actions_in x.front)) (sym sending.on.target) in
             let faulted : is_fault (acted (after (target_of m0.probe) (actions_in (sending.made ++ x.front))) x.entry.action).outcome ≡ true = faults journal sending.made flying later xs None m0 m o part sending.on flies.does answer short in
-            absurd (clash (is_fault (acted (after (target_of m.probe) (actions_in x.front)) x.entry.action).outcome) (ap (λ (u : TargetState). is_fault (acted u x.entry.action).outcome) (sym there) ∙ faulted) good)
+            absurd (both_ways (is_fault (acted (after (target_of m.probe) (actions_in x.front)) x.entry.action).outcome) good (ap (λ (u : TargetState). is_fault (acted u x.entry.action).outcome) (sym there) ∙ faulted))
 
     abbrev pub abort : Entry
     abort = record { unit = units + 1; part = Skips (is_early asked (making (made ++ xs))); forgiving = true; action = Commands forgives }

@@ -1,18 +1,19 @@
 -- What a unit that forgives a fault comes to among the calls.
-use Rattle.std.proofs.Common.{◌≡◌, ◌∙◌, ℕ, ◌+◌, ◌<◌, Bool, true, false, cond, not, ◌&&◌, nat_lt, List, [], ◌∷◌, ◌++◌, length, None, refl, sym, ap, subst, arith, append_assoc, length-append}
+use Rattle.std.proofs.Common.{◌≡◌, ◌∙◌, ℕ, ◌+◌, Bool, true, false, cond, not, ◌&&◌, List, [], ◌∷◌, ◌++◌, length, None, refl, sym, ap, subst, arith, append_assoc, length-append}
 use Rattle.std.proofs.lemmas.List.{length-map, map-append}
 use Rattle.std.proofs.lemmas.List.Sums.{sum_by-cons}
+use Rattle.std.proofs.lemmas.Bool.{and_from}
 use Rattle.target_machine.specs.Lists.{PassTo, after}
-use Rattle.target_machine.specs.Plain.{Action, Makes, acted, call_done, contains, given, is_fault, is_small, result_of}
+use Rattle.target_machine.specs.Plain.{Action, Makes, acted, given, is_fault, result_of}
 use Rattle.target_machine.specs.State.{TargetState}
 use Rattle.target_machine.specs.declared.access.RegAccess.{RegAccess}
-use Rattle.target_machine.specs.declared.unit.Call.{Call}
 use Rattle.target_machine.specs.declared.unit.Call.TheVariants.{Access}
 use Rattle.target_machine.specs.declared.unit.Unit.{Unit as AccessUnit}
 use Rattle.target_machine.specs.declared.unit.Unit.TheVariants as unit
 use Rattle.target_machine.specs.Plain.{may_forgive}
-use Rattle.target_calls.specs.Asks.{IsUnitInRange, unit_ask}
+use Rattle.target_calls.specs.Asks.{unit_ask}
 use Rattle.target_machine.specs.Counts.{one_if}
+use Rattle.target_machine.proofs.ActionLists.{pass_append}
 use Rattle.target_calls.specs.Journal.{Entry, settles, target_after}
 use Rattle.target_calls.specs.NeedPoints.{asked}
 use Rattle.target_calls.specs.World.{is_small_end, results, skips, small_now, start_world}
@@ -24,7 +25,7 @@ use Rattle.access_regs.specs.Alone.{alone_after, large_of_all}
 use Rattle.access_regs.specs.Costs.{is_leading_read, leading_reads}
 use Rattle.access_regs.specs.Entries.{NoneFault, kept_by, target_by}
 use Rattle.access_regs.specs.Journal.{Issue, Step, actions_of, is_last, issued, making, numbered, steps_of}
-use Rattle.access_regs.specs.Kept.{Kept, known}
+use Rattle.access_regs.specs.Kept.{Kept}
 use Rattle.access_regs.specs.Plan.{needs_cfg, settle, settled}
 use Rattle.access_regs.specs.Skips.{own_steps}
 use Rattle.access_regs.proofs.EntryLemmas.{journal_grows}
@@ -34,24 +35,17 @@ use Rattle.flight_laws.specs.Forgiving.{abort_after, steps_of_unit}
 use Rattle.flight_laws.proofs.CfgLemmas.{small_alone}
 use Rattle.flight_laws.proofs.ComeLemmas.{alone_is, never, pass_comes, pass_given, skip_comes, small_given}
 use Rattle.flight_laws.proofs.PushLemmas.{pass_makes}
-use Rattle.flight_laws.proofs.SmallLemmas.{not_small}
+use Rattle.flight_laws.proofs.SmallLemmas.{done_small, small_none}
 use Rattle.packed_access.specs.Begun.{entries_of}
 use Rattle.packed_access.specs.Forgiving.{CfgShows}
 use Rattle.packed_access.proofs.TryBeginLemmas.{IsBefore, IsCalm, alone_issue, askable_front, askable_last, entries_are, is_calm, issue_is, settles_in, target_settled}
-use Rattle.packed_access.proofs.TryStepLemmas.{numbered_both, steps_both, unit_actions_in}
+use Rattle.packed_access.proofs.TryStepLemmas.{steps_both, unit_actions_in}
 use Rattle.access_regs.specs.declared.planner.Planner.{Planner}
-use Rattle.packed_access.proofs.TryBeginLemmas.{both_hold}
 use Rattle.access_regs.specs.Journal.{is_alone}
+use Rattle.access_regs.proofs.Course.{actions_steps}
+use Rattle.access_regs.proofs.Lists.{numbered_append}
 
 -- ---- lists of steps
-
-pass_both : (t u v : TargetState) (xs ys : List Action) → PassTo t xs u → PassTo u ys v → PassTo t (xs ++ ys) v
-pass_both t u v [] ys h k = subst (λ (s : TargetState). PassTo s ys v) h k
-pass_both t u v (x ∷ xs) ys h k = (h.0, pass_both (acted t x).next u v xs ys h.1 k)
-
-steps_in : (part : Part) (xs : List RegAccess) → actions_of (steps_of part xs) ≡ making xs
-steps_in part [] = refl
-steps_in part (x ∷ xs) = ap (λ l. Makes x ∷ l) (steps_in part xs)
 
 unit_steps_in : (asked : AccessUnit) (xs : List RegAccess) → actions_of (steps_of_unit asked xs) ≡ making xs
 unit_steps_in asked [] = refl
@@ -100,14 +94,14 @@ module _ (p : Planner) (forgive : Bool) (t : TargetState) (calls : List Ask) (un
   settled_pass : (xs : List RegAccess) → NoneFault u xs → PassTo (target_by p t calls) (actions_of (steps_of Settles (settle k) ++ steps_of_unit unit_ xs)) (after u (making xs))
   settled_pass xs good =
       subst (λ (l : List Action). PassTo (target_by p t calls) l (after u (making xs)))
-      (sym (map-append (λ (s : Step). s.action) (steps_of Settles (settle k)) (steps_of_unit unit_ xs) ∙ (λ j. steps_in Settles (settle k) j ++ unit_steps_in unit_ xs j)))
-      (pass_both (target_by p t calls) u (after u (making xs)) (making (settle k)) (making xs) calm.pass (pass_makes u xs good))
+      (sym (map-append (λ (s : Step). s.action) (steps_of Settles (settle k)) (steps_of_unit unit_ xs) ∙ (λ j. actions_steps Settles (settle k) j ++ unit_steps_in unit_ xs j)))
+      (pass_append (target_by p t calls) u (after u (making xs)) (making (settle k)) (making xs) calm.pass (pass_makes u xs good))
 
   -- ---- it was skipped
 
   module _ (made : List RegAccess) (last : RegAccess) (forgives : forgive ≡ true) (are : steps ≡ steps_of_unit unit_ (made ++ last ∷ []) ++ abort_after unit_ (made ++ last ∷ []) ∷ []) (good : NoneFault u made) (bad : is_fault (acted (after u (making made)) (Makes last)).outcome ≡ true) where
     forgives_it : (forgive && may_forgive (Access unit_)) ≡ true
-    forgives_it = both_hold forgive (may_forgive (Access unit_)) forgives may
+    forgives_it = and_from forgive (may_forgive (Access unit_)) forgives may
 
     abbrev step : Step
     step = record { part = if_last unit_ last; action = Makes last }
@@ -144,7 +138,7 @@ module _ (p : Planner) (forgive : Bool) (t : TargetState) (calls : List Ask) (un
     journal =
         (journal_grows p t calls the_ask refl).0 ∙ ap (λ (l : List Entry). issued p t calls ++ l)
         (entries_are p forgive t calls k unit_ alone may ∙ ap (λ (l : List Step). entries_of (length calls) Settles (settle k) ++ numbered (length calls) forgive l) (are ∙ steps_both unit_ made (last ∷ []))
-        ∙ ap (λ (l : List Entry). entries_of (length calls) Settles (settle k) ++ l) (numbered_both (length calls) forgive (steps_of_unit unit_ made) (steps_of_unit unit_ (last ∷ [])))
+        ∙ ap (λ (l : List Entry). entries_of (length calls) Settles (settle k) ++ l) (numbered_append (length calls) forgive (steps_of_unit unit_ made) (steps_of_unit unit_ (last ∷ [])))
         ∙ sym (append_assoc (entries_of (length calls) Settles (settle k)) (numbered (length calls) forgive (steps_of_unit unit_ made)) (last_entry ∷ [])))
         ∙ sym (append_assoc (issued p t calls) (entries_of (length calls) Settles (settle k) ++ numbered (length calls) forgive (steps_of_unit unit_ made)) (last_entry ∷ []))
 
@@ -180,28 +174,13 @@ small_shown p forgive t calls (unit.Ap read n addr value) b large wide shows = a
 small_shown p forgive t calls (unit.Dp read addr value) b large wide shows = absurd (let x : ◌≡◌ {A = Bool} false true = wide in cc)
 small_shown p forgive t calls (unit.Poll mask value turns) b large wide shows = absurd (let x : ◌≡◌ {A = Bool} false true = wide in cc)
 
-and_false : (x y : Bool) → x ≡ false → (x && y) ≡ false
-and_false true y e = absurd (cc)
-and_false false y e = refl
-
--- none where it was not read
-none_small : (t : TargetState) (large : List ℕ) (k : Kept) (unit_ : AccessUnit) → IsUnitInRange unit_ → ((ap : ℕ) → ap < 256 → (known k ap).large ≡ contains large ap) → needs_cfg k unit_ ≡ false → is_small t large (Access unit_) ≡ false
-none_small t large k (unit.Memory size read n address value) range larges none = and_false _ _ (ap (λ (c : Bool). nat_lt 0xFFFF_FFFF address && not c) (sym (larges n range.0)) ∙ none)
-none_small t large k (unit.Ap read n addr value) range larges none = refl
-none_small t large k (unit.Dp read addr value) range larges none = refl
-none_small t large k (unit.Poll mask value turns) range larges none = refl
-
-done_small : (t : TargetState) (large : List ℕ) (forgive : Bool) (call : Call) → is_small t large call ≡ false → is_small_end (call_done t large forgive call).end ≡ false
-unfolding call_done
-done_small t large forgive call none = not_small _ _ (is_small t large call) _ _ _ _ none
-
 pub small_unread : (p : Planner) (forgive : Bool) (t : TargetState) (calls : List Ask) (unit_ : AccessUnit) (b : IsBefore t calls (unit_ask unit_ forgive)) → needs_cfg (settled (kept_by p t calls)) unit_ ≡ false → small_now (start_world t None) calls (unit_ask unit_ forgive) ≡ false
 small_unread p forgive t calls unit_ b none =
     let c : IsCalm p t calls = is_calm p t calls (unit_ask unit_ forgive) b in
     one_small (start_world t None) calls (unit_ask unit_ forgive) b.whole
     ∙ ap is_small_end (alone_is t calls (unit_ask unit_ forgive) b.whole)
     ∙ done_small (alone_after t [] calls) (large_of_all t [] calls) forgive (Access unit_)
-    (none_small (alone_after t [] calls) (large_of_all t [] calls) (settled (kept_by p t calls)) unit_ (askable_last calls (unit_ask unit_ forgive) b.askable).range c.follows.larges none)
+    (small_none (alone_after t [] calls) (large_of_all t [] calls) (settled (kept_by p t calls)) unit_ (askable_last calls (unit_ask unit_ forgive) b.askable).range c.follows.larges none)
 
 -- its address is too large for its access port
 pub small_outcome : (forgive : Bool) (t : TargetState) (calls : List Ask) (unit_ : AccessUnit) (b : IsBefore t calls (unit_ask unit_ forgive)) → small_now (start_world t None) calls (unit_ask unit_ forgive) ≡ true →

@@ -1,6 +1,7 @@
 -- The steps of a unit made alone, flight by flight.
 use Rattle.std.proofs.Common.{◌≡◌, ◌∙◌, ℕ, ◌+◌, Bool, true, false, List, [], ◌∷◌, ◌++◌, map, refl, sym, ap, subst, append_assoc}
 use Rattle.std.proofs.lemmas.List.{map-append}
+use Rattle.std.proofs.lemmas.Bool.{both_ways}
 use Rattle.target_machine.specs.Attempt.{attempt}
 use Rattle.target_machine.specs.Lists.{after}
 use Rattle.target_machine.specs.Plain.{Action, Makes, acted, call_actions, is_fault}
@@ -15,6 +16,7 @@ use Rattle.access_regs.specs.Entries.{NoneFault}
 use Rattle.access_regs.specs.Journal.{Step, alone_at, is_last, large_of, making, numbered, steps_of}
 use Rattle.access_regs.specs.Kept.{Kept}
 use Rattle.access_regs.proofs.Select.{making_append}
+use Rattle.access_regs.proofs.Lists.{numbered_append}
 use Rattle.access_calls.specs.Issued.{kept_of}
 use Rattle.access_calls.specs.declared.issued.Issued.{Issued}
 use Rattle.flight_laws.specs.Actions.{AreForgiving}
@@ -60,9 +62,6 @@ after_making u (x ∷ xs) ys = after_making (acted u (Makes x)).next xs ys
 pub steps_both : (asked : AccessUnit) (xs ys : List RegAccess) → steps_of_unit asked (xs ++ ys) ≡ steps_of_unit asked xs ++ steps_of_unit asked ys
 steps_both asked xs ys = map-append _ xs ys
 
-pub numbered_both : (n : ℕ) (b : Bool) (xs ys : List Step) → numbered n b (xs ++ ys) ≡ numbered n b xs ++ numbered n b ys
-numbered_both n b xs ys = map-append _ xs ys
-
 pub cancel : {A : Type 0} → (xs ys zs : List A) → xs ++ ys ≡ xs ++ zs → ys ≡ zs
 cancel [] ys zs e = e
 cancel (x ∷ xs) ys zs e = cancel xs ys zs (let r : xs ++ ys ≡ xs ++ zs = cc in r)
@@ -95,7 +94,7 @@ unit_strict n asked (x ∷ xs) = (refl, unit_strict n asked xs)
 pub flight_kept : (forgive : Bool) (n : ℕ) (asked : AccessUnit) (leads : List RegAccess) (last : RegAccess) (b : Bool) → steps_of_unit asked (leads ++ last ∷ []) ≡ steps_of Leads leads ++ record { part = last_part b; action = Makes last } ∷ [] →
     map kept_of (numbered n forgive (steps_of_unit asked (leads ++ last ∷ []))) ≡ map (λ (a : RegAccess). record { unit = n + 1; part = Leads }) leads ++ record { unit = n + 1; part = last_part b } ∷ []
 flight_kept forgive n asked leads last b is =
-    ap (λ (l : List Step). map kept_of (numbered n forgive l)) is ∙ ap (map kept_of) (numbered_both n forgive (steps_of Leads leads) (record { part = last_part b; action = Makes last } ∷ []))
+    ap (λ (l : List Step). map kept_of (numbered n forgive l)) is ∙ ap (map kept_of) (numbered_append n forgive (steps_of Leads leads) (record { part = last_part b; action = Makes last } ∷ []))
     ∙ map-append kept_of (numbered n forgive (steps_of Leads leads)) (numbered n forgive (record { part = last_part b; action = Makes last } ∷ []))
     ∙ (λ j. leads_kept forgive n leads j ++ last_kept forgive n b last j)
 
@@ -108,10 +107,6 @@ pub record IsSplit (forgive : Bool) (asked : AccessUnit) (t : TargetState) (made
   pub is : left ≡ steps_of_unit asked (leads ++ last ∷ []) ++ tail
   pub bad : is_fault (acted (after t (making (made ++ leads))) (Makes last)).outcome ≡ true → tail ≡ after_fault forgive asked (made ++ (leads ++ last ∷ []))
   pub good : is_fault (acted (after t (making (made ++ leads))) (Makes last)).outcome ≡ false → more ≡ [] → tail ≡ []
-
-clash : (b : Bool) → b ≡ true → b ≡ false → ⊥
-clash true e f = cc
-clash false e f = cc
 
 pub split_steps : (forgive : Bool) (asked : AccessUnit) (k : Kept) (t : TargetState) (made leads : List RegAccess) (last : RegAccess) (ends : Bool) (left : List Step) (rest more : List Action) →
     call_actions t (large_of k asked) (Access asked) ≡ making made ++ rest → (alone_at forgive asked t k).steps ≡ steps_of_unit asked made ++ left → NoneFault t made → IsNext asked t made leads last ends rest more → IsSplit forgive asked t made leads last left more
@@ -141,7 +136,7 @@ split_steps forgive asked k t made leads last ends left rest more actions steps 
           tail = after_fault forgive asked ((made ++ leads) ++ last ∷ []);
           is = cut (after_fault forgive asked ((made ++ leads) ++ last ∷ [])) (f.0 e);
           bad = λ bad. ap (after_fault forgive asked) joined;
-          good = λ fine none. absurd (clash (is_fault (acted (after t (making (made ++ leads))) (Makes last)).outcome) e fine);
+          good = λ fine none. absurd (both_ways (is_fault (acted (after t (making (made ++ leads))) (Makes last)).outcome) fine e);
         }
     by_fault false e =
         let f = alone_flight forgive asked t k (made ++ leads) last more n.may are none in
@@ -149,6 +144,6 @@ split_steps forgive asked k t made leads last ends left rest more actions steps 
         record {
           tail = b.more;
           is = cut b.more b.is;
-          bad = λ bad. absurd (clash (is_fault (acted (after t (making (made ++ leads))) (Makes last)).outcome) bad e);
+          bad = λ bad. absurd (both_ways (is_fault (acted (after t (making (made ++ leads))) (Makes last)).outcome) e bad);
           good = λ fine none. b.end none;
         }

@@ -76,10 +76,6 @@ abort_log forgive old mid sure new asked made accesses b unit mid_is sure_is new
     (append_assoc old.entries (map kept_of (flight_entries forgive old asked accesses)) (kept_of (abort_entry old asked (made ++ accesses)) ∷ [])
     ∙ ap (λ (l : List Issued). old.entries ++ l) (sym (map-append kept_of (flight_entries forgive old asked accesses) (abort_entry old asked (made ++ accesses) ∷ []))))
 
-pub never_both : (b : Bool) → b ≡ false → b ≡ true → ⊥
-never_both true e f = cc
-never_both false e f = cc
-
 free_or : (A B C : Type 0) → A ⊎ B → (A → C) → B ⊎ C
 free_or A B C (inl a) f = inr (f a)
 free_or A B C (inr b) f = inl b

@@ -30,6 +30,7 @@ use Rattle.packed_access.specs.Logs.{LogState}
 use Rattle.packed_access.proofs.BegunLemmas.{fact_of}
 use Rattle.packed_access.proofs.TryMemoryLemmas.{tried_clear, tried_good, went_came}
 use Rattle.access_regs.specs.declared.planner.Planner.{Planner}
+use Rattle.access_regs.proofs.Wide.{and_not}
 
 tried_actions : (p : Planner) (forgive : Bool) (x : Option BenchState) (log : LogState) (asked : AccessUnit) (k : Kept) (t : TargetState) (made : List RegAccess) (rest : List Action) (m0 : BenchState) → HasTried p forgive x log asked k t made rest m0 → call_actions t (large_of k asked) (Access asked) ≡ making made ++ rest
 tried_actions p forgive x log asked k t made rest m0 h = fact_of x (λ m. IsTrying p forgive log asked k t made rest m0 m) _ (λ m i. i.actions) h.so
@@ -41,11 +42,6 @@ given_fault : (o : Outcome) → is_fault o ≡ true → given o ≡ 0
 given_fault outcome.Fault e = refl
 given_fault (outcome.Value n) e = absurd (cc)
 given_fault outcome.Done e = absurd (cc)
-
-and_right : (a b : Bool) → (a && not b) ≡ true → b ≡ false
-and_right true true e = absurd (cc)
-and_right true false e = refl
-and_right false b e = absurd (cc)
 
 -- ---- a memory unit
 
@@ -105,7 +101,7 @@ module _ (p : Planner) (forgive : Bool) (x : Option BenchState) (log : LogState)
     cfg_next = record { may = refl; first = refl; are = wide_rest; parts = refl; early = refl; good = none_select }
 
     not_large : (known k n).large ≡ false
-    not_large = and_right (nat_lt 0xFFFF_FFFF address) large wide
+    not_large = and_not (nat_lt 0xFFFF_FFFF address) large wide
 
     -- the read as the last of both
     order_is : in_order t (cfg_actions n) ≡ attempt (after t (making (select_of n 15 ∷ []))) (ap_access_of true 4 0)

@@ -27,7 +27,6 @@ use Rattle.flight_laws.specs.Sending.{IsSending}
 use Rattle.flight_laws.proofs.ComeLemmas.{result_given}
 use Rattle.flight_laws.proofs.CutLemmas.{Cutting, cut_list}
 use Rattle.flight_laws.proofs.FlightLemmas.{room_grown}
-use Rattle.flight_laws.proofs.OpenLemmas.{askable_first}
 use Rattle.flight_laws.proofs.SendLemmas.{whole_sends}
 use Rattle.packed_access.specs.Begun.{HasIssued, IsGivenAt, IsIssuing, most_weight}
 use Rattle.bench_flights.specs.Flown.{HasCome}
@@ -37,6 +36,7 @@ use Rattle.packed_access.proofs.CameLemmas.{HaveCome, have_come_own, place_withi
 use Rattle.packed_access.proofs.FillLemmas.{filled_is, filled_length}
 use Rattle.packed_access.proofs.SlotLemmas.{slot_gives}
 use Rattle.access_regs.specs.declared.planner.Planner.{Planner}
+use Rattle.access_regs.proofs.EntryLemmas.{askable_first}
 
 -- the first of the first ones
 pub take_first : {A : Type 0} → (m n : ℕ) (xs : List A) → m ≤ n → take m (take n xs) ≡ take m xs

@@ -7,6 +7,7 @@ use Rattle.std.proofs.lemmas.List.{length-append}
 use Rattle.std.proofs.lemmas.List.Sums.{sum_by-append, sum_by-cons}
 use Rattle.std.specs.List.{AllByRecursion}
 use Rattle.std.specs.Prelude.{nat_lt, is_none, is_some, sum_by}
+use Rattle.std.proofs.Math.Bool.{and-false}
 use Rattle.target_machine.specs.Lists.{after}
 use Rattle.target_machine.specs.Plain.{Makes, ap_access_of, drw_of, may_forgive, select_of}
 use Rattle.target_machine.specs.State.{TargetState}
@@ -30,6 +31,7 @@ use Rattle.access_regs.specs.declared.planner.Planner.TheVariants.{Managed}
 use Rattle.access_regs.proofs.AllCalls.{known_nothing}
 use Rattle.access_regs.proofs.Few.{Ready, few_unless, made_large, made_ready, ready_leads, ready_plan, settled_large, unit_here}
 use Rattle.access_regs.proofs.PortFacts.{known_same, table_kept}
+use Rattle.access_regs.proofs.Course.{steps_append}
 use Rattle.access_calls.specs.Bounds.{AreNextWrites, IsWriteAt}
 use Rattle.flight_laws.specs.Packets.{is_drw_write}
 use Rattle.packed_access.specs.Blocks.{changes_after, changes_in, differs, others_in}
@@ -74,11 +76,6 @@ bare_others n f part (x ∷ xs) es h =
     omega (arith, c, one, r)
 
 -- ---- one write and its settling
-
--- the steps of accesses and more of them are those of the first, and then those of the others
-steps_both : (part : Part) (xs ys : List RegAccess) → steps_of part (xs ++ ys) ≡ steps_of part xs ++ steps_of part ys
-steps_both part [] ys = refl
-steps_both part (x ∷ xs) ys = ap (λ (l : List Step). record { part = part; action = Makes x } ∷ l) (steps_both part xs ys)
 
 -- a write of DRW is one change after what leads to it, and none directly after another write of DRW
 lead_changes : (b : Bool) (n : ℕ) (xs : List RegAccess) (d : Step) (rest : List Entry) → AreBare xs → is_drw_write d.action ≡ true → (b ≡ true → xs ≡ []) →
@@ -170,11 +167,6 @@ record IsPlanned (b : Bool) (size m address value most : ℕ) (i : Issue) : Type
   table : m < length from.ports
   large : (known from m).large ≡ false
 
--- two facts of which the second is false are not both true
-and_none : (b : Bool) → (b && false) ≡ false
-and_none true = refl
-and_none false = refl
-
 module _ (size m address value : ℕ) (t : TargetState) where
   -- the unit that writes the value at the address
   abbrev asked : AccessUnit
@@ -242,7 +234,7 @@ module _ (size m address value : ℕ) (t : TargetState) where
       no_settle : needs_settle k asked ≡ false
       no_settle =
           ap (λ (b : Bool). is_some k.unsettled && (b || not (is_known k.select (select_value m 0)))) (narrow_port k low)
-          ∙ ap (λ (b : Bool). is_some k.unsettled && not b) h.select ∙ and_none (is_some k.unsettled)
+          ∙ ap (λ (b : Bool). is_some k.unsettled && not b) h.select ∙ and-false (is_some k.unsettled)
 
       is : planned t k asked ≡ by_plan k asked
       is =
@@ -300,7 +292,7 @@ module _ (size m address value : ℕ) (t : TargetState) where
     steps = ap (λ (i : Issue). i.steps) (first_is low)
         ∙ ap (λ (p : List RegAccess). steps_of Leads (first_plan nothing_kept m) ++ (steps_of Leads p ++ end ∷ [])) (half_leads first_kept (first_half lt))
         ∙ sym (append_assoc (steps_of Leads (first_plan nothing_kept m)) (steps_of Leads (port_writes (known first_kept m) size address)) (end ∷ []))
-        ∙ ap (λ (s : List Step). s ++ end ∷ []) (sym (steps_both Leads (first_plan nothing_kept m) (port_writes (known first_kept m) size address)));
+        ∙ ap (λ (s : List Step). s ++ end ∷ []) (sym (steps_append Leads (first_plan nothing_kept m) (port_writes (known first_kept m) size address)));
     kept = ap (λ (i : Issue). i.kept) (first_is low);
     table = (first_half lt).table;
     large = (first_half lt).large;

@@ -75,7 +75,7 @@ begins_with xs ys made more same le =
     ∙ take-append-add xs ys (length made - length xs)
 
 -- no accesses are made by no entries
-none_flying : (flying : List Entry) → actions_in flying ≡ [] → flying ≡ []
+pub none_flying : (flying : List Entry) → actions_in flying ≡ [] → flying ≡ []
 none_flying [] h = refl
 none_flying (e ∷ es) h = absurd (cc)
 

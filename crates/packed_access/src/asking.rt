@@ -71,7 +71,7 @@ impl<F: Flights> Sender<F> {
 
     // Issues the last call's unit, which forgives nothing and is no poll, with a settling before it where that is
     // needed; before the first call nothing is unsettled. Answers the same.
-    #[tactic(auto, using(crate::proofs::FrameLemmas::keeps_on, crate::proofs::PlanLemmas::settle_few))]
+    #[tactic(auto, using(crate::proofs::FrameLemmas::keeps_on, access_regs::proofs::LightLemmas::settle_short))]
     fn issue_planned(&mut self, unit: &Unit) -> Result<bool, Stop>
         requires ready { CanIssue 11 (⟦<Self as Seen>⟧.view self.old) }
         requires sound { IsSound unit.now }
@@ -104,7 +104,7 @@ impl<F: Flights> Sender<F> {
 
     // Asks a unit that forgives nothing and is no poll. Answers whether it ended because its access port has no large
     // addresses: then it has come, with the result 0.
-    #[tactic(auto, using(crate::proofs::FrameLemmas::keeps_on, crate::proofs::FrameLemmas::keeps_still, crate::proofs::PlanLemmas::settle_few))]
+    #[tactic(auto, using(crate::proofs::FrameLemmas::keeps_on, crate::proofs::FrameLemmas::keeps_still, access_regs::proofs::LightLemmas::settle_short))]
     pub(crate) fn ask_planned(&mut self, unit: &Unit) -> Result<bool, Stop>
         requires ready { CanIssue most_entries (⟦<Self as Seen>⟧.view self.old) }
         requires sound { IsSound unit.now }
@@ -122,11 +122,11 @@ impl<F: Flights> Sender<F> {
     {
         match self.issue_planned(unit) {
             Ok(false) => {
-                self.log.complete();
+                self.log.note_all_issued();
                 Ok(false)
             }
             Ok(true) => {
-                self.log.complete();
+                self.log.note_all_issued();
                 let count = self.log.count();
                 self.log.take(count - 1, 0);
                 self.log.confirm();

@@ -135,7 +135,9 @@ impl<F: Flights> Access for PackedAccess<F> {
 
     ghost identity = { λ s. F.identity s.sender.flights };
 
-    ghost begun = { λ s m. HasBegunSet s.config.idle s.config.retry F.planner (F.limits s.sender.flights) (F.reported s.sender.flights) (F.state s.sender.flights) s.sender.log (F.packet s.sender.flights) (F.reply s.sender.flights) s.sender.managed (F.accesses s.sender.flights) m };
+    ghost begun = { λ s m. HasBegunSet s.config.idle s.config.retry F.planner
+        (F.limits s.sender.flights) (F.reported s.sender.flights) (F.state s.sender.flights) s.sender.log
+        (F.packet s.sender.flights) (F.reply s.sender.flights) s.sender.managed (F.accesses s.sender.flights) m };
 
     ghost journal = { issued F.planner };
 
@@ -256,6 +258,6 @@ impl<F: Flights> Access for PackedAccess<F> {
     }
 
     fn skipped(&self) -> u32 {
-        self.sender.log.skipped()
+        self.sender.log.count_skipped()
     }
 }

@@ -80,7 +80,7 @@ fn lines_before(entry: Issued) -> u32
 
 impl Confirmed {
     // No entries.
-    pub(crate) fn none() -> Confirmed
+    pub(crate) fn new() -> Confirmed
         ensures { IsCountOf result [] }
     {
         Confirmed {

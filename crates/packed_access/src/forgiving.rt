@@ -47,7 +47,7 @@ struct Attempt {
 }
 
 // The unit was made, or skipped, after so many reads.
-fn made(word: Option<u32>, reads: u64) -> Attempt
+fn attempt_of(word: Option<u32>, reads: u64) -> Attempt
     ensures small { result.small ≡ false }
     ensures word { result.word ≡ word }
     ensures reads { result.reads ≡ reads }
@@ -67,7 +67,7 @@ fn close_call(log: &mut CallLog, word: Option<u32>)
     ensures sound { IsSoundState log.new }
 {
     let last = log.count() - 1;
-    log.complete();
+    log.note_all_issued();
     match word {
         Some(word) => {
             log.take(last, word);
@@ -173,7 +173,7 @@ impl<F: Flights> Sender<F> {
     {
         let cfg = match self.try_port(ap, CFG / 16, access_ap(true, CFG % 16, 0), false, forgive) {
             Ok(Some(cfg)) => cfg,
-            Ok(None) => return Ok(made(None, 1)),
+            Ok(None) => return Ok(attempt_of(None, 1)),
             Err(stop) => return Err(stop),
         };
         if !self.managed.learn_cfg(ap, cfg) {
@@ -184,7 +184,7 @@ impl<F: Flights> Sender<F> {
             });
         }
         match self.try_memory(true, size, read, ap, address, value, forgive) {
-            Ok(word) => Ok(made(word, 2)),
+            Ok(word) => Ok(attempt_of(word, 2)),
             Err(stop) => Err(stop),
         }
     }
@@ -222,7 +222,7 @@ impl<F: Flights> Sender<F> {
                 }
                 let large = self.is_large(ap);
                 match self.try_memory(large, size, read, ap, address, value, forgive) {
-                    Ok(word) => Ok(made(word, 1)),
+                    Ok(word) => Ok(attempt_of(word, 1)),
                     Err(stop) => Err(stop),
                 }
             }
@@ -234,11 +234,11 @@ impl<F: Flights> Sender<F> {
             } => {
                 let access = access_ap(read, addr % 16, value);
                 match self.try_port(ap, addr / 16, access, true, forgive) {
-                    Ok(word) => Ok(made(word, 0)),
+                    Ok(word) => Ok(attempt_of(word, 0)),
                     Err(stop) => Err(stop),
                 }
             }
-            Unit::Dp { .. } | Unit::Poll { .. } => Ok(made(Some(0), 0)),
+            Unit::Dp { .. } | Unit::Poll { .. } => Ok(attempt_of(Some(0), 0)),
         }
     }
 

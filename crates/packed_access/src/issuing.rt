@@ -45,7 +45,7 @@ pub(crate) fn take_values<F: Flights>(log: &mut CallLog, flights: &F)
     ensures answer { log.new ≡ all_taken (F.values flights.now) log.old }
     ensures sound { IsSoundState log.new }
 {
-    for index in log.came()..log.whole() {
+    for index in log.count_came()..log.count_whole() {
         let word = flights.value(log.pending_place(index));
         log.take(index, word);
     }
@@ -181,7 +181,7 @@ impl<F: Flights> Sender<F> {
             Ok(()) => {}
             Err(stop) => return Err(stop),
         }
-        let place = self.log.pending() - 1;
+        let place = self.log.count_pending() - 1;
         match self.send() {
             Ok(()) => Ok(self.flights.value(place)),
             Err(stop) => Err(stop),
@@ -189,7 +189,7 @@ impl<F: Flights> Sender<F> {
     }
 
     // Settles the unsettled access port, where there is one, as entries of this unit.
-    #[tactic(auto, using(crate::proofs::PlanLemmas::settle_taken, crate::proofs::PlanLemmas::settle_few))]
+    #[tactic(auto, using(crate::proofs::PlanLemmas::settle_taken, access_regs::proofs::LightLemmas::settle_short))]
     pub(crate) fn settle(&mut self, unit: u32) -> Result<(), Stop>
         requires ready { CanAdd (length (settle self.old.managed)) (⟦<Self as Seen>⟧.view self.old) }
         requires unit { 0 < length (settle self.old.managed) → IsOfCall (length self.old.log.calls) (record { unit = unit; part = Settles }) }
@@ -203,7 +203,7 @@ impl<F: Flights> Sender<F> {
         ensures managed { self.new.managed ≡ settled self.old.managed }
     {
         let plan = self.managed.settle();
-        self.managed.settled();
+        self.managed.note_settled();
         self.issue_all(unit, Part::Settles, list_accesses(&plan))
     }
 
@@ -237,7 +237,7 @@ impl<F: Flights> Sender<F> {
         self.log.issue(unit, Part::Ends);
         match self.flights.command(call) {
             Ok(word) => {
-                self.log.complete();
+                self.log.note_all_issued();
                 self.log.take(unit - 1, word);
                 self.log.confirm();
                 Ok(word)

@@ -7,7 +7,9 @@ ghost use Rattle.access_calls.specs.Issued.{lines_before_kept};
 ghost use Rattle.access_calls.specs.declared.stop.Stop.TheVariants as Stop;
 ghost use Rattle.batch_packer.specs.FlightEnds.{IsShort};
 ghost use Rattle.packed_access.specs.Tails.{IsRoomier};
-ghost use Rattle.packed_access.specs.Logs.{IsLogCut, IsOfCall, IsSoundState, IsStopped, all_confirmed, asks_of, entries_confirmed, most_entries, nothing_logged, pending, pending_place, result_at, result_for, all_issued, with_asks, with_call, with_entry, with_needs, with_result};
+ghost use Rattle.packed_access.specs.Logs.{IsLogCut, IsOfCall, IsSoundState, IsStopped, all_confirmed, all_issued, asks_of};
+ghost use Rattle.packed_access.specs.Logs.{entries_confirmed, most_entries, nothing_logged, pending, pending_place, result_at, result_for};
+ghost use Rattle.packed_access.specs.Logs.{with_asks, with_call, with_entry, with_needs, with_result};
 
 use crate::confirmed::Confirmed;
 use crate::results::result_of;
@@ -114,7 +116,7 @@ impl CallLog {
             places: TailList::new(alloc),
             entries: TailList::new(alloc),
             room: 0,
-            confirmed: Confirmed::none(),
+            confirmed: Confirmed::new(),
             whole: 0,
             came: 0,
             known: 0,
@@ -139,27 +141,27 @@ impl CallLog {
         self.end
     }
 
-    pub(crate) fn skipped(&self) -> u32
+    pub(crate) fn count_skipped(&self) -> u32
         ensures { result ≡ self.now.skipped }
     {
         self.skipped
     }
 
     // How many entries were issued and are not confirmed.
-    pub(crate) fn pending(&self) -> u32
+    pub(crate) fn count_pending(&self) -> u32
         ensures { result ≡ pending self.now }
     {
-        self.entries.len() - self.entries.gone()
+        self.entries.len() - self.entries.count_gone()
     }
 
     // How many calls came, and how many were issued whole.
-    pub(crate) fn came(&self) -> u32
+    pub(crate) fn count_came(&self) -> u32
         ensures { result ≡ self.now.came }
     {
         self.came
     }
 
-    pub(crate) fn whole(&self) -> u32
+    pub(crate) fn count_whole(&self) -> u32
         ensures { result ≡ self.now.whole }
     {
         self.whole
@@ -202,7 +204,7 @@ impl CallLog {
     }
 
     // All entries of the calls that were asked are issued. The last of them gives the result of the last call.
-    pub(crate) fn complete(&mut self)
+    pub(crate) fn note_all_issued(&mut self)
         requires some { 0 < length self.old.calls }
         ensures answer { self.new ≡ all_issued self.old }
         ensures sound { IsSoundState self.new }
@@ -218,7 +220,9 @@ impl CallLog {
         requires later { self.now.came ≤ index }
         ensures { result ≡ pending_place self.now index }
     {
-        self.places.get(index).saturating_sub(self.entries.gone())
+        self.places
+            .get(index)
+            .saturating_sub(self.entries.count_gone())
     }
 
     // The entry that gives the result of a call gave this word.
@@ -250,7 +254,7 @@ impl CallLog {
         ensures answer { self.new ≡ entries_confirmed self.old }
         ensures sound { IsSoundState self.new }
     {
-        self.confirmed.add(self.entries.kept());
+        self.confirmed.add(self.entries.kept_items());
         let count = self.entries.len();
         self.entries.let_go(count);
     }
@@ -329,7 +333,7 @@ impl CallLog {
 
     // The access ends at a cut: the report.
     #[tactic(auto, using(crate::proofs::LogLemmas::named_here, crate::proofs::LogLemmas::cut_lines, crate::proofs::LogLemmas::cut_later))]
-    fn cut(&mut self, cut: Cut) -> Report
+    fn end_at_cut(&mut self, cut: Cut) -> Report
         requires open { self.old.end ≡ None }
         requires performed { cut.performed ≤ pending self.old }
         requires confirmed { cut.confirmed < pending self.old }
@@ -340,7 +344,7 @@ impl CallLog {
             0x02 => StopCause::NoAnswer,
             _ => StopCause::Faulted,
         };
-        let entries = self.entries.kept();
+        let entries = self.entries.kept_items();
         let named = entries[cut.confirmed as usize];
         let what = self.asks.get(named.unit - 1).call;
         let stop = self.confirmed.stop_report(entries, what, cut, cause);
@@ -360,10 +364,10 @@ impl CallLog {
         ensures sound { IsSoundState self.new }
     {
         let stop = match end {
-            FlightEnd::Cut(cut) => return Stop::Cut(self.cut(cut)),
+            FlightEnd::Cut(cut) => return Stop::Cut(self.end_at_cut(cut)),
             FlightEnd::BenchFault => Stop::BenchFault {
                 issued: self.entries.len(),
-                confirmed: self.entries.gone(),
+                confirmed: self.entries.count_gone(),
             },
             FlightEnd::ReplyBad => Stop::ReplyBad,
         };

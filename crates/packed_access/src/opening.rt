@@ -32,7 +32,8 @@ pub(crate) fn begin_over<B: Bench, F: FlightsOver<B>>(
     // Where the bench is observable, only the settings have changed, and three starting packets were received.
     ensures on { IfOk result (λ a. StepsTo (λ m o. MayBegin m → HasOpened config m o) (B.state bench) (F.Flights.state a.sender.flights)) }
     // The access began there, before these exchanges, with their settings.
-    ensures begun { IfOk result (λ a. StepsTo (λ m o. MayBegin m → HasBegunSet a.config.idle a.config.retry F.Flights.planner (F.Flights.limits a.sender.flights) (F.Flights.reported a.sender.flights) (F.Flights.state a.sender.flights) a.sender.log
+    ensures begun { IfOk result (λ a. StepsTo (λ m o. MayBegin m → HasBegunSet a.config.idle a.config.retry F.Flights.planner
+        (F.Flights.limits a.sender.flights) (F.Flights.reported a.sender.flights) (F.Flights.state a.sender.flights) a.sender.log
         (F.Flights.packet a.sender.flights) (F.Flights.reply a.sender.flights)
         a.sender.managed (F.Flights.accesses a.sender.flights) (opened_bench config m)) (B.state bench) (F.Flights.state a.sender.flights)) }
     // Nothing is asked yet, and there is no end.

@@ -40,7 +40,7 @@ pub(crate) fn port_of(unit: &Unit) -> u8
 
 impl<F: Flights> Sender<F> {
     // Reads CFG of the unit's access port, and answers whether the port has large addresses.
-    #[tactic(auto, using(crate::proofs::FrameLemmas::keeps_on, crate::proofs::PlanLemmas::cfg_taken, crate::proofs::PlanLemmas::cfg_some, crate::proofs::PlanLemmas::cfg_few))]
+    #[tactic(auto, using(crate::proofs::FrameLemmas::keeps_on, crate::proofs::PlanLemmas::cfg_planned))]
     pub(crate) fn read_cfg(&mut self, unit: &Unit) -> Result<bool, Stop>
         requires unknown { needs_cfg self.old.managed unit.now ≡ true }
         requires ready { CanIssue 2 (⟦<Self as Seen>⟧.view self.old) }
@@ -75,7 +75,7 @@ impl<F: Flights> Sender<F> {
     }
 
     // Reads CSW of the unit's access port, which is not known.
-    #[tactic(auto, using(crate::proofs::FrameLemmas::keeps_on, crate::proofs::PlanLemmas::first_taken, crate::proofs::PlanLemmas::first_some, crate::proofs::PlanLemmas::first_few))]
+    #[tactic(auto, using(crate::proofs::FrameLemmas::keeps_on, crate::proofs::PlanLemmas::first_planned))]
     fn read_csw(&mut self, unit: &Unit) -> Result<(), Stop>
         requires unknown { needs_csw self.old.managed unit.now ≡ true }
         requires ready { CanIssue 2 (⟦<Self as Seen>⟧.view self.old) }
@@ -108,7 +108,7 @@ impl<F: Flights> Sender<F> {
     }
 
     // Issues the plan of the last call's unit, which is no poll.
-    #[tactic(auto, using(crate::proofs::FrameLemmas::keeps_on, crate::proofs::PlanLemmas::plan_taken, crate::proofs::PlanLemmas::leads_few, crate::proofs::PlanLemmas::plan_parts))]
+    #[tactic(auto, using(crate::proofs::FrameLemmas::keeps_on, crate::proofs::PlanLemmas::planned))]
     fn issue_unit(&mut self, unit: &Unit) -> Result<(), Stop>
         requires ready { CanIssue 5 (⟦<Self as Seen>⟧.view self.old) }
         requires sound { IsSound unit.now }
@@ -123,7 +123,7 @@ impl<F: Flights> Sender<F> {
         ensures managed { self.new.managed ≡ made self.old.managed unit.now }
     {
         let plan = self.managed.plan(unit);
-        self.managed.made(unit);
+        self.managed.note_made(unit);
         let accesses = list_accesses(&plan);
         let last = accesses.len() - 1;
         let number = self.log.count();

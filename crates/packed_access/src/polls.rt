@@ -13,7 +13,7 @@ ghost use Rattle.access_regs.specs.declared.planner.Planner.TheVariants.{Managed
 ghost use Rattle.access_calls.specs.Left.{IsLeft};
 ghost use Rattle.batch_packer.specs.Flying.{CanFly};
 ghost use Rattle.packed_access.specs.Begun.{StopsThere};
-ghost use Rattle.bench_flights.specs.Flown.{BenchGoesOn, CanMatch, HasDone, HasEndCause, IsCutResponse, LeftOff, NamesNone, SendsFew, matched_word};
+ghost use Rattle.bench_flights.specs.Flown.{CanMatch, HasDone, KeepsFlights, LeftOff, NamesNone, SendsFew, matched_word};
 ghost use Rattle.packed_access.specs.Logs.{asks_of};
 ghost use Rattle.packed_access.specs.Polls.{HasPoll};
 ghost use Rattle.packed_access.specs.Frame.{CanAdd, EndsBy, Keeps};
@@ -57,14 +57,7 @@ fn make_poll<F: Flights>(
     ensures left { IfErr result (λ end. StepsTo (λ m o. CanFly m → (zero ≡ true → CanMatch config.idle config.retry m)
         → LeftOff (Polls mask requested turns) end m o) (F.state flights.old) (F.state flights.new)) }
     ensures none { IfErr result NamesNone }
-    ensures response { IfErr result IsCutResponse }
-    ensures empty { F.accesses flights.new ≡ [] }
-    ensures limits { F.limits flights.new ≡ F.limits flights.old }
-    ensures ended { OnOk result (F.ended flights.new ≡ None) }
-    ensures faults { OnOk result ((F.reported flights.new).faults ≡ (F.reported flights.old).faults) }
-    ensures cause { IfErr result (λ end. HasEndCause end (F.reported flights.old) (F.reported flights.new) (F.packet flights.new) (F.reply flights.new)) }
-    ensures goes { BenchGoesOn (F.reported flights.old) (F.reported flights.new) (F.state flights.old) (F.state flights.new) }
-    ensures identity { F.identity flights.new ≡ F.identity flights.old }
+    ensures keeps { KeepsFlights F.reported F.state F.identity F.accesses F.ended F.limits F.packet F.reply result flights.old flights.new }
 {
     if zero {
         match flights.poll(config, mask, requested, turns) {
@@ -137,7 +130,7 @@ impl<F: Flights> Sender<F> {
         self.log.issue(unit, Part::Ends);
         match make_poll(&mut self.flights, config, zero, mask, requested, turns) {
             Ok(found) => {
-                self.log.complete();
+                self.log.note_all_issued();
                 self.log.take(unit - 1, found.matched as u32);
                 self.log.confirm();
                 Ok(found.points)

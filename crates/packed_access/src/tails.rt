@@ -120,14 +120,14 @@ impl<T: Copy> TailList<T> {
     }
 
     // How many elements were let go.
-    pub(crate) fn gone(&self) -> u32
+    pub(crate) fn count_gone(&self) -> u32
         ensures { result ≡ self.now.gone }
     {
         self.gone.len()
     }
 
     // The elements that are kept.
-    pub(crate) fn kept(&self) -> &[T]
+    pub(crate) fn kept_items(&self) -> &[T]
         ensures { result.now ≡ drop self.now.gone self.now.all }
     {
         self.items.as_slice()

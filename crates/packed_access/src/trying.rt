@@ -9,6 +9,7 @@ ghost use Rattle.flight_forms.specs.Packing.{IsTaken};
 ghost use Rattle.probe_core.specs.Bench.{BenchState, StepsTo};
 ghost use Rattle.access_calls.specs.Issued.{lines_before_kept};
 ghost use Rattle.bench_flights.specs.Clearing.{IsOneTransfer};
+ghost use Rattle.bench_flights.specs.Flown.{LeavesBench};
 ghost use Rattle.packed_access.specs.Forgiving.{IsNext, LeadsCame, with_accesses};
 ghost use Rattle.packed_access.specs.Sparing.{WentFew};
 ghost use Rattle.batch_packer.specs.Flying.{CanFly};
@@ -42,11 +43,8 @@ impl<F: Flights> Sender<F> {
         ensures accesses { F.accesses self.new.flights ≡ F.accesses self.old.flights ++ accesses.now }
         ensures log { self.new.log ≡ with_accesses self.old.log unit part accesses.now }
         ensures space { (next : RegAccess) → IsTaken next → length (F.accesses self.new.flights) < 4 → F.has_room self.new.flights next ≡ true }
-        ensures reported { F.reported self.new.flights ≡ F.reported self.old.flights }
-        ensures state { F.state self.new.flights ≡ F.state self.old.flights }
-        ensures limits { F.limits self.new.flights ≡ F.limits self.old.flights }
         ensures managed { self.new.managed ≡ self.old.managed }
-        ensures identity { F.identity self.new.flights ≡ F.identity self.old.flights }
+        ensures keeps { LeavesBench F.reported F.state F.identity F.limits self.old.flights self.new.flights }
     {
         for access in accesses {
             self.flights.push(*access);
@@ -192,7 +190,7 @@ impl<F: Flights> Sender<F> {
         ensures managed { self.new.managed ≡ selected self.old.managed (select_value ap bank) }
     {
         let write = select(ap, bank);
-        self.managed.selected(write.value);
+        self.managed.note_select(write.value);
         self.try_flight(&[write], access, ends, forgive)
     }
 }

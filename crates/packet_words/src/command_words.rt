@@ -4,7 +4,9 @@ ghost use Rattle.dap_replies.specs.ReplyReading.{id_byte};
 ghost use Rattle.hex.specs.Hex.{encode_lower};
 ghost use Rattle.dap_messages.specs.Commands.{IsCommand, requests_of};
 ghost use Rattle.dap_messages.specs.Responses.{response_of};
-ghost use Rattle.packet_words.specs.Commands.{response_name, outcome, info_number, info_outcome, first_byte, pins_outcome, info_name, pins_head, command_words, command_mark, command_line, left_of, command_lines, after_response, after_pins, after_known, after_command};
+ghost use Rattle.packet_words.specs.Commands.{response_name, outcome, info_number, info_outcome, first_byte, pins_outcome, info_name};
+ghost use Rattle.packet_words.specs.Commands.{pins_head, command_words, command_mark, command_line, left_of, command_lines};
+ghost use Rattle.packet_words.specs.Commands.{after_response, after_pins, after_known, after_command};
 ghost use Rattle.packet_words.specs.Requests.{request_lines, after_requests};
 
 use crate::fate::Left;

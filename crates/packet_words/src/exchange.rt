@@ -4,7 +4,9 @@ ghost use Rattle.std.specs.Option.{option_copied};
 ghost use Rattle.dap_messages.specs.PacketReading.{packet_read};
 ghost use Rattle.register_words.specs.Known.{unknown};
 ghost use Rattle.packet_words.specs.Saying.{Says, SaysAll};
-ghost use Rattle.packet_words.specs.Exchange.{unanswered_lines, misanswer_line, misanswered, answered, kind_words, head_words, is_head, head_fault, all_answered, packet_answered, replied_line, unreplied_line, packet_said, no_packet_line, no_packet, said_of, reply_line, trace_lines, exchange};
+ghost use Rattle.packet_words.specs.Exchange.{unanswered_lines, misanswer_line, misanswered, answered, kind_words, head_words, is_head};
+ghost use Rattle.packet_words.specs.Exchange.{head_fault, all_answered, packet_answered, replied_line, unreplied_line, packet_said};
+ghost use Rattle.packet_words.specs.Exchange.{no_packet_line, no_packet, said_of, reply_line, trace_lines, exchange};
 
 use crate::command_words::{first_byte, with_command, with_digits};
 use crate::fault::with_fault;

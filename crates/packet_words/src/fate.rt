@@ -65,7 +65,7 @@ fn other_words(bytes: &[u8]) -> &[u8]
 }
 
 // What became of a request that was executed.
-fn executed(request: Request, words: &[u8]) -> Fate
+fn fate_of_executed(request: Request, words: &[u8]) -> Fate
     ensures { result ≡ executed request (words_in words.now) }
 {
     if !request.is_read() {
@@ -88,7 +88,7 @@ impl<'a> Left<'a> {
         } else if self.done == 0 {
             Fate::Skipped
         } else {
-            executed(request, self.words)
+            fate_of_executed(request, self.words)
         }
     }
 
@@ -118,7 +118,7 @@ fn execute(known: &mut Known, request: Request)
     let register = register_of(known.select, request.byte);
     match request.kind() {
         RequestKind::Write => known.write(register, request.word),
-        RequestKind::Match => known.matched(register),
+        RequestKind::Match => known.note_match(register),
         RequestKind::Mask | RequestKind::Posted | RequestKind::Read => {}
     }
 }

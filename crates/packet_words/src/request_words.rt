@@ -1,7 +1,9 @@
 //! The words of requests.
 ghost use Rattle.std.specs.Prelude.{◌≡◌, ◌++◌, ◌<◌, ◌^◌, IfOk, OnOk, codes, length, option_map};
 ghost use Rattle.text_lines.specs.Hex.{hex2};
-ghost use Rattle.packet_words.specs.Requests.{mark, subject, read_part, value_part, address_words, banked_address, csw_note, port_note, note, match_note, done_note, request_note, line_of, request_line, block_requests, request_lines, after_requests};
+ghost use Rattle.packet_words.specs.Requests.{mark, subject, read_part, value_part, address_words, banked_address, csw_note, port_note};
+ghost use Rattle.packet_words.specs.Requests.{note, match_note, done_note, request_note, line_of, request_line, block_requests};
+ghost use Rattle.packet_words.specs.Requests.{request_lines, after_requests};
 
 use crate::fate::{Fate, Left, follow};
 use dap_base::OutOfMemory;

@@ -27,7 +27,7 @@ const UNKNOWN_PORT: Port = Port {
 };
 
 // TAR after an access of so many bytes.
-fn moved(tar: u32, size: u32) -> Option<u32>
+fn move_tar(tar: u32, size: u32) -> Option<u32>
     requires { (size ≡ 1) ⊎ (size ≡ 2) ⊎ (size ≡ 4) }
     ensures { result ≡ moved tar size }
 {
@@ -42,15 +42,15 @@ fn moved_by(tar: u32, csw: u32) -> Option<u32>
     ensures { result ≡ moved_by tar (bytes_of (bit_and csw csw_size)) }
 {
     match csw & CSW_SIZE {
-        0 => moved(tar, 1),
-        1 => moved(tar, 2),
-        2 => moved(tar, 4),
+        0 => move_tar(tar, 1),
+        1 => move_tar(tar, 2),
+        2 => move_tar(tar, 4),
         _ => None,
     }
 }
 
 #[tactic(auto, unfolding(crate::specs::Known::stepped))]
-fn stepped(csw: u32, tar: u32) -> Option<u32>
+fn step_tar(csw: u32, tar: u32) -> Option<u32>
     ensures { result ≡ stepped csw tar }
 {
     match csw & CSW_ADDRINC {
@@ -62,11 +62,11 @@ fn stepped(csw: u32, tar: u32) -> Option<u32>
 
 impl Port {
     // One access of DRW.
-    fn accessed(self) -> Port
+    fn after_access(self) -> Port
         ensures { result ≡ accessed self }
     {
         let tar = match (self.csw, self.tar) {
-            (Some(csw), Some(tar)) => stepped(csw, tar),
+            (Some(csw), Some(tar)) => step_tar(csw, tar),
             _ => None,
         };
         Port { tar, ..self }
@@ -83,7 +83,7 @@ impl Port {
     }
 
     #[tactic(auto, unfolding(crate::specs::Known::port_written))]
-    fn written(self, register: u8, word: u32) -> Port
+    fn after_write(self, register: u8, word: u32) -> Port
         ensures { result ≡ port_written self register word }
     {
         match register {
@@ -95,7 +95,7 @@ impl Port {
                 tar: Some(word),
                 ..self
             },
-            DRW => self.accessed(),
+            DRW => self.after_access(),
             _ => self,
         }
     }
@@ -107,13 +107,13 @@ impl Port {
         match register {
             CSW => Port { csw: value, ..self },
             TAR => Port { tar: value, ..self },
-            DRW => self.accessed(),
+            DRW => self.after_access(),
             _ => self,
         }
     }
 
     #[tactic(auto, unfolding(crate::specs::Known::port_matched))]
-    fn matched(self, register: u8) -> Port
+    fn after_match(self, register: u8) -> Port
         ensures { result ≡ port_matched self register }
     {
         match register {
@@ -184,7 +184,7 @@ impl Known {
             Register::CtrlStat | Register::Banked => self.forget_ports(),
             Register::Targetsel => self.forget(),
             Register::Ap { ap, register } => {
-                let port = self.port(ap).written(register, word);
+                let port = self.port(ap).after_write(register, word);
                 self.set_port(ap, port);
             }
             _ => {}
@@ -204,11 +204,11 @@ impl Known {
 
     /// A read was repeated until its value matched.
     #[tactic(auto, unfolding(crate::specs::Known::after_match))]
-    pub fn matched(&mut self, register: Register)
+    pub fn note_match(&mut self, register: Register)
         ensures { self.new ≡ after_match self.old register }
     {
         if let Register::Ap { ap, register } = register {
-            let port = self.port(ap).matched(register);
+            let port = self.port(ap).after_match(register);
             self.set_port(ap, port);
         }
     }

@@ -54,7 +54,7 @@ fn in_bank(bank: u32) -> Register
     }
 }
 
-fn banked(select: Option<u32>) -> Register
+fn banked_register(select: Option<u32>) -> Register
     ensures { result ≡ banked select }
 {
     match select {
@@ -70,7 +70,7 @@ fn dp_register(select: Option<u32>, is_read: bool, addr: u8) -> Register
     match (addr, is_read) {
         (0x0, true) => Register::Dpidr,
         (0x0, false) => Register::Abort,
-        (0x4, _) => banked(select),
+        (0x4, _) => banked_register(select),
         (0x8, true) => Register::Resend,
         (0x8, false) => Register::Select,
         (_, true) => Register::Rdbuff,

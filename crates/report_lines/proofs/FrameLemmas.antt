@@ -1,16 +1,16 @@
 -- The frames of calls in a row, and what comes first of what they put.
-use Rattle.std.proofs.Common.{◌≡◌, ◌∙◌, inr, ℕ, List, [], ◌++◌, Option, Result, Ok, Err, length, take, refl, sym, ap, subst, append_assoc}
+use Rattle.std.proofs.Common.{◌≡◌, ◌∙◌, inr, ℕ, List, [], ◌++◌, Option, Result, Ok, Err, take, refl, ap, subst, append_assoc}
 use Rattle.std.specs.Prelude.{IfErr, ◌≢◌}
-use Rattle.std.proofs.Math.Seq.{take-length}
 use Rattle.std.proofs.KnownBytes.{Appends-trans, Appends-nil}
 use Rattle.std.specs.Io.KnownBytes.{Appends}
 use Rattle.dap_base.specs.Streams.{AppendsPrefix, PutAppends}
+use Rattle.dap_base.proofs.Known.{whole_put}
 use Rattle.probe_core.specs.Bench.{BenchState, Reported, seen}
 use Rattle.text_lines.specs.Causes.{NamesFault}
-use Rattle.text_lines.proofs.PutLemmas.{prefix_first}
+use Rattle.text_lines.proofs.PutLemmas.{prefix_first, put_after}
 use Rattle.report_lines.specs.declared.put.TextEnd.{TextEnd}
 use Rattle.report_lines.specs.declared.put.TextEnd.TheVariants as ends
-use Rattle.report_lines.specs.Frame.{AppendsSome, EndsPutting, EndsShowing, KeepsBench, PutsFirst, ShowsView}
+use Rattle.report_lines.specs.Frame.{AppendsSome, EndsPutting, EndsShowing, KeepsBench, PutsFirst, PutsLines, ShowsView}
 use Rattle.report_lines.specs.Views.{IsViewedAsBefore, View, bench_view}
 use Rattle.report_lines.proofs.RowLemmas.{before-trans, viewed-trans}
 
@@ -27,9 +27,6 @@ some_put a b (Ok u) text put = record { piece = text; appends = put }
 some_put a b (Err e) text put = record { piece = take put.0 text; appends = put.1 }
 
 -- ---- what comes first
-
-whole_put : (a b : Option (List ℕ)) (xs : List ℕ) → Appends a b xs → AppendsPrefix a b xs
-whole_put a b xs put = (length xs, subst (λ (l : List ℕ). Appends a b l) (sym (take-length xs)) put)
 
 -- the lines, and something after them
 pub first_on : {E : Type 0} (a b c : Option (List ℕ)) (r : Result (Unit {0}) E) (lines : List ℕ) → Appends a b lines → AppendsSome b c → PutsFirst lines a c r
@@ -48,7 +45,7 @@ first_cut a b e lines part = record { rest = []; puts = prefix_first a b lines [
 
 -- ---- causes
 
-names_on : {T U : Type 0} (fault : TextEnd) (x : T) (r : Result U TextEnd) (k m n : ℕ) → NamesFault fault k m (Ok x) → NamesFault fault m n r → NamesFault fault k n r
+pub names_on : {T U : Type 0} (fault : TextEnd) (x : T) (r : Result U TextEnd) (k m n : ℕ) → NamesFault fault k m (Ok x) → NamesFault fault m n r → NamesFault fault k n r
 names_on fault x r k m n first second = subst (λ (i : ℕ). NamesFault fault i n r) first.else second
 
 names_ok : {T U : Type 0} (fault : TextEnd) (x : T) (y : U) (m n : ℕ) → NamesFault fault m n (Ok x) → NamesFault fault m n (Ok y)
@@ -83,6 +80,18 @@ module _ {K : Type 0} (written : K → Option (List ℕ)) (faults : K → ℕ) w
 
   pub puts_err : {T U : Type 0} (e : TextEnd) (a b : K) → EndsPutting {T = T} written faults (Err e) a b → EndsPutting {T = U} written faults (Err e) a b
   puts_err e a b h = record { some = h.some; bench = h.bench; sink = names_err ends.WriteFault e _ _ h.sink }
+
+  -- the first lines whole, and a put of the second
+  pub lines_after : (a b c : K) (r : Result (Unit {0}) TextEnd) (xs ys : List ℕ) → PutsLines xs (Ok tt) written faults a b → PutsLines ys r written faults b c
+      → PutsLines (xs ++ ys) r written faults a c
+  lines_after a b c r xs ys first second = record {
+    text = put_after (written a) (written b) (written c) r xs ys first.text second.text;
+    ends = puts_on tt r a b c first.ends second.ends;
+  }
+
+  -- a prefix of the first lines is one of both
+  pub lines_first : (a b : K) (e : TextEnd) (xs ys : List ℕ) → PutsLines xs (Err e) written faults a b → PutsLines (xs ++ ys) (Err e) written faults a b
+  lines_first a b e xs ys first = record { text = prefix_first (written a) (written b) xs ys first.text; ends = first.ends }
 
   -- no call
   pub shows_none : {T : Type 0} (x : T) (m : Reported) (a : K) → EndsShowing written faults (Ok x) m m a a

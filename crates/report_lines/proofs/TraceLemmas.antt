@@ -1,11 +1,11 @@
 -- The lines of a log, one entry after the other.
-use Rattle.std.proofs.Common.{◌≡◌, ◌⊎◌, ◌+◌, ◌<◌, ◌≤◌, ℕ, zero, suc, List, [], ◌∷◌, Option, None, Some, Result, Ok, Err, IfSome, inl, inr, length, min, take, drop, slice_get, subst, sym, ap, refl, arith}
+use Rattle.std.proofs.Common.{◌≡◌, ◌⊎◌, ◌+◌, ◌<◌, ◌≤◌, ℕ, zero, suc, List, [], ◌∷◌, Option, None, Some, Result, Ok, Err, IfSome, inl, inr, length, min, take, drop, slice_get, subst, ap, refl, arith}
 use Rattle.std.proofs.lemmas.Grind.{common_steps, flat_map-append}
 use Rattle.std.proofs.lemmas.List.{take-append-drop}
-use Rattle.std.proofs.Math.Seq.{take-length}
 use Rattle.std.specs.Io.KnownBytes.{Appends}
 use Rattle.std.specs.List.{flat_map}
 use Rattle.dap_base.specs.Streams.{AppendsPrefix, PutAppends}
+use Rattle.dap_base.proofs.Known.{whole_put}
 use Rattle.probe_core.specs.Bench.{BenchState}
 use Rattle.probe_core.specs.Log.{Entry, IsCountedLog, Log}
 use Rattle.report_lines.specs.Trace.{EntriesPut, EntryPut, StepPut, entry_line, kept_line, trace}
@@ -13,8 +13,6 @@ use Rattle.report_lines.specs.declared.put.TextEnd.{TextEnd}
 use Rattle.report_lines.specs.declared.trace.Seen.TheVariants as seen
 use Rattle.text_lines.proofs.RowLemmas.{row_cut, row_more}
 use Rattle.text_lines.proofs.PutLemmas.{prefix_first, put_after}
-
--- ---- one entry
 
 -- ---- the first entries
 
@@ -59,9 +57,6 @@ all_come log i k a b few come past =
       let so_far = come.kept_are in grind (arith, common_steps),
       omega arith,
     )
-
-whole_put : (a b : Option (List ℕ)) (xs : List ℕ) → Appends a b xs → AppendsPrefix a b xs
-whole_put a b xs put = (length xs, subst (λ (l : List ℕ). Appends a b l) (sym (take-length xs)) put)
 
 front_comes : (a b : Option (List ℕ)) (es : List Entry) (i : ℕ) → Appends a b (flat_map entry_line (take i es)) → AppendsPrefix a b (flat_map entry_line es)
 front_comes a b es i put =

@@ -1,7 +1,8 @@
 -- The frame of a call that puts lines: what it keeps of its bench, how it ends, and what comes first of what it puts.
-use Rattle.std.specs.Prelude.{◌≡◌, ◌≢◌, ℕ, List, ◌++◌, Option, Result, IfErr}
+use Rattle.std.specs.Prelude.{◌≡◌, ◌≢◌, ℕ, List, ◌++◌, Option, Result, IfErr, IfSome}
 use Rattle.std.specs.Io.KnownBytes.{Appends}
 use Rattle.dap_base.specs.Streams.{PutAppends}
+use Rattle.target_machine.specs.State.{TargetState}
 use Rattle.probe_core.specs.Bench.{BenchState, IsAsBefore, Reported, seen}
 use Rattle.text_lines.specs.Causes.{NamesFault}
 use Rattle.report_lines.specs.Views.{IsViewedAsBefore, View}
@@ -30,6 +31,13 @@ pub record EndsPutting {T K : Type 0} (written : K → Option (List ℕ)) (fault
   pub bench : IfErr result (λ e. e ≢ ends.BenchFault)
   pub sink : NamesFault ends.WriteFault (faults old) (faults new) result
 
+-- Lines were put, and no bench was asked: at `Ok` all of them, and at an error a prefix of them, where what the sink holds is known. The
+-- call ends as one that asks no bench.
+pub record PutsLines {K : Type 0} (lines : List ℕ) (result : Result (Unit {0}) TextEnd) (written : K → Option (List ℕ)) (faults : K → ℕ)
+    (old new : K) : Type 0 where
+  pub text : PutAppends (written old) (written new) result lines
+  pub ends : EndsPutting written faults result old new
+
 -- How a call ends that asks a bench. The same is true, and the bench's count of faults rose where the answer says that it failed, and else it
 -- stays.
 pub record EndsShowing {T K : Type 0} (written : K → Option (List ℕ)) (faults : K → ℕ) (result : Result T TextEnd)
@@ -44,3 +52,18 @@ pub record ShowsView {S T K : Type 0} (known : S → View) (written : K → Opti
     (shower_old shower_new : S) (old new : K) : Type 0 where
   pub keeps : IsViewedAsBefore (known shower_old) (known shower_new)
   pub ends : EndsShowing written faults result (known shower_old).bench.reported (known shower_new).bench.reported old new
+
+-- The lines of a target were put: at `Ok` all of them, and at an error a prefix of them, where what the sink holds and what shows the target
+-- are known. The call keeps what shows the target, and ends as one that asks it.
+pub record PutsTarget {S K : Type 0} (lines : TargetState → List ℕ) (result : Result (Unit {0}) TextEnd) (known : S → View)
+    (written : K → Option (List ℕ)) (faults : K → ℕ) (shower_old shower_new : S) (old new : K) : Type 0 where
+  pub text : IfSome (known shower_old).target (λ t. PutAppends (written old) (written new) result (lines t))
+  pub shows : ShowsView known written faults result shower_old shower_new old new
+
+-- The lines of a bench were put: at `Ok` all of them, and at an error a prefix of them, where what the sink holds and the bench are known.
+-- The call keeps its bench, and ends as one that asks it.
+pub record PutsShown {B K : Type 0} (lines : BenchState → List ℕ) (result : Result (Unit {0}) TextEnd) (reported : B → Reported)
+    (state : B → Option BenchState) (identity : B → ℕ) (written : K → Option (List ℕ)) (faults : K → ℕ) (bench_old bench_new : B) (old new : K) : Type 0 where
+  pub text : IfSome (state bench_old) (λ m. PutAppends (written old) (written new) result (lines m))
+  pub keeps : KeepsBench reported state identity bench_old bench_new
+  pub ends : EndsShowing written faults result (reported bench_old) (reported bench_new) old new

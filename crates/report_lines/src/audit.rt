@@ -1,12 +1,10 @@
 //! The text of an audit: the target that an accepted trace leads to, or the first entry that cannot come.
-ghost use Rattle.std.specs.Prelude.{◌≡◌, ◌≢◌, IfErr, IfOk};
+ghost use Rattle.std.specs.Prelude.{◌≡◌, IfOk};
 ghost use Rattle.std.specs.List.{All};
-ghost use Rattle.dap_base.specs.Streams.{PutAppends};
 ghost use Rattle.probe_core.specs.Ranges.{IsBenchJob};
 ghost use Rattle.job_text.specs.Ranges.{AreWatched};
-ghost use Rattle.text_lines.specs.Causes.{NamesFault};
 ghost use Rattle.report_lines.specs.Audit.{audit_fault_line, audit_ok_line, audited_lines, refusal_word, refused_line};
-ghost use Rattle.report_lines.specs.Frame.{EndsPutting};
+ghost use Rattle.report_lines.specs.Frame.{PutsLines};
 ghost use Rattle.report_lines.specs.Target.{IsLow, target_lines};
 
 use crate::put::{TextEnd, put_line};
@@ -33,9 +31,7 @@ pub fn target_text<K: Sink>(
     sink: &mut K,
 ) -> Result<(), TextEnd>
     requires { All IsLow job.now.watch }
-    ensures text { PutAppends (K.written sink.old) (K.written sink.new) result (target_lines target.now job.now.bench.target.aps job.now.watch) }
-    ensures never { IfErr result (λ e. e ≢ TextEnd.BenchFault) }
-    ensures sink { NamesFault TextEnd.WriteFault (K.faults sink.old) (K.faults sink.new) result }
+    ensures puts { PutsLines (target_lines target.now job.now.bench.target.aps job.now.watch) result K.written K.faults sink.old sink.new }
 {
     let mut own = OwnTarget { target };
     write_target(
@@ -69,9 +65,7 @@ pub fn audit_text<K: Sink>(
 ) -> Result<(), TextEnd>
     requires bench { IsBenchJob job.now.bench }
     requires watch { AreWatched job.now.bench.target.memory job.now.watch }
-    ensures text { PutAppends (K.written sink.old) (K.written sink.new) result (audited_lines audited.now job.now) }
-    ensures never { IfErr result (λ e. e ≢ TextEnd.BenchFault) }
-    ensures sink { NamesFault TextEnd.WriteFault (K.faults sink.old) (K.faults sink.new) result }
+    ensures puts { PutsLines (audited_lines audited.now job.now) result K.written K.faults sink.old sink.new }
 {
     match put_line(audit_ok_text(alloc, audited), sink) {
         Ok(()) => target_text(alloc, audited.probe.target(), job, sink),
@@ -105,8 +99,7 @@ fn write_refused<K: Sink>(
     number: u32,
     sink: &mut K,
 ) -> Result<(), TextEnd>
-    ensures text { PutAppends (K.written sink.old) (K.written sink.new) result (refused_line kind.now number) }
-    ensures ends { EndsPutting K.written K.faults result sink.old sink.new }
+    ensures puts { PutsLines (refused_line kind.now number) result K.written K.faults sink.old sink.new }
 {
     put_line(refused_text(alloc, kind, number), sink)
 }
@@ -122,9 +115,7 @@ pub fn audit_fault_text<K: Sink>(
     fault: AuditFault,
     sink: &mut K,
 ) -> Result<(), TextEnd>
-    ensures text { PutAppends (K.written sink.old) (K.written sink.new) result (audit_fault_line fault) }
-    ensures never { IfErr result (λ e. e ≢ TextEnd.BenchFault) }
-    ensures sink { NamesFault TextEnd.WriteFault (K.faults sink.old) (K.faults sink.new) result }
+    ensures puts { PutsLines (audit_fault_line fault) result K.written K.faults sink.old sink.new }
 {
     match fault {
         AuditFault::Refused(number, refusal) => {

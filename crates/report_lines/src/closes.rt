@@ -1,12 +1,10 @@
 //! The text of what followed a sequence: a load, or a scan.
-ghost use Rattle.std.specs.Prelude.{◌≡◌, ◌≢◌, IfErr, IfOk, IfSome};
-ghost use Rattle.dap_base.specs.Streams.{PutAppends};
+ghost use Rattle.std.specs.Prelude.{◌≡◌, IfOk};
 ghost use Rattle.probe_core.specs.Probe.{target_of};
 ghost use Rattle.probe_core.specs.Ranges.{IsBenchJob};
 ghost use Rattle.job_text.specs.Ranges.{AreWatched};
-ghost use Rattle.text_lines.specs.Causes.{NamesFault};
 ghost use Rattle.report_lines.specs.Closes.{differs_line, differs_lines, full_line, full_lines, loaded_line};
-ghost use Rattle.report_lines.specs.Frame.{EndsShowing, KeepsBench, PutsFirst};
+ghost use Rattle.report_lines.specs.Frame.{PutsFirst, PutsLines, PutsShown};
 ghost use Rattle.report_lines.specs.Target.{target_lines};
 
 use crate::put::{TextEnd, put, put_line};
@@ -31,9 +29,8 @@ pub fn target_lines<K: Sink, B: Bench>(
 ) -> Result<(), TextEnd>
     requires bench { IsBenchJob job.now.bench }
     requires watch { AreWatched job.now.bench.target.memory job.now.watch }
-    ensures text { IfSome (B.state bench.old) (λ m. PutAppends (K.written sink.old) (K.written sink.new) result (target_lines (target_of m.probe) job.now.bench.target.aps job.now.watch)) }
-    ensures keeps { KeepsBench B.reported B.state B.identity bench.old bench.new }
-    ensures ends { EndsShowing K.written K.faults result (B.reported bench.old) (B.reported bench.new) sink.old sink.new }
+    ensures puts { PutsShown (λ m. target_lines (target_of m.probe) job.now.bench.target.aps job.now.watch) result
+        B.reported B.state B.identity K.written K.faults bench.old bench.new sink.old sink.new }
 {
     write_target(
         alloc,
@@ -64,9 +61,7 @@ pub fn loaded_text<K: Sink>(
     writes: u32,
     sink: &mut K,
 ) -> Result<(), TextEnd>
-    ensures text { PutAppends (K.written sink.old) (K.written sink.new) result (loaded_line bytes writes) }
-    ensures never { IfErr result (λ e. e ≢ TextEnd.BenchFault) }
-    ensures sink { NamesFault TextEnd.WriteFault (K.faults sink.old) (K.faults sink.new) result }
+    ensures puts { PutsLines (loaded_line bytes writes) result K.written K.faults sink.old sink.new }
 {
     put_line(loaded_line(alloc, bytes, writes), sink)
 }
@@ -97,10 +92,9 @@ pub fn differs_text<K: Sink, B: Bench>(
 ) -> Result<(), TextEnd>
     requires bench { IsBenchJob job.now.bench }
     requires watch { AreWatched job.now.bench.target.memory job.now.watch }
-    ensures text { IfSome (B.state bench.old) (λ m. PutAppends (K.written sink.old) (K.written sink.new) result (differs_lines address wanted found job.now (target_of m.probe))) }
+    ensures puts { PutsShown (λ m. differs_lines address wanted found job.now (target_of m.probe)) result
+        B.reported B.state B.identity K.written K.faults bench.old bench.new sink.old sink.new }
     ensures front { PutsFirst (differs_line address wanted found) (K.written sink.old) (K.written sink.new) result }
-    ensures keeps { KeepsBench B.reported B.state B.identity bench.old bench.new }
-    ensures ends { EndsShowing K.written K.faults result (B.reported bench.old) (B.reported bench.new) sink.old sink.new }
 {
     match put_line(differs_line(alloc, address, wanted, found), sink) {
         Ok(()) => target_lines(alloc, job, bench, sink),
@@ -121,10 +115,9 @@ pub fn full_text<K: Sink, B: Bench>(
 ) -> Result<(), TextEnd>
     requires bench { IsBenchJob job.now.bench }
     requires watch { AreWatched job.now.bench.target.memory job.now.watch }
-    ensures text { IfSome (B.state bench.old) (λ m. PutAppends (K.written sink.old) (K.written sink.new) result (full_lines job.now (target_of m.probe))) }
+    ensures puts { PutsShown (λ m. full_lines job.now (target_of m.probe)) result
+        B.reported B.state B.identity K.written K.faults bench.old bench.new sink.old sink.new }
     ensures front { PutsFirst full_line (K.written sink.old) (K.written sink.new) result }
-    ensures keeps { KeepsBench B.reported B.state B.identity bench.old bench.new }
-    ensures ends { EndsShowing K.written K.faults result (B.reported bench.old) (B.reported bench.new) sink.old sink.new }
 {
     match put(b"end full\n", sink) {
         Ok(()) => target_lines(alloc, job, bench, sink),

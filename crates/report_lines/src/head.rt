@@ -2,10 +2,9 @@
 #![tactic(auto, using(crate::proofs::FrameLemmas::frames))]
 
 ghost use Rattle.std.specs.Prelude.{◌++◌};
-ghost use Rattle.dap_base.specs.Streams.{PutAppends};
 ghost use Rattle.report_lines.specs.Lines.{variable_line};
 ghost use Rattle.report_lines.specs.Endings.{attempted_part, count_lines, done_line, ending_lines, halted_line, skipped_part, stop_line, values_part, variable_lines};
-ghost use Rattle.report_lines.specs.Frame.{EndsPutting};
+ghost use Rattle.report_lines.specs.Frame.{PutsLines};
 
 use crate::endings::{
     attempted_text, bench_fault_text, halted_text, reply_bad_text, skipped_text, stop_line_text,
@@ -20,8 +19,7 @@ use target_machine::{HaltCause, Variable};
 // Puts how many units were skipped, where there are any.
 #[tactic(auto, using(text_lines::proofs::PutLemmas::nothing, crate::proofs::FrameLemmas::frames))]
 fn write_skipped<K: Sink>(alloc: Global, skipped: u32, sink: &mut K) -> Result<(), TextEnd>
-    ensures text { PutAppends (K.written sink.old) (K.written sink.new) result (skipped_part skipped) }
-    ensures ends { EndsPutting K.written K.faults result sink.old sink.new }
+    ensures puts { PutsLines (skipped_part skipped) result K.written K.faults sink.old sink.new }
 {
     if skipped == 0 {
         return Ok(());
@@ -31,8 +29,7 @@ fn write_skipped<K: Sink>(alloc: Global, skipped: u32, sink: &mut K) -> Result<(
 
 // Puts the line of a variable.
 fn write_variable<K: Sink>(alloc: Global, variable: &Variable, sink: &mut K) -> Result<(), TextEnd>
-    ensures text { PutAppends (K.written sink.old) (K.written sink.new) result (variable_line variable.now.name variable.now.value) }
-    ensures ends { EndsPutting K.written K.faults result sink.old sink.new }
+    ensures puts { PutsLines (variable_line variable.now.name variable.now.value) result K.written K.faults sink.old sink.new }
 {
     put_line(
         variable_text(alloc, variable.name.as_str(), variable.value),
@@ -46,8 +43,7 @@ fn write_variables<K: Sink>(
     variables: &[Variable],
     sink: &mut K,
 ) -> Result<(), TextEnd>
-    ensures text { PutAppends (K.written sink.old) (K.written sink.new) result (variable_lines variables.now) }
-    ensures ends { EndsPutting K.written K.faults result sink.old sink.new }
+    ensures puts { PutsLines (variable_lines variables.now) result K.written K.faults sink.old sink.new }
 {
     for variable in variables {
         match write_variable(alloc, variable, sink) {
@@ -60,8 +56,7 @@ fn write_variables<K: Sink>(
 
 // Puts those units that were skipped, and the variables.
 fn write_values<K: Sink>(alloc: Global, ended: &Ended, sink: &mut K) -> Result<(), TextEnd>
-    ensures text { PutAppends (K.written sink.old) (K.written sink.new) result (values_part ended.now) }
-    ensures ends { EndsPutting K.written K.faults result sink.old sink.new }
+    ensures puts { PutsLines (values_part ended.now) result K.written K.faults sink.old sink.new }
 {
     match write_skipped(alloc, ended.skipped, sink) {
         Ok(()) => write_variables(alloc, ended.variables.as_slice(), sink),
@@ -71,8 +66,7 @@ fn write_values<K: Sink>(alloc: Global, ended: &Ended, sink: &mut K) -> Result<(
 
 // Puts the units, those that were skipped, and the variables.
 fn write_counts<K: Sink>(alloc: Global, ended: &Ended, sink: &mut K) -> Result<(), TextEnd>
-    ensures text { PutAppends (K.written sink.old) (K.written sink.new) result (count_lines ended.now) }
-    ensures ends { EndsPutting K.written K.faults result sink.old sink.new }
+    ensures puts { PutsLines (count_lines ended.now) result K.written K.faults sink.old sink.new }
 {
     let line = units_text(alloc, ended.units as u64);
     match put_line(line, sink) {
@@ -83,8 +77,7 @@ fn write_counts<K: Sink>(alloc: Global, ended: &Ended, sink: &mut K) -> Result<(
 
 // Puts the lines of a run that came to its end.
 fn write_done<K: Sink>(alloc: Global, ended: &Ended, sink: &mut K) -> Result<(), TextEnd>
-    ensures text { PutAppends (K.written sink.old) (K.written sink.new) result (done_line ++ count_lines ended.now) }
-    ensures ends { EndsPutting K.written K.faults result sink.old sink.new }
+    ensures puts { PutsLines (done_line ++ count_lines ended.now) result K.written K.faults sink.old sink.new }
 {
     match put(b"end done\n", sink) {
         Ok(()) => write_counts(alloc, ended, sink),
@@ -99,8 +92,7 @@ fn write_halted<K: Sink>(
     ended: &Ended,
     sink: &mut K,
 ) -> Result<(), TextEnd>
-    ensures text { PutAppends (K.written sink.old) (K.written sink.new) result (halted_line cause ++ count_lines ended.now) }
-    ensures ends { EndsPutting K.written K.faults result sink.old sink.new }
+    ensures puts { PutsLines (halted_line cause ++ count_lines ended.now) result K.written K.faults sink.old sink.new }
 {
     let line = halted_text(alloc, cause);
     match put_line(line, sink) {
@@ -116,8 +108,7 @@ fn write_attempted<K: Sink>(
     skipped: u32,
     sink: &mut K,
 ) -> Result<(), TextEnd>
-    ensures text { PutAppends (K.written sink.old) (K.written sink.new) result (attempted_part report.now skipped) }
-    ensures ends { EndsPutting K.written K.faults result sink.old sink.new }
+    ensures puts { PutsLines (attempted_part report.now skipped) result K.written K.faults sink.old sink.new }
 {
     let line = attempted_text(alloc, report);
     match put_line(line, sink) {
@@ -133,8 +124,7 @@ fn write_cut<K: Sink>(
     skipped: u32,
     sink: &mut K,
 ) -> Result<(), TextEnd>
-    ensures text { PutAppends (K.written sink.old) (K.written sink.new) result (stop_line report.now ++ attempted_part report.now skipped) }
-    ensures ends { EndsPutting K.written K.faults result sink.old sink.new }
+    ensures puts { PutsLines (stop_line report.now ++ attempted_part report.now skipped) result K.written K.faults sink.old sink.new }
 {
     let line = stop_line_text(alloc, report);
     match put_line(line, sink) {
@@ -152,8 +142,7 @@ pub fn write_ending<K: Sink>(
     got: &[u8],
     sink: &mut K,
 ) -> Result<(), TextEnd>
-    ensures text { PutAppends (K.written sink.old) (K.written sink.new) result (ending_lines ended.now.ending ended.now sent.now got.now) }
-    ensures ends { EndsPutting K.written K.faults result sink.old sink.new }
+    ensures puts { PutsLines (ending_lines ended.now.ending ended.now sent.now got.now) result K.written K.faults sink.old sink.new }
 {
     match ended.ending {
         Ending::Done => write_done(alloc, ended, sink),

@@ -64,7 +64,8 @@ pub fn ap_text(alloc: Global, ap: u8, image: &ApImage) -> Result<Line, OutOfMemo
 
 // The pins and the bits.
 fn begin_lines(alloc: Global, image: &LinesImage) -> Result<Line, OutOfMemory>
-    ensures { IfOk result (λ line. line ≡ codes "lines pins " ++ hex2 image.now.pins ++ codes " bits " ++ decimal image.now.bits ++ codes " last " ++ hex16 image.now.last) }
+    ensures { IfOk result (λ line. line ≡ codes "lines pins " ++ hex2 image.now.pins
+        ++ codes " bits " ++ decimal image.now.bits ++ codes " last " ++ hex16 image.now.last) }
 {
     let line = Line::begin(alloc, "lines pins ")?.hex2(image.pins)?;
     let line = line.text(" bits ")?.decimal(image.bits)?;

@@ -1,7 +1,6 @@
 //! Putting the lines of a text whose parts a bench shows.
 ghost use Rattle.std.specs.Prelude.{◌≡◌, ℕ, List, IfOk};
-ghost use Rattle.dap_base.specs.Streams.{PutAppends};
-ghost use Rattle.report_lines.specs.Frame.{EndsPutting};
+ghost use Rattle.report_lines.specs.Frame.{PutsLines};
 
 use dap_base::{OutOfMemory, Sink};
 use text_lines::Line;
@@ -19,8 +18,7 @@ pub enum TextEnd {
 
 /// Puts a text.
 pub fn put<K: Sink>(text: &[u8], sink: &mut K) -> Result<(), TextEnd>
-    ensures text { PutAppends (K.written sink.old) (K.written sink.new) result text.now }
-    ensures ends { EndsPutting K.written K.faults result sink.old sink.new }
+    ensures puts { PutsLines text.now result K.written K.faults sink.old sink.new }
 {
     match sink.put(text) {
         Ok(()) => Ok(()),
@@ -31,8 +29,7 @@ pub fn put<K: Sink>(text: &[u8], sink: &mut K) -> Result<(), TextEnd>
 /// Puts a line, if there was memory for it.
 #[tactic(auto, using(text_lines::proofs::PutLemmas::no_part, crate::proofs::FrameLemmas::frames))]
 pub fn put_line<K: Sink>(line: Result<Line, OutOfMemory>, sink: &mut K) -> Result<(), TextEnd>
-    ensures text { (text : List ℕ) → IfOk line (λ l. l ≡ text) → PutAppends (K.written sink.old) (K.written sink.new) result text }
-    ensures ends { EndsPutting K.written K.faults result sink.old sink.new }
+    ensures puts { (text : List ℕ) → IfOk line (λ l. l ≡ text) → PutsLines text result K.written K.faults sink.old sink.new }
 {
     match line {
         Ok(line) => put(line.as_bytes(), sink),

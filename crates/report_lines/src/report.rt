@@ -1,14 +1,14 @@
 //! The report of a run.
 #![tactic(auto, using(crate::proofs::FrameLemmas::frames))]
 
-ghost use Rattle.std.specs.Prelude.{◌≡◌, ◌≢◌, Ok, false, IfErr, IfSome};
+ghost use Rattle.std.specs.Prelude.{◌≡◌, ◌≢◌, Ok, false, IfErr};
 ghost use Rattle.std.specs.List.{All};
 ghost use Rattle.dap_base.specs.Streams.{PutAppends};
 ghost use Rattle.probe_core.specs.Probe.{target_of};
 ghost use Rattle.probe_core.specs.Ranges.{IsBenchJob};
 ghost use Rattle.job_text.specs.Ranges.{AreWatched};
 ghost use Rattle.report_lines.specs.Endings.{ending_lines, shows_target};
-ghost use Rattle.report_lines.specs.Frame.{EndsShowing, KeepsBench, PutsFirst};
+ghost use Rattle.report_lines.specs.Frame.{PutsFirst, PutsShown};
 ghost use Rattle.report_lines.specs.Report.{report, target_part};
 ghost use Rattle.report_lines.specs.Target.{IsLow};
 
@@ -38,10 +38,9 @@ fn write_shown<K: Sink, B: Bench>(
     sink: &mut K,
 ) -> Result<(), TextEnd>
     requires { All IsLow job.now.watch }
-    ensures text { IfSome (B.state bench.old) (λ m. PutAppends (K.written sink.old) (K.written sink.new) result (target_part shows job.now (target_of m.probe))) }
+    ensures puts { PutsShown (λ m. target_part shows job.now (target_of m.probe)) result
+        B.reported B.state B.identity K.written K.faults bench.old bench.new sink.old sink.new }
     ensures unseen { shows ≡ false → (result ≡ Ok tt) × (K.written sink.new ≡ K.written sink.old) }
-    ensures keeps { KeepsBench B.reported B.state B.identity bench.old bench.new }
-    ensures ends { EndsShowing K.written K.faults result (B.reported bench.old) (B.reported bench.new) sink.old sink.new }
 {
     if shows {
         let target = &job.bench.target;
@@ -77,12 +76,12 @@ pub fn report_text<K: Sink, B: Bench>(
 ) -> Result<(), TextEnd>
     requires bench { IsBenchJob job.now.bench }
     requires watch { AreWatched job.now.bench.target.memory job.now.watch }
-    ensures text { IfSome (B.state bench.old) (λ m. PutAppends (K.written sink.old) (K.written sink.new) result (report ended.now sent.now got.now job.now (target_of m.probe))) }
-    ensures alone { shows_target ended.now.ending ≡ false → PutAppends (K.written sink.old) (K.written sink.new) result (ending_lines ended.now.ending ended.now sent.now got.now) }
+    ensures puts { PutsShown (λ m. report ended.now sent.now got.now job.now (target_of m.probe)) result
+        B.reported B.state B.identity K.written K.faults bench.old bench.new sink.old sink.new }
+    ensures alone { shows_target ended.now.ending ≡ false
+        → PutAppends (K.written sink.old) (K.written sink.new) result (ending_lines ended.now.ending ended.now sent.now got.now) }
     ensures front { PutsFirst (ending_lines ended.now.ending ended.now sent.now got.now) (K.written sink.old) (K.written sink.new) result }
     ensures unasked { shows_target ended.now.ending ≡ false → IfErr result (λ e. e ≢ TextEnd.BenchFault) }
-    ensures keeps { KeepsBench B.reported B.state B.identity bench.old bench.new }
-    ensures ends { EndsShowing K.written K.faults result (B.reported bench.old) (B.reported bench.new) sink.old sink.new }
 {
     match write_ending(alloc, ended, sent, got, sink) {
         Ok(()) => write_shown(alloc, shows_target(ended.ending), job, bench, sink),

@@ -1,10 +1,9 @@
 //! The lines of a target: each part is shown directly before its line is put.
 #![tactic(auto, using(crate::proofs::FrameLemmas::frames))]
 
-ghost use Rattle.std.specs.Prelude.{◌≡◌, ◌+◌, ◌*◌, ◌^◌, ◌≤◌, ◌==◌, [], unwrap_or, IfOk, IfSome};
+ghost use Rattle.std.specs.Prelude.{◌≡◌, ◌+◌, ◌*◌, ◌^◌, ◌≤◌, ◌==◌, [], unwrap_or, IfOk};
 ghost use Rattle.std.specs.List.{All, list_any};
-ghost use Rattle.dap_base.specs.Streams.{PutAppends};
-ghost use Rattle.report_lines.specs.Frame.{ShowsView};
+ghost use Rattle.report_lines.specs.Frame.{PutsTarget};
 ghost use Rattle.report_lines.specs.Target.{IsLow, outside_lines, part_line, part_of, port_lines, port_of, ports_on, target_lines, watch_lines, word_lines};
 
 use crate::lines::{ap_text, dp_text, lines_text, word_text};
@@ -39,8 +38,7 @@ fn write_part<K: Sink, S: ShowsTarget>(
     shower: &mut S,
     sink: &mut K,
 ) -> Result<(), TextEnd>
-    ensures text { IfSome (S.known shower.old).target (λ t. PutAppends (K.written sink.old) (K.written sink.new) result (part_of t ask)) }
-    ensures shows { ShowsView S.known K.written K.faults result shower.old shower.new sink.old sink.new }
+    ensures puts { PutsTarget (λ t. part_of t ask) result S.known K.written K.faults shower.old shower.new sink.old sink.new }
 {
     let Ok(part) = shower.part(ask) else {
         return Err(TextEnd::BenchFault);
@@ -68,8 +66,7 @@ fn write_port<K: Sink, S: ShowsTarget>(
     shower: &mut S,
     sink: &mut K,
 ) -> Result<(), TextEnd>
-    ensures text { IfSome (S.known shower.old).target (λ t. PutAppends (K.written sink.old) (K.written sink.new) result (port_of t aps.now number)) }
-    ensures shows { ShowsView S.known K.written K.faults result shower.old shower.new sink.old sink.new }
+    ensures puts { PutsTarget (λ t. port_of t aps.now number) result S.known K.written K.faults shower.old shower.new sink.old sink.new }
 {
     if is_listed(aps, number) {
         write_part(alloc, ImageAsk::Ap(number), shower, sink)
@@ -85,8 +82,7 @@ fn write_ports<K: Sink, S: ShowsTarget>(
     shower: &mut S,
     sink: &mut K,
 ) -> Result<(), TextEnd>
-    ensures text { IfSome (S.known shower.old).target (λ t. PutAppends (K.written sink.old) (K.written sink.new) result (port_lines t aps.now)) }
-    ensures shows { ShowsView S.known K.written K.faults result shower.old shower.new sink.old sink.new }
+    ensures puts { PutsTarget (λ t. port_lines t aps.now) result S.known K.written K.faults shower.old shower.new sink.old sink.new }
 {
     for number in 0..256u32 {
         match write_port(alloc, aps, number as u8, shower, sink) {
@@ -105,8 +101,7 @@ fn write_words<K: Sink, S: ShowsTarget>(
     sink: &mut K,
 ) -> Result<(), TextEnd>
     requires { IsLow item }
-    ensures text { IfSome (S.known shower.old).target (λ t. PutAppends (K.written sink.old) (K.written sink.new) result (word_lines t item.address item.words)) }
-    ensures shows { ShowsView S.known K.written K.faults result shower.old shower.new sink.old sink.new }
+    ensures puts { PutsTarget (λ t. word_lines t item.address item.words) result S.known K.written K.faults shower.old shower.new sink.old sink.new }
 {
     for number in 0..item.words {
         let ask = ImageAsk::Word(item.address + 4 * number as u64);
@@ -126,8 +121,7 @@ fn write_watch<K: Sink, S: ShowsTarget>(
     sink: &mut K,
 ) -> Result<(), TextEnd>
     requires { All IsLow watch.now }
-    ensures text { IfSome (S.known shower.old).target (λ t. PutAppends (K.written sink.old) (K.written sink.new) result (watch_lines t watch.now)) }
-    ensures shows { ShowsView S.known K.written K.faults result shower.old shower.new sink.old sink.new }
+    ensures puts { PutsTarget (λ t. watch_lines t watch.now) result S.known K.written K.faults shower.old shower.new sink.old sink.new }
 {
     for item in watch {
         match write_words(alloc, *item, shower, sink) {
@@ -146,8 +140,7 @@ fn write_outside<K: Sink, S: ShowsTarget>(
     sink: &mut K,
 ) -> Result<(), TextEnd>
     requires { All IsLow watch.now }
-    ensures text { IfSome (S.known shower.old).target (λ t. PutAppends (K.written sink.old) (K.written sink.new) result (outside_lines t watch.now)) }
-    ensures shows { ShowsView S.known K.written K.faults result shower.old shower.new sink.old sink.new }
+    ensures puts { PutsTarget (λ t. outside_lines t watch.now) result S.known K.written K.faults shower.old shower.new sink.old sink.new }
 {
     match write_part(alloc, ImageAsk::Lines, shower, sink) {
         Ok(()) => write_watch(alloc, watch, shower, sink),
@@ -164,8 +157,7 @@ fn write_ports_on<K: Sink, S: ShowsTarget>(
     sink: &mut K,
 ) -> Result<(), TextEnd>
     requires { All IsLow watch.now }
-    ensures text { IfSome (S.known shower.old).target (λ t. PutAppends (K.written sink.old) (K.written sink.new) result (ports_on t aps.now watch.now)) }
-    ensures shows { ShowsView S.known K.written K.faults result shower.old shower.new sink.old sink.new }
+    ensures puts { PutsTarget (λ t. ports_on t aps.now watch.now) result S.known K.written K.faults shower.old shower.new sink.old sink.new }
 {
     match write_ports(alloc, aps, shower, sink) {
         Ok(()) => write_outside(alloc, watch, shower, sink),
@@ -183,8 +175,7 @@ pub fn write_target<K: Sink, S: ShowsTarget>(
     sink: &mut K,
 ) -> Result<(), TextEnd>
     requires { All IsLow watch.now }
-    ensures text { IfSome (S.known shower.old).target (λ t. PutAppends (K.written sink.old) (K.written sink.new) result (target_lines t aps.now watch.now)) }
-    ensures shows { ShowsView S.known K.written K.faults result shower.old shower.new sink.old sink.new }
+    ensures puts { PutsTarget (λ t. target_lines t aps.now watch.now) result S.known K.written K.faults shower.old shower.new sink.old sink.new }
 {
     match write_part(alloc, ImageAsk::Dp, shower, sink) {
         Ok(()) => write_ports_on(alloc, aps, watch, shower, sink),

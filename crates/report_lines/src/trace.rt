@@ -2,9 +2,8 @@
 #![tactic(auto, using(crate::proofs::FrameLemmas::frames))]
 
 ghost use Rattle.std.specs.Prelude.{◌≡◌, ◌+◌, ◌<◌, ◌≤◌, IfOk, IfSome};
-ghost use Rattle.dap_base.specs.Streams.{PutAppends};
 ghost use Rattle.probe_core.specs.Log.{IsCountedLog};
-ghost use Rattle.report_lines.specs.Frame.{EndsPutting, EndsShowing, KeepsBench};
+ghost use Rattle.report_lines.specs.Frame.{EndsPutting, EndsShowing, KeepsBench, PutsShown};
 ghost use Rattle.report_lines.specs.Trace.{EntriesPut, EntryPut, LinePut, StepPut, entry_line, entry_mark, kept_line, trace};
 
 use crate::endings::with_digits;
@@ -144,9 +143,7 @@ pub fn trace_text<K: Sink, B: Bench>(
     bench: &mut B,
     sink: &mut K,
 ) -> Result<(), TextEnd>
-    ensures text { IfSome (B.state bench.old) (λ m. PutAppends (K.written sink.old) (K.written sink.new) result (trace m.log)) }
-    ensures keeps { KeepsBench B.reported B.state B.identity bench.old bench.new }
-    ensures ends { EndsShowing K.written K.faults result (B.reported bench.old) (B.reported bench.new) sink.old sink.new }
+    ensures puts { PutsShown (λ m. trace m.log) result B.reported B.state B.identity K.written K.faults bench.old bench.new sink.old sink.new }
 {
     match write_entries(alloc, bench, sink) {
         Ok((kept, count)) => put_line(kept_text(alloc, kept, count), sink),

@@ -1,6 +1,5 @@
 -- One call, and its result at once.
-use Rattle.std.proofs.Common.{◌≡◌, ◌∙◌, ℕ, suc, ◌+◌, Bool, true, false, cond, List, [], ◌∷◌, ◌++◌, length, slice_index, Option, None, Some, Err, refl, sym, ap, subst}
-use Rattle.std.specs.Prelude.{is_some}
+use Rattle.std.proofs.Common.{◌≡◌, ◌∙◌, ℕ, suc, ◌+◌, Bool, true, false, List, [], ◌∷◌, ◌++◌, length, slice_index, Option, None, Some, Err, refl, sym, ap, subst}
 use Rattle.target_calls.specs.World.{World, done_now, end_result, results, stop, stops_here, world_after}
 use Rattle.target_calls.specs.declared.calls.Ask.{Ask}
 use Rattle.target_calls.proofs.OneCall.{one_last, one_stops}
@@ -8,13 +7,11 @@ use Rattle.access_calls.specs.Answers.{AtCut, StopsCalls, calls_after}
 use Rattle.access_calls.specs.Reported.{AccessView}
 use Rattle.access_calls.specs.declared.stop.Stop.{Stop}
 use Rattle.access_calls.specs.declared.stop.Stop.TheVariants.{Cut, BenchFault, ReplyBad, OutOfMemory}
+use Rattle.access_calls.proofs.KeepLemmas.{all_asked}
 use Rattle.sequels.specs.Meeting.{CutOff, Gave}
 use Rattle.sequels.specs.Sequel.{Ends, asks}
 use Rattle.sequels.proofs.MeetingLemmas.{cut_call, gave_by, left_call, left_here, reaches_call}
 use Rattle.rom_scan.specs.Meets.{StopsIn}
-
-all_asked : (a b : AccessView) (ask : Ask) → a.end ≡ None → b.asks.calls ≡ cond (is_some a.end) a.asks.calls (a.asks.calls ++ ask ∷ []) → b.asks.calls ≡ a.asks.calls ++ ask ∷ []
-all_asked a b ask none calls = calls ∙ ap (λ (e : Option Stop). cond (is_some e) a.asks.calls (a.asks.calls ++ ask ∷ [])) none
 
 -- the call was asked
 stops_call : (w : World) (old new : List Ask) (ask : Ask) (lines : ℕ) (written : Option (List ℕ)) (st : Stop) → new ≡ old ++ ask ∷ [] → stop w old ≡ None → AtCut st (λ r. stop w (old ++ ask ∷ []) ≡ Some (lines + 1))

@@ -13,3 +13,4 @@ pub mod OnlyLemmas
 pub mod ShowLemmas
 pub mod TargetLemmas
 pub mod WrittenLemmas
+pub mod EndLemmas

@@ -5,7 +5,8 @@ use Rattle.target_calls.specs.World.{World}
 use Rattle.target_calls.specs.declared.calls.Ask.{Ask}
 use Rattle.access_calls.specs.declared.stop.Stop.{Stop}
 use Rattle.sequels.specs.Meeting.{Gave, LeftOff, Reaches}
-use Rattle.rom_scan.specs.Meets.{EndsBy, StopsIn}
+use Rattle.access_calls.specs.Asking.{EndsBy}
+use Rattle.rom_scan.specs.Meets.{StopsIn}
 use Rattle.sequels.specs.Sequel.{Sequel}
 use Rattle.rom_scan.specs.Tables.{unwound}
 use Rattle.rom_scan.specs.Walk as walk

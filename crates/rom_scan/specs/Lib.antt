@@ -7,3 +7,4 @@ pub mod Meets
 pub mod Arrivals
 pub mod Scans
 pub mod Written
+pub mod Frame

@@ -1,11 +1,10 @@
 -- How what is answered over an access is what a sequel comes to.
-use Rattle.std.specs.Prelude.{◌≡◌, ℕ, ◌+◌, List, length, Option, Some, None, Result, Ok, Err}
+use Rattle.std.specs.Prelude.{◌≡◌, ℕ, ◌+◌, List, length, Option, Some, Result, Ok, Err}
 use Rattle.target_calls.specs.Asks.{settled_last}
 use Rattle.target_calls.specs.World.{World, stop}
 use Rattle.target_calls.specs.declared.calls.Ask.{Ask}
 use Rattle.access_calls.specs.Answers.{AtCut}
 use Rattle.access_calls.specs.declared.stop.Stop.{Stop}
-use Rattle.access_calls.specs.declared.stop.Stop.TheVariants.{Cut, BenchFault, ReplyBad, OutOfMemory}
 use Rattle.access_calls.specs.declared.stop.StopCause.TheVariants.{NoAnswer}
 use Rattle.sequels.specs.Meeting.{CutOff, Gave, LeftOff}
 use Rattle.sequels.specs.Sequel.{Sequel}
@@ -37,15 +36,3 @@ Gives w lines s (Err e) old new before now = StopsIn w lines s old new before no
 abbrev pub GivesBy : {A X : Type 0} → (A → X) → World → ℕ → Sequel X → Result A Stop → List Ask → List Ask → Option (List ℕ) → Option (List ℕ) → Type 0
 GivesBy view w lines s (Ok x) old new before now = Gave w s old new before now (view x)
 GivesBy view w lines s (Err e) old new before now = StopsIn w lines s old new before now e
-
--- the end of an access that stopped so; refused memory is no end
-abbrev pub EndsBy : Stop → Option Stop → Type 0
-EndsBy (Cut r) end = end ≡ Some (Cut r)
-EndsBy (BenchFault issued confirmed) end = end ≡ Some (BenchFault issued confirmed)
-EndsBy ReplyBad end = end ≡ Some ReplyBad
-EndsBy OutOfMemory end = end ≡ None
-
--- the access has ended where it stopped, and else it goes on
-abbrev pub EndIs : {A : Type 0} → Result A Stop → Option Stop → Type 0
-EndIs (Ok x) end = end ≡ None
-EndIs (Err e) end = EndsBy e end

@@ -1,15 +1,12 @@
 //! Accesses whose results are answered at once.
-ghost use Rattle.std.specs.Prelude.{◌≡◌, ◌+◌, ◌*◌, ◌<◌, ◌≤◌, ◌%◌, ◌^◌, ℕ, false, true, List, [], Option, None, length, IfOk, OnOk};
-ghost use Rattle.probe_core.specs.Bench.{BenchState};
+ghost use Rattle.std.specs.Prelude.{◌≡◌, ◌+◌, ◌*◌, ◌≤◌, ◌%◌, ◌^◌, false, true, [], length, IfOk, OnOk};
 ghost use Rattle.target_machine.specs.Sound.{IsSound};
 ghost use Rattle.target_calls.specs.Asks.{is_wide, unit_ask};
-ghost use Rattle.target_calls.specs.World.{stop};
-ghost use Rattle.access_calls.specs.Keeps.{Keeps};
-ghost use Rattle.access_calls.specs.Left.{IsLeft};
-ghost use Rattle.access_calls.specs.Reported.{world_from};
+ghost use Rattle.access_calls.specs.Asking.{EndsAsking, MayAsk};
 ghost use Rattle.sequels.specs.Sequel.{asks};
 ghost use Rattle.rom_scan.specs.Components.{base_ask, word_ask, words};
-ghost use Rattle.rom_scan.specs.Meets.{EndIs, Gives, GivesBy};
+ghost use Rattle.rom_scan.specs.Frame.{GivesAsking};
+ghost use Rattle.rom_scan.specs.Meets.{Gives, GivesBy};
 
 use access_calls::{Access, Stop};
 use arrayvec::ArrayVec;
@@ -51,15 +48,10 @@ pub(crate) fn base_unit(ap: u8) -> Unit
 pub(crate) fn ask_now<A: Access>(unit: Unit, access: &mut A) -> Result<u32, Stop>
     requires sound { IsSound unit }
     requires narrow { is_wide unit ≡ false }
-    requires few { length (A.reported access.old).asks.calls < 10000000 }
-    requires open { (A.reported access.old).end ≡ None }
-    ensures gives { (m : BenchState) (answered : Option ℕ) (written : Option (List ℕ)) → A.begun access.old m → IsLeft (A.reported access.new) answered
-        → stop (world_from m answered) (A.reported access.old).asks.calls ≡ None
-        → Gives (world_from m answered) (A.reported access.new).lines (asks (unit_ask unit true))
-        result (A.reported access.old).asks.calls (A.reported access.new).asks.calls written written }
+    requires may { MayAsk 9999999 (A.reported access.old) }
+    ensures gives { GivesAsking A.begun A.reported access.old access.new (λ w lines. Gives w lines (asks (unit_ask unit true)) result) }
     ensures count { OnOk result (length (A.reported access.new).asks.calls ≡ length (A.reported access.old).asks.calls + 1) }
-    ensures end { EndIs result (A.reported access.new).end }
-    ensures keeps { Keeps A.begun A.reported A.identity access.old access.new }
+    ensures ends { EndsAsking A.begun A.reported A.identity result access.old access.new }
 {
     let slot = match access.ask(unit, true) {
         Ok(Asked::Slot(slot)) => slot,
@@ -87,16 +79,11 @@ pub(crate) fn read_words<A: Access>(
     requires count { count ≤ 4 }
     requires aligned { address % 4 ≡ 0 }
     requires low { address + 4 * count ≤ 2 ^ 32 }
-    requires few { length (A.reported access.old).asks.calls ≤ 9000000 }
-    requires open { (A.reported access.old).end ≡ None }
-    ensures gives { (m : BenchState) (answered : Option ℕ) (written : Option (List ℕ)) → A.begun access.old m → IsLeft (A.reported access.new) answered
-        → stop (world_from m answered) (A.reported access.old).asks.calls ≡ None
-        → GivesBy (λ v. v.items) (world_from m answered) (A.reported access.new).lines (words ap count address [])
-        result (A.reported access.old).asks.calls (A.reported access.new).asks.calls written written }
+    requires may { MayAsk 9000000 (A.reported access.old) }
+    ensures gives { GivesAsking A.begun A.reported access.old access.new (λ w lines. GivesBy (λ v. v.items) w lines (words ap count address []) result) }
     ensures items { IfOk result (λ v. length v.items ≡ count) }
     ensures count { OnOk result (length (A.reported access.new).asks.calls ≡ length (A.reported access.old).asks.calls + count) }
-    ensures end { EndIs result (A.reported access.new).end }
-    ensures keeps { Keeps A.begun A.reported A.identity access.old access.new }
+    ensures ends { EndsAsking A.begun A.reported A.identity result access.old access.new }
 {
     let mut read = ArrayVec::<u32, 4>::new();
     for i in 0..count {

@@ -1,12 +1,9 @@
 //! One component.
-ghost use Rattle.std.specs.Prelude.{◌≡◌, ◌+◌, ◌≤◌, ◌%◌, ℕ, List, Option, None, length, IfOk};
-ghost use Rattle.probe_core.specs.Bench.{BenchState};
-ghost use Rattle.target_calls.specs.World.{stop};
-ghost use Rattle.access_calls.specs.Keeps.{Keeps};
-ghost use Rattle.access_calls.specs.Left.{IsLeft};
-ghost use Rattle.access_calls.specs.Reported.{world_from};
+ghost use Rattle.std.specs.Prelude.{◌≡◌, ◌+◌, ◌≤◌, ◌%◌, length, IfOk};
+ghost use Rattle.access_calls.specs.Asking.{EndsAsking, MayAsk};
 ghost use Rattle.rom_scan.specs.Components.{component_at, is_known, known_as, words_of};
-ghost use Rattle.rom_scan.specs.Meets.{EndIs, Gives};
+ghost use Rattle.rom_scan.specs.Frame.{GivesAsking};
+ghost use Rattle.rom_scan.specs.Meets.{Gives};
 
 use crate::asking::read_words;
 use crate::component::{Component, Known};
@@ -70,16 +67,11 @@ pub(crate) fn read_component<A: Access>(
     access: &mut A,
 ) -> Result<Component, Stop>
     requires page { address % 4096 ≡ 0 }
-    requires few { length (A.reported access.old).asks.calls ≤ 8000000 }
-    requires open { (A.reported access.old).end ≡ None }
-    ensures gives { (m : BenchState) (answered : Option ℕ) (written : Option (List ℕ)) → A.begun access.old m → IsLeft (A.reported access.new) answered
-        → stop (world_from m answered) (A.reported access.old).asks.calls ≡ None
-        → Gives (world_from m answered) (A.reported access.new).lines (component_at ap address depth)
-        result (A.reported access.old).asks.calls (A.reported access.new).asks.calls written written }
+    requires may { MayAsk 8000000 (A.reported access.old) }
+    ensures gives { GivesAsking A.begun A.reported access.old access.new (λ w lines. Gives w lines (component_at ap address depth) result) }
     ensures address { IfOk result (λ c. c.address ≡ address) }
     ensures count { IfOk result (λ c. length (A.reported access.new).asks.calls ≡ length (A.reported access.old).asks.calls + words_of c.known) }
-    ensures end { EndIs result (A.reported access.new).end }
-    ensures keeps { Keeps A.begun A.reported A.identity access.old access.new }
+    ensures ends { EndsAsking A.begun A.reported A.identity result access.old access.new }
 {
     let cidr = match read_words(ap, address + 0xFF0, 4, access) {
         Ok(words) => words,

@@ -1,15 +1,11 @@
 //! A whole scan.
-ghost use Rattle.std.specs.Prelude.{◌≡◌, ◌+◌, ◌≤◌, ◌%◌, ℕ, List, Option, None, [], length, IfOk};
-ghost use Rattle.probe_core.specs.Bench.{BenchState};
-ghost use Rattle.target_calls.specs.World.{stop};
-ghost use Rattle.access_calls.specs.Keeps.{Keeps};
-ghost use Rattle.access_calls.specs.Left.{IsLeft};
-ghost use Rattle.access_calls.specs.Reported.{world_from};
-ghost use Rattle.rom_scan.specs.Arrivals.{AtFull, HasSinkCause, ScanEndIs};
+ghost use Rattle.std.specs.Prelude.{◌≡◌, ◌+◌, ◌≤◌, ◌%◌, [], length};
+ghost use Rattle.access_calls.specs.Asking.{MayAsk};
+ghost use Rattle.rom_scan.specs.Arrivals.{AtFull};
 ghost use Rattle.rom_scan.specs.Components.{is_no_base, page};
+ghost use Rattle.rom_scan.specs.Frame.{CountsUnits, EndsScan, GivesWriting};
 ghost use Rattle.rom_scan.specs.Scans.{Lists, Scans};
 ghost use Rattle.rom_scan.specs.Walk.{component, scanned};
-ghost use Rattle.rom_scan.specs.Written.{WritesComponents};
 
 use crate::asking::{ask_now, base_unit};
 use crate::scan_end::ScanEnd;
@@ -46,20 +42,13 @@ fn list_from<A: Access, K: Sink>(
 ) -> Result<u32, ScanEnd>
     requires room { units.old ≤ 100 }
     requires page { address % 4096 ≡ 0 }
-    requires few { length (A.reported access.old).asks.calls ≤ 1000001 }
-    requires open { (A.reported access.old).end ≡ None }
-    ensures gives { (m : BenchState) (answered : Option ℕ) → A.begun access.old m → IsLeft (A.reported access.new) answered
-        → stop (world_from m answered) (A.reported access.old).asks.calls ≡ None
-        → Lists (world_from m answered) (A.reported access.new).lines (component 1024 ap 7 address [])
-        result (A.reported access.old).asks.calls (A.reported access.new).asks.calls (K.written sink.old) (K.written sink.new) }
-    ensures asked { IfOk result (λ n. length (A.reported access.new).asks.calls ≡ length (A.reported access.old).asks.calls + n) }
-    ensures few { IfOk result (λ n. n ≤ 993280) }
+    requires may { MayAsk 1000001 (A.reported access.old) }
+    ensures gives { GivesWriting A.begun A.reported K.written access.old access.new sink.old sink.new
+        (λ w lines. Lists w lines (component 1024 ap 7 address []) result) }
+    ensures counts { CountsUnits 993280 result (A.reported access.old).asks.calls (A.reported access.new).asks.calls }
     ensures full { AtFull result (length (A.reported access.new).asks.calls + units.old ≡ length (A.reported access.old).asks.calls + units.new) }
     ensures most { units.new ≤ units.old + 7000010 }
-    ensures lines { WritesComponents result (K.written sink.old) (K.written sink.new) }
-    ensures cause { HasSinkCause result (K.faults sink.old) (K.faults sink.new) }
-    ensures end { ScanEndIs result (A.reported access.new).end }
-    ensures keeps { Keeps A.begun A.reported A.identity access.old access.new }
+    ensures ends { EndsScan A.begun A.reported A.identity K.written K.faults result access.old access.new sink.old sink.new }
 {
     let mut tables = OpenTables::new();
     let mut listed = ItemList::new(alloc);
@@ -86,20 +75,12 @@ fn list_all<A: Access, K: Sink>(
     units: &mut u32,
 ) -> Result<u32, ScanEnd>
     requires room { units.old ≤ 100 }
-    requires few { length (A.reported access.old).asks.calls ≤ 1000000 }
-    requires open { (A.reported access.old).end ≡ None }
-    ensures gives { (m : BenchState) (answered : Option ℕ) → A.begun access.old m → IsLeft (A.reported access.new) answered
-        → stop (world_from m answered) (A.reported access.old).asks.calls ≡ None
-        → Lists (world_from m answered) (A.reported access.new).lines (scanned 1024 ap)
-        result (A.reported access.old).asks.calls (A.reported access.new).asks.calls (K.written sink.old) (K.written sink.new) }
-    ensures asked { IfOk result (λ n. length (A.reported access.new).asks.calls ≡ length (A.reported access.old).asks.calls + n) }
-    ensures few { IfOk result (λ n. n ≤ 993281) }
+    requires may { MayAsk 1000000 (A.reported access.old) }
+    ensures gives { GivesWriting A.begun A.reported K.written access.old access.new sink.old sink.new (λ w lines. Lists w lines (scanned 1024 ap) result) }
+    ensures counts { CountsUnits 993281 result (A.reported access.old).asks.calls (A.reported access.new).asks.calls }
     ensures full { AtFull result (length (A.reported access.new).asks.calls + units.old ≡ length (A.reported access.old).asks.calls + units.new) }
     ensures most { units.new ≤ units.old + 7000011 }
-    ensures lines { WritesComponents result (K.written sink.old) (K.written sink.new) }
-    ensures cause { HasSinkCause result (K.faults sink.old) (K.faults sink.new) }
-    ensures end { ScanEndIs result (A.reported access.new).end }
-    ensures keeps { Keeps A.begun A.reported A.identity access.old access.new }
+    ensures ends { EndsScan A.begun A.reported A.identity K.written K.faults result access.old access.new sink.old sink.new }
 {
     let base = match ask_now(base_unit(ap), access) {
         Ok(base) => base,
@@ -128,20 +109,12 @@ pub fn scan_counting<A: Access, K: Sink>(
     units: &mut u32,
 ) -> Result<u32, ScanEnd>
     requires room { units.old ≤ 100 }
-    requires few { length (A.reported access.old).asks.calls ≤ 1000000 }
-    requires open { (A.reported access.old).end ≡ None }
-    ensures gives { (m : BenchState) (answered : Option ℕ) → A.begun access.old m → IsLeft (A.reported access.new) answered
-        → stop (world_from m answered) (A.reported access.old).asks.calls ≡ None
-        → Scans (world_from m answered) (A.reported access.new).lines ap
-        result (A.reported access.old).asks.calls (A.reported access.new).asks.calls (K.written sink.old) (K.written sink.new) }
-    ensures asked { IfOk result (λ n. length (A.reported access.new).asks.calls ≡ length (A.reported access.old).asks.calls + n) }
-    ensures few { IfOk result (λ n. n ≤ 993281) }
+    requires may { MayAsk 1000000 (A.reported access.old) }
+    ensures gives { GivesWriting A.begun A.reported K.written access.old access.new sink.old sink.new (λ w lines. Scans w lines ap result) }
+    ensures counts { CountsUnits 993281 result (A.reported access.old).asks.calls (A.reported access.new).asks.calls }
     ensures full { AtFull result (length (A.reported access.new).asks.calls + units.old ≡ length (A.reported access.old).asks.calls + units.new) }
     ensures most { units.new ≤ units.old + 7000011 }
-    ensures lines { WritesComponents result (K.written sink.old) (K.written sink.new) }
-    ensures cause { HasSinkCause result (K.faults sink.old) (K.faults sink.new) }
-    ensures end { ScanEndIs result (A.reported access.new).end }
-    ensures keeps { Keeps A.begun A.reported A.identity access.old access.new }
+    ensures ends { EndsScan A.begun A.reported A.identity K.written K.faults result access.old access.new sink.old sink.new }
 {
     match list_all(alloc, ap, access, sink, units) {
         Ok(units) => match access.finish() {
@@ -172,18 +145,10 @@ pub fn scan<A: Access, K: Sink>(
     access: &mut A,
     sink: &mut K,
 ) -> Result<u32, ScanEnd>
-    requires few { length (A.reported access.old).asks.calls ≤ 1000000 }
-    requires open { (A.reported access.old).end ≡ None }
-    ensures gives { (m : BenchState) (answered : Option ℕ) → A.begun access.old m → IsLeft (A.reported access.new) answered
-        → stop (world_from m answered) (A.reported access.old).asks.calls ≡ None
-        → Scans (world_from m answered) (A.reported access.new).lines ap
-        result (A.reported access.old).asks.calls (A.reported access.new).asks.calls (K.written sink.old) (K.written sink.new) }
-    ensures asked { IfOk result (λ n. length (A.reported access.new).asks.calls ≡ length (A.reported access.old).asks.calls + n) }
-    ensures few { IfOk result (λ n. n ≤ 993281) }
-    ensures lines { WritesComponents result (K.written sink.old) (K.written sink.new) }
-    ensures cause { HasSinkCause result (K.faults sink.old) (K.faults sink.new) }
-    ensures end { ScanEndIs result (A.reported access.new).end }
-    ensures keeps { Keeps A.begun A.reported A.identity access.old access.new }
+    requires may { MayAsk 1000000 (A.reported access.old) }
+    ensures gives { GivesWriting A.begun A.reported K.written access.old access.new sink.old sink.new (λ w lines. Scans w lines ap result) }
+    ensures counts { CountsUnits 993281 result (A.reported access.old).asks.calls (A.reported access.new).asks.calls }
+    ensures ends { EndsScan A.begun A.reported A.identity K.written K.faults result access.old access.new sink.old sink.new }
 {
     let mut units = 0;
     scan_counting(alloc, ap, access, sink, &mut units)

@@ -1,16 +1,12 @@
 //! The walk through the tables that are open.
-ghost use Rattle.std.specs.Prelude.{◌≡◌, ◌+◌, ◌≤◌, ◌%◌, ◌<◌, ◌∷◌, [], ℕ, List, Option, None, length, IfOk, OnOk};
+ghost use Rattle.std.specs.Prelude.{◌≡◌, ◌+◌, ◌≤◌, ◌%◌, ◌<◌, ◌∷◌, [], None, length, OnOk};
 ghost use Rattle.std.specs.List.{All};
-ghost use Rattle.probe_core.specs.Bench.{BenchState};
-ghost use Rattle.target_calls.specs.World.{stop};
-ghost use Rattle.access_calls.specs.Keeps.{Keeps};
-ghost use Rattle.access_calls.specs.Left.{IsLeft};
-ghost use Rattle.access_calls.specs.Reported.{world_from};
-ghost use Rattle.rom_scan.specs.Arrivals.{AtFull, HasSinkCause, IsOpen, ScanEndIs, Walks, left_of};
+ghost use Rattle.access_calls.specs.Asking.{MayAsk};
+ghost use Rattle.rom_scan.specs.Arrivals.{AtFull, IsOpen, Walks, left_of};
 ghost use Rattle.rom_scan.specs.Components.{is_table, named_by};
+ghost use Rattle.rom_scan.specs.Frame.{CountsUnits, EndsScan, GivesWriting};
 ghost use Rattle.rom_scan.specs.Walk.{is_listed};
 ghost use Rattle.rom_scan.specs.Tables.{opened, reached, unwound};
-ghost use Rattle.rom_scan.specs.Written.{WritesComponents};
 
 use crate::asking::{ask_now, word_unit};
 use crate::component::Component;
@@ -58,24 +54,17 @@ pub(crate) fn arrive<A: Access, K: Sink>(
 ) -> Result<u32, ScanEnd>
     requires page { address % 4096 ≡ 0 }
     requires deep { length tables.old ≤ 7 }
-    requires few { length (A.reported access.old).asks.calls ≤ 8000000 }
-    requires open { (A.reported access.old).end ≡ None }
-    ensures gives { (m : BenchState) (answered : Option ℕ) → A.begun access.old m → IsLeft (A.reported access.new) answered
-        → stop (world_from m answered) (A.reported access.old).asks.calls ≡ None
-        → Walks (world_from m answered) (A.reported access.new).lines ap (reached 1024 ap tables.old address listed.old)
-        result tables.new listed.new (A.reported access.old).asks.calls (A.reported access.new).asks.calls (K.written sink.old) (K.written sink.new) }
+    requires may { MayAsk 8000000 (A.reported access.old) }
+    ensures gives { GivesWriting A.begun A.reported K.written access.old access.new sink.old sink.new
+        (λ w lines. Walks w lines ap (reached 1024 ap tables.old address listed.old) result tables.new listed.new) }
     ensures count { OnOk result (length (A.reported access.new).asks.calls + left_of tables.new listed.new
         ≤ length (A.reported access.old).asks.calls + left_of tables.old listed.old) }
     ensures open { OnOk result (All IsOpen tables.old → All IsOpen tables.new) }
     ensures deep { OnOk result (length tables.new ≤ 7) }
     ensures less { OnOk result (left_of tables.new listed.new < left_of tables.old listed.old) }
-    ensures asked { IfOk result (λ n. length (A.reported access.new).asks.calls ≡ length (A.reported access.old).asks.calls + n) }
-    ensures few { IfOk result (λ n. n ≤ 9) }
+    ensures counts { CountsUnits 9 result (A.reported access.old).asks.calls (A.reported access.new).asks.calls }
     ensures full { AtFull result (length (A.reported access.new).asks.calls ≡ length (A.reported access.old).asks.calls) }
-    ensures lines { WritesComponents result (K.written sink.old) (K.written sink.new) }
-    ensures cause { HasSinkCause result (K.faults sink.old) (K.faults sink.new) }
-    ensures end { ScanEndIs result (A.reported access.new).end }
-    ensures keeps { Keeps A.begun A.reported A.identity access.old access.new }
+    ensures ends { EndsScan A.begun A.reported A.identity K.written K.faults result access.old access.new sink.old sink.new }
 {
     if listed.len() >= 1024 {
         return Err(ScanEnd::Full);
@@ -128,24 +117,17 @@ fn step<A: Access, K: Sink>(
     requires some { 1 ≤ table.left }
     requires left { table.left ≤ 960 }
     requires deep { length tables.old ≤ 6 }
-    requires few { length (A.reported access.old).asks.calls ≤ 7000000 }
-    requires open { (A.reported access.old).end ≡ None }
-    ensures gives { (m : BenchState) (answered : Option ℕ) → A.begun access.old m → IsLeft (A.reported access.new) answered
-        → stop (world_from m answered) (A.reported access.old).asks.calls ≡ None
-        → Walks (world_from m answered) (A.reported access.new).lines ap (unwound 1024 ap (table ∷ tables.old) listed.old)
-        result tables.new listed.new (A.reported access.old).asks.calls (A.reported access.new).asks.calls (K.written sink.old) (K.written sink.new) }
+    requires may { MayAsk 7000000 (A.reported access.old) }
+    ensures gives { GivesWriting A.begun A.reported K.written access.old access.new sink.old sink.new
+        (λ w lines. Walks w lines ap (unwound 1024 ap (table ∷ tables.old) listed.old) result tables.new listed.new) }
     ensures count { OnOk result (length (A.reported access.new).asks.calls + left_of tables.new listed.new
         ≤ length (A.reported access.old).asks.calls + left_of (table ∷ tables.old) listed.old) }
     ensures less { OnOk result (left_of tables.new listed.new < left_of (table ∷ tables.old) listed.old) }
     ensures open { OnOk result (All IsOpen tables.old → All IsOpen tables.new) }
     ensures deep { OnOk result (length tables.new ≤ 7) }
-    ensures asked { IfOk result (λ n. length (A.reported access.new).asks.calls ≡ length (A.reported access.old).asks.calls + n) }
-    ensures few { IfOk result (λ n. n ≤ 10) }
+    ensures counts { CountsUnits 10 result (A.reported access.old).asks.calls (A.reported access.new).asks.calls }
     ensures full { AtFull result (length (A.reported access.new).asks.calls ≡ length (A.reported access.old).asks.calls + 1) }
-    ensures lines { WritesComponents result (K.written sink.old) (K.written sink.new) }
-    ensures cause { HasSinkCause result (K.faults sink.old) (K.faults sink.new) }
-    ensures end { ScanEndIs result (A.reported access.new).end }
-    ensures keeps { Keeps A.begun A.reported A.identity access.old access.new }
+    ensures ends { EndsScan A.begun A.reported A.identity K.written K.faults result access.old access.new sink.old sink.new }
 {
     let place = table.address + 4 * (960 - table.left) as u32;
     let entry = match ask_now(word_unit(ap, place), access) {
@@ -188,20 +170,14 @@ pub(crate) fn walk<A: Access, K: Sink>(
     requires deep { length tables.old ≤ 7 }
     requires few { length (A.reported access.old).asks.calls + left_of tables.old listed.old ≤ 7000000 }
     requires open { (A.reported access.old).end ≡ None }
-    ensures gives { (m : BenchState) (answered : Option ℕ) → A.begun access.old m → IsLeft (A.reported access.new) answered
-        → stop (world_from m answered) (A.reported access.old).asks.calls ≡ None
-        → Walks (world_from m answered) (A.reported access.new).lines ap (unwound 1024 ap tables.old listed.old)
-        result tables.new listed.new (A.reported access.old).asks.calls (A.reported access.new).asks.calls (K.written sink.old) (K.written sink.new) }
+    ensures gives { GivesWriting A.begun A.reported K.written access.old access.new sink.old sink.new
+        (λ w lines. Walks w lines ap (unwound 1024 ap tables.old listed.old) result tables.new listed.new) }
     ensures none { OnOk result (tables.new ≡ []) }
     ensures count { OnOk result (length (A.reported access.new).asks.calls ≤ length (A.reported access.old).asks.calls + left_of tables.old listed.old) }
-    ensures asked { IfOk result (λ n. length (A.reported access.new).asks.calls ≡ length (A.reported access.old).asks.calls + n) }
-    ensures few { IfOk result (λ n. n ≤ 7000000) }
+    ensures counts { CountsUnits 7000000 result (A.reported access.old).asks.calls (A.reported access.new).asks.calls }
     ensures full { AtFull result (length (A.reported access.new).asks.calls + units.old ≡ length (A.reported access.old).asks.calls + units.new) }
     ensures most { units.new ≤ units.old + 7000001 }
-    ensures lines { WritesComponents result (K.written sink.old) (K.written sink.new) }
-    ensures cause { HasSinkCause result (K.faults sink.old) (K.faults sink.new) }
-    ensures end { ScanEndIs result (A.reported access.new).end }
-    ensures keeps { Keeps A.begun A.reported A.identity access.old access.new }
+    ensures ends { EndsScan A.begun A.reported A.identity K.written K.faults result access.old access.new sink.old sink.new }
 {
     let mut asked = 0;
     'tables: loop {

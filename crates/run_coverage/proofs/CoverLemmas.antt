@@ -4,16 +4,13 @@ use Rattle.std.proofs.Math.Path.{fun_ext}
 use Rattle.std.proofs.lemmas.List.Folds.{list_any-append}
 use Rattle.std.proofs.lemmas.Slice.Eq.{bytes_eq-Decides}
 use Rattle.std.specs.List.{list_any}
+use Rattle.std.proofs.Math.Bool.{or-false}
 use Rattle.indexmap.specs.IndexSet.{insert_key}
 use Rattle.sequence_trees.specs.Trees.{SetTrees}
 use Rattle.run_events.specs.Events.{Event}
 use Rattle.run_coverage.specs.declared.coverage.Coverage.{Coverage}
 use Rattle.run_coverage.specs.Covered.{event_words, happens, has, is_word, IsOf}
 use Rattle.run_coverage.specs.Text.{lines_of}
-
-or_false : (b : Bool) → (b || false) ≡ b
-or_false true = refl
-or_false false = refl
 
 -- keys that are found by their bytes, after one more was put in
 module _ {K : Type 0} (bytes : K → List ℕ) (ks : List K) (k : K) (words : List ℕ) where
@@ -24,21 +21,21 @@ module _ {K : Type 0} (bytes : K → List ℕ) (ks : List K) (k : K) (words : Li
   among own = list_any (λ y. bytes_eq own (bytes y)) ks
 
   there : (b : Bool) → bytes_eq words (bytes k) ≡ b → among (bytes k) ≡ true → found ≡ (found || b)
-  there false h own = sym (or_false found)
+  there false h own = sym (or-false found)
   there true h own =
       let same : among words ≡ true = ap among ((bytes_eq-Decides words (bytes k)).0 h) ∙ own in
       same ∙ sym (ap (λ b. b || true) same)
 
   put : (b : Bool) → among (bytes k) ≡ b → list_any (λ y. bytes_eq words (bytes y)) (cond b ks (ks ++ k ∷ [])) ≡ (found || bytes_eq words (bytes k))
   put true h = there (bytes_eq words (bytes k)) refl h
-  put false h = list_any-append (λ y. bytes_eq words (bytes y)) ks (k ∷ []) ∙ ap (λ b. found || b) (or_false (bytes_eq words (bytes k)))
+  put false h = list_any-append (λ y. bytes_eq words (bytes y)) ks (k ∷ []) ∙ ap (λ b. found || b) (or-false (bytes_eq words (bytes k)))
 
   pub kept : list_any (λ y. bytes_eq words (bytes y)) (insert_key (λ x y. bytes_eq (bytes x) (bytes y)) ks k) ≡ (found || bytes_eq words (bytes k))
   kept = put (among (bytes k)) refl
 
 one_more : (events : List Event) (e : Event) (words : List ℕ) → happens (events ++ e ∷ []) words ≡ (happens events words || is_word words (event_words e))
 one_more events e words =
-    list_any-append (λ x. is_word words (event_words x)) events (e ∷ []) ∙ ap (λ b. happens events words || b) (or_false (is_word words (event_words e)))
+    list_any-append (λ x. is_word words (event_words x)) events (e ∷ []) ∙ ap (λ b. happens events words || b) (or-false (is_word words (event_words e)))
 
 pub noted : (old new : Coverage) (events : List Event) (e : Event) (words : List ℕ) → event_words e ≡ Some words → ((other : List ℕ) → has new other ≡ (has old other || bytes_eq other words))
     → IsOf old events → IsOf new (events ++ e ∷ [])
@@ -47,7 +44,7 @@ noted old new events e words is h of = λ other.
 
 pub not_noted : (coverage : Coverage) (events : List Event) (e : Event) → event_words e ≡ None → IsOf coverage events → IsOf coverage (events ++ e ∷ [])
 not_noted coverage events e none of = λ other.
-    of other ∙ sym (one_more events e other ∙ ap (λ o. happens events other || is_word other o) none ∙ or_false (happens events other))
+    of other ∙ sym (one_more events e other ∙ ap (λ o. happens events other || is_word other o) none ∙ or-false (happens events other))
 
 pub same_lines : (coverage : Coverage) (events : List Event) (set : SetTrees) (names : List (List ℕ)) (t : List ℕ) → IsOf coverage events → t ≡ lines_of (has coverage) set names
     → t ≡ lines_of (happens events) set names

@@ -1,5 +1,5 @@
 -- Statements that are remembered.
-use Rattle.std.proofs.Common.{◌≡◌, ◌∙◌, ℕ, ◌<◌, Bool, true, false, ◌||◌, List, [], ◌∷◌, ◌++◌, length, get_or, Option, Some, None, Result, Ok, Err, OnOk, bytes_eq, refl, sym, ap}
+use Rattle.std.proofs.Common.{◌≡◌, ◌∙◌, ℕ, ◌<◌, Bool, true, ◌||◌, List, [], ◌∷◌, ◌++◌, length, get_or, Option, Some, None, Result, Ok, Err, OnOk, bytes_eq, refl, sym, ap}
 use Rattle.std.proofs.lemmas.List.Elements.{All-get_or, All-push, All-set, All-weaker}
 use Rattle.std.proofs.lemmas.Slice.Eq.{bytes_eq-Decides}
 use Rattle.std.specs.List.{AllPass, slice_set}
@@ -9,6 +9,7 @@ use Rattle.run_coverage.specs.declared.ran.Ran.{Ran}
 use Rattle.run_coverage.specs.Covered.{event_words, has, IsOf}
 use Rattle.run_coverage.proofs.CoverLemmas.{noted}
 use Rattle.run_coverage.specs.Ran.{is_had, words_of}
+use Rattle.code_check.proofs.Visible.{absorbed}
 
 abbrev Has : Type 0
 Has = List ℕ → Bool
@@ -33,14 +34,8 @@ slot_had has slots slot ran d less is all = sym (ap (is_had has) is) ∙ All-get
 pub same_bytes : (xs ys : List ℕ) (r : Bool) → r ≡ bytes_eq xs ys → r ≡ true → xs ≡ ys
 same_bytes xs ys r is h = (bytes_eq-Decides xs ys).0 (sym is ∙ h)
 
--- words that are had already, and are noted once more
-or_itself : (a b : Bool) → (b ≡ true → a ≡ true) → a ≡ (a || b)
-or_itself true b h = refl
-or_itself false true h = h refl
-or_itself false false h = refl
-
 pub had_again : (has : Has) (words : List ℕ) → has words ≡ true → (other : List ℕ) → has other ≡ (has other || bytes_eq other words)
-had_again has words h other = or_itself (has other) (bytes_eq other words) (λ e. ap has ((bytes_eq-Decides other words).0 e) ∙ h)
+had_again has words h other = absorbed (has other) (bytes_eq other words) (λ e. ap has ((bytes_eq-Decides other words).0 e) ∙ h)
 
 -- a statement that ran before
 pub ran_again : (coverage : Coverage) (events : List Event) (e : Event) (words : List ℕ) → event_words e ≡ Some words → has coverage words ≡ true → IsOf coverage events → IsOf coverage (events ++ e ∷ [])

@@ -1,7 +1,8 @@
 -- What events cover.
-use Rattle.std.specs.Prelude.{◌≡◌, ℕ, Bool, false, List, Option, Some, None, ◌++◌, is_some, if◌then◌else◌}
+use Rattle.std.specs.Prelude.{◌≡◌, ℕ, Bool, false, List, [], ◌∷◌, Option, Some, None, Result, OnOk, ◌++◌, is_some, if◌then◌else◌}
 use Rattle.std.specs.List.{list_any}
 use Rattle.std.specs.Str.{bytes_eq}
+use Rattle.dap_base.specs.declared.text.OutOfMemory.{OutOfMemory}
 use Rattle.run_events.specs.Events.{Event, Begins, Tests, Chooses, Loops, Turns, Finds, Leaves, TimesOut, Matches, Assigns, Makes, Writes, Calls, Returns}
 use Rattle.log_lines.specs.Places.{spot_words}
 use Rattle.run_coverage.specs.declared.coverage.Coverage.{Coverage}
@@ -40,3 +41,7 @@ has coverage words = list_any (λ k. bytes_eq words k.items) coverage.words.keys
 -- the coverage is that of these events
 abbrev pub IsOf : Coverage → List Event → Type 0
 IsOf coverage events = (words : List ℕ) → has coverage words ≡ happens events words
+
+-- the coverage of some events becomes that of these and one more, unless memory is refused
+abbrev pub Covers : Coverage → Coverage → Result (Unit {0}) OutOfMemory → Event → Type 0
+Covers old new result e = (events : List Event) → IsOf old events → OnOk result (IsOf new (events ++ e ∷ []))

@@ -1,11 +1,10 @@
 //! What a run has covered so far.
-ghost use Rattle.std.specs.Prelude.{◌≡◌, ◌++◌, ◌∷◌, ◌||◌, [], ℕ, List, true, OnOk};
+ghost use Rattle.std.specs.Prelude.{◌≡◌, ◌||◌, [], ℕ, List, true, OnOk};
 ghost use Rattle.std.specs.List.{AllPass, list_any};
 ghost use Rattle.std.specs.Str.{bytes_eq};
 ghost use Rattle.expr_grammar.specs.Tree.{stmt_tree};
 ghost use Rattle.sequence_trees.specs.declared.spot.Part.TheVariants as part;
 ghost use Rattle.run_events.specs.Events as e;
-ghost use Rattle.run_events.specs.Events.{Event};
 ghost use Rattle.run_events.specs.OfSteps.{place_of};
 ghost use Rattle.log_lines.specs.Places.{condition_spot, spot_in};
 ghost use Rattle.run_coverage.specs.Items.{chosen, ran_words};
@@ -39,7 +38,7 @@ pub struct Coverage {
 }
 
 impl Coverage {
-    ghost use Rattle.run_coverage.specs.Covered.{has, IsOf};
+    ghost use Rattle.run_coverage.specs.Covered.{Covers, IsOf, has};
 
     /// The coverage of no events. Nothing is allocated.
     pub fn new(alloc: Global) -> Coverage
@@ -116,8 +115,8 @@ impl Coverage {
         path: &[u64],
         statement: &Stmt,
     ) -> Result<(), OutOfMemory>
-        ensures { (events : List Event) → IsOf self.old events
-            → OnOk result (IsOf self.new (events ++ e.Begins (spot_in sequence.now path.now part.Block (place_of (stmt_tree statement.now))) (stmt_tree statement.now) ∷ [])) }
+        ensures { Covers self.old self.new result
+            (e.Begins (spot_in sequence.now path.now part.Block (place_of (stmt_tree statement.now))) (stmt_tree statement.now)) }
     {
         let place = place_of(statement);
         if self.is_recent(sequence, path, place) {
@@ -130,7 +129,7 @@ impl Coverage {
 
     /// The `if` of a control has this value: the control is skipped where it is 0.
     pub fn choose(&mut self, sequence: &str, path: &[u64], value: u64) -> Result<(), OutOfMemory>
-        ensures { (events : List Event) → IsOf self.old events → OnOk result (IsOf self.new (events ++ e.Chooses (condition_spot sequence.now path.now part.If) value ∷ [])) }
+        ensures { Covers self.old self.new result (e.Chooses (condition_spot sequence.now path.now part.If) value) }
     {
         let words = if_words(self.alloc, chosen(value), sequence, path)?;
         self.note(&words)
@@ -138,7 +137,7 @@ impl Coverage {
 
     /// A `while` is left, since its value was 0 in the turn of some number.
     pub fn leave_loop(&mut self, sequence: &str, path: &[u64]) -> Result<(), OutOfMemory>
-        ensures { (events : List Event) (turns : ℕ) → IsOf self.old events → OnOk result (IsOf self.new (events ++ e.Leaves (condition_spot sequence.now path.now part.While) turns ∷ [])) }
+        ensures { (turns : ℕ) → Covers self.old self.new result (e.Leaves (condition_spot sequence.now path.now part.While) turns) }
     {
         let words = while_words(self.alloc, "left ", sequence, path)?;
         self.note(&words)
@@ -146,7 +145,7 @@ impl Coverage {
 
     /// A `while` that is a poll found its value.
     pub fn end_poll(&mut self, sequence: &str, path: &[u64]) -> Result<(), OutOfMemory>
-        ensures { (events : List Event) → IsOf self.old events → OnOk result (IsOf self.new (events ++ e.Matches (condition_spot sequence.now path.now part.While) ∷ [])) }
+        ensures { Covers self.old self.new result (e.Matches (condition_spot sequence.now path.now part.While)) }
     {
         let words = while_words(self.alloc, "left ", sequence, path)?;
         self.note(&words)
@@ -154,7 +153,7 @@ impl Coverage {
 
     /// A `while` has made all turns that its timeout allows.
     pub fn time_out(&mut self, sequence: &str, path: &[u64]) -> Result<(), OutOfMemory>
-        ensures { (events : List Event) (turns : ℕ) → IsOf self.old events → OnOk result (IsOf self.new (events ++ e.TimesOut (condition_spot sequence.now path.now part.While) turns ∷ [])) }
+        ensures { (turns : ℕ) → Covers self.old self.new result (e.TimesOut (condition_spot sequence.now path.now part.While) turns) }
     {
         let words = while_words(self.alloc, "timed out ", sequence, path)?;
         self.note(&words)

@@ -2,7 +2,7 @@
 use Rattle.std.proofs.Common.{◌≡◌, ℕ, suc, ◌+◌, Bool, true, false, cond, List, [], ◌∷◌, ◌++◌, length, drop, nat_lt, nat_eq, slice_index, Option, None, Some, option_map, unwrap_or, Result, Ok, refl, sym, ap, ◌∙◌, arith}
 use Rattle.std.proofs.lemmas.List.{append_assoc, append-nil}
 use Rattle.std.proofs.Math.Seq.{drop-append_seam}
-use Rattle.std.proofs.lemmas.Bool.{lt-ltb, le-ltb}
+use Rattle.std.proofs.lemmas.Bool.{lt-ltb}
 use Rattle.function_table.specs.declared.function.Function.{Function}
 use Rattle.function_table.specs.declared.function.Function.TheVariants as f
 use Rattle.sequence_trees.specs.declared.spot.Spot.{Spot}
@@ -18,10 +18,12 @@ use Rattle.sequence_rules.specs.Steady.{Steady}
 use Rattle.sequence_rules.specs.Steps.{counted, dropped, poll_result_at, poll_result}
 use Rattle.sequence_rules.specs.Variables.{set_visible}
 use Rattle.sequence_rules.proofs.Goes as g
+use Rattle.sequence_rules.proofs.LateLemmas.{append_none}
 use Rattle.run_events.specs.Events.{Event, Writes, TimesOut, Matches, MadeUnit, units_from, units_between, all_made, units_in, lines_in}
 use Rattle.run_events.specs.OfSteps.{poll_end, polled_events, poll_events}
 use Rattle.run_events.specs.OfValues.{line_of, written_line, new_line, function_events}
-use Rattle.run_events.proofs.Said.{left_by, left_on, Said, Tells, said_none, none_added, units_append, lines_append}
+use Rattle.run_events.proofs.Said.{left_by, left_on, Said, Tells, said_none, units_append, lines_append}
+use Rattle.dap_base.proofs.Basics.{lt_itself}
 
 -- ---- calls move the world
 
@@ -134,9 +136,6 @@ said_between s r events h a b = record { more = h.more; calls = h.calls; world =
 lt_more : (n : ℕ) → nat_lt n (n + 1) ≡ true
 lt_more n = lt-ltb n (n + 1) (omega arith)
 
-lt_same : (n : ℕ) → nat_lt n n ≡ false
-lt_same n = le-ltb n n (omega arith)
-
 same_lines : (function : Function) (text n : List ℕ) (s : State ℕ Now) → line_of function text n ≡ None → SameLines s.rest (end_state (function_result (direct false) function text n s)).rest
 unfolding silent direct function_result memory memory_at one_unit two_units second_half low_and_high if_read zero_of command numbered ask answered port port_from port_with global given missing use_now or_halt ap_register ap_at dp_register dp_at abort abort_at delay clock pins line_bits
 same_lines f.Read8 text n s e = (g.goes_memory silent SameLines steady_silent 1 true (slice_index n 0) 0 s).so
@@ -173,7 +172,7 @@ lined line n s = either (nat_lt s.lines 100000)
   where
     either : (b : Bool) → IsLined s (end_state (cond b (Ok (n, line_more s (with_line line s.rest))) (halt MessageLimit s))) (cond (nat_lt s.lines (end_state (cond b (Ok (n, line_more s (with_line line s.rest))) (halt MessageLimit s))).lines) (Writes line ∷ []) [])
     either true = rw (lt_more s.lines) (ap (λ l. option_map (line_after l) s.rest.written) (sym (append-nil line)))
-    either false = rw (lt_same s.lines) (none_added s.rest.written)
+    either false = rw (lt_itself s.lines) (append_none s.rest.written)
 
 abbrev none_seen : List Event
 none_seen = []
@@ -187,7 +186,7 @@ no_line b None e = either b
 no_line b (Some line) e = absurd cc
 
 quiet_line : (function : Function) (text n : List ℕ) (s r : State ℕ Now) → line_of function text n ≡ None → SameLines s.rest r.rest → IsLined s r (new_line function text n s r)
-quiet_line function text n s r e k = rw (no_line (nat_lt s.lines r.lines) (line_of function text n) e) (k ∙ none_added s.rest.written)
+quiet_line function text n s r e k = rw (no_line (nat_lt s.lines r.lines) (line_of function text n) e) (k ∙ append_none s.rest.written)
 
 line_seen : (function : Function) (text n : List ℕ) (s : State ℕ Now) → IsLined s (end_state (function_result (direct false) function text n s)) (new_line function text n s (end_state (function_result (direct false) function text n s)))
 unfolding function_result
@@ -252,7 +251,7 @@ tells_poll spot form turns s =
     let r : State ℕ Now = end_state (poll_result (direct false) form turns s) in
     said_between s r _ (g.goes_polled (direct false) Moves steady_moves form turns s).so
     (polled_units spot turns (units_between s r))
-    (poll_same form turns s ∙ none_added s.rest.written ∙ ap (λ l. option_map (line_after l) s.rest.written) (sym (polled_lines spot turns (units_between s r))))
+    (poll_same form turns s ∙ append_none s.rest.written ∙ ap (λ l. option_map (line_after l) s.rest.written) (sym (polled_lines spot turns (units_between s r))))
 
 -- ---- what asks nothing
 

@@ -1,4 +1,4 @@
-mod Said
+pub mod Said
 mod Leaves
 mod SaidValues
 mod SaidSteps

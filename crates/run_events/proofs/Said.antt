@@ -1,11 +1,12 @@
 -- Events say what a run adds, and so do events in a row.
-use Rattle.std.proofs.Common.{◌≡◌, ℕ, suc, ◌+◌, Bool, true, false, cond, List, [], ◌∷◌, ◌++◌, length, Option, None, Some, option_map, Ok, Err, refl, sym, ap, ◌∙◌, arith}
+use Rattle.std.proofs.Common.{◌≡◌, ℕ, suc, ◌+◌, Bool, true, false, cond, List, [], ◌∷◌, ◌++◌, length, option_map, Ok, Err, refl, sym, ap, ◌∙◌, arith}
 use Rattle.std.proofs.lemmas.List.{append_assoc, append-nil}
 use Rattle.dap_base.specs.Outcome.{◌>>=◌}
 use Rattle.target_calls.specs.declared.calls.Ask.{Ask}
 use Rattle.target_calls.specs.World.{World, left_at}
 use Rattle.sequence_rules.specs.Direct.{Now, line_after}
 use Rattle.sequence_rules.specs.Machine.{State, Out, end_state}
+use Rattle.sequence_rules.proofs.LateLemmas.{append_twice, append_none}
 use Rattle.run_events.specs.Events.{Event, Begins, Tests, Chooses, Loops, Turns, Finds, Leaves, TimesOut, Matches, Assigns, Makes, Writes, Calls, Returns, after, end_in, units_from, units_in, lines_in}
 
 -- the world that calls leave, answered or not
@@ -35,7 +36,7 @@ units_on w n [] ys = ap (λ k. units_from w k ys) (omega arith)
 units_on w n (x ∷ xs) ys = ap (λ more. record { number = n; ask = x; end = end_in w x } ∷ more)
     (units_on (left_at w x) (suc n) xs ys ∙ ap (λ k. units_from (left_at w x) (suc n) xs ++ units_from (left_by (left_at w x) xs) k ys) (count_on n (length xs)))
 
-length_on : (xs ys : List Ask) → suc (length (xs ++ ys)) ≡ suc (length xs) + length ys
+pub length_on : (xs ys : List Ask) → suc (length (xs ++ ys)) ≡ suc (length xs) + length ys
 length_on [] ys = omega arith
 length_on (x ∷ xs) ys = (let rest = length_on xs ys in omega (arith, rest))
 
@@ -73,18 +74,10 @@ lines_append (Assigns name n ∷ xs) ys = lines_append xs ys
 lines_append (Calls name ∷ xs) ys = lines_append xs ys
 lines_append (Returns ∷ xs) ys = lines_append xs ys
 
-pub none_added : (o : Option (List ℕ)) → o ≡ option_map (line_after []) o
-none_added None = refl
-none_added (Some bytes) = ap Some (sym (append-nil bytes))
-
-both_added : (o : Option (List ℕ)) (a b : List ℕ) → option_map (line_after b) (option_map (line_after a) o) ≡ option_map (line_after (a ++ b)) o
-both_added None a b = refl
-both_added (Some bytes) a b = ap Some (append_assoc bytes a b)
-
 -- ---- events in a row
 
 pub said_none : (t : Now) → Said t t []
-said_none t = record { more = []; calls = sym (append-nil t.calls); world = refl; units = refl; lines = none_added t.written }
+said_none t = record { more = []; calls = sym (append-nil t.calls); world = refl; units = refl; lines = append_none t.written }
 
 said_on : (t u v : Now) (xs ys : List Event) → Said t u xs → Said u v ys → Said t v (xs ++ ys)
 said_on t u v xs ys h k = record {
@@ -94,7 +87,7 @@ said_on t u v xs ys h k = record {
   units = units_append xs ys ∙ ap (λ a. a ++ units_in ys) h.units
       ∙ ap (λ b. units_from t.world (suc (length t.calls)) h.more ++ b) (k.units ∙ ap (λ w. units_from w (suc (length u.calls)) k.more) h.world ∙ ap (λ c. units_from (left_by t.world h.more) (suc (length c)) k.more) h.calls ∙ ap (λ n. units_from (left_by t.world h.more) n k.more) (length_on t.calls h.more))
       ∙ sym (units_on t.world (suc (length t.calls)) h.more k.more);
-  lines = k.lines ∙ ap (option_map (line_after (lines_in ys))) h.lines ∙ both_added t.written (lines_in xs) (lines_in ys) ∙ ap (λ l. option_map (line_after l) t.written) (sym (lines_append xs ys));
+  lines = k.lines ∙ ap (option_map (line_after (lines_in ys))) h.lines ∙ append_twice t.written (lines_in xs) (lines_in ys) ∙ ap (λ l. option_map (line_after l) t.written) (sym (lines_append xs ys));
 }
 
 -- what comes of something, from a state

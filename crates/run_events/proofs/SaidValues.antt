@@ -12,8 +12,9 @@ use Rattle.function_table.specs.Lookup.{function_named}
 use Rattle.sequence_rules.specs.Calls.{use_now, missing, guarded}
 use Rattle.sequence_rules.specs.Direct.{Now, direct}
 use Rattle.sequence_rules.specs.Machine.{State, Out, end_state}
-use Rattle.sequence_rules.specs.Values.{named, stored, assigned, used_now, of_unary, both, operands, result_of, strict_binary, truth_of, conjunction, disjunction, of_binary, choice, appended, chained, all_used, numbers_of, text_of, call_result, call_of, value, argument, arguments}
+use Rattle.sequence_rules.specs.Values.{named, stored, assigned, used_now, of_unary, both, operands, result_of, strict_binary, truth_of, conjunction, disjunction, of_binary, choice, appended, chained, text_of, call_result, call_of, value, argument, arguments}
 use Rattle.sequence_rules.specs.Variables.{visible}
+use Rattle.sequence_rules.proofs.NowLemmas.{numbers_as}
 use Rattle.run_events.specs.Events.{Event, Assigns, Calls, Returns, after}
 use Rattle.run_events.specs.OfValues.{needs_right, called_events, call_events, value_events, argument_events, arguments_events}
 use Rattle.run_events.proofs.Leaves.{tells_function, given_is, stored_same}
@@ -24,16 +25,6 @@ pub used_is : (out : Out ℕ Now ℕ) → used_now (direct false) out ≡ out
 unfolding used_now use_now direct
 used_is (Ok x) = refl
 used_is (Err e) = refl
-
-all_is : (vs : List ℕ) (s : State ℕ Now) → all_used (direct false) vs s ≡ Ok (vs, s)
-unfolding all_used use_now direct
-all_is [] s = refl
-all_is (v ∷ vs) s = rw (all_is vs s) refl
-
-numbers_is : (out : Out ℕ Now (List ℕ)) → numbers_of (direct false) out ≡ out
-unfolding numbers_of
-numbers_is (Ok x) = all_is x.0 x.1
-numbers_is (Err e) = refl
 
 pub tells_stored : (name : Name) (n : ℕ) (s : State ℕ Now) → Tells s (stored (direct false) name n s) []
 unfolding stored guarded direct
@@ -123,7 +114,7 @@ module _ (seq : List ℕ → State ℕ Now → Out ℕ Now (Unit {0})) (seen : L
   tells_call_of : (name : Name) (args : ArgTrees) (s : State ℕ Now) (out : Out ℕ Now (List ℕ)) (xs : List Event)
       → Tells s out xs → Tells s (call_of (direct false) seq name args out) (xs ++ after out (λ n r. call_events seq seen (function_named name.text) (text_of args) n r))
   unfolding call_of guarded direct
-  tells_call_of name args s out xs k = rw (numbers_is out) (tells_bind s out _ xs _ k (λ x. tells_call (function_named name.text) (text_of args) x.0 x.1))
+  tells_call_of name args s out xs k = rw (numbers_as out) (tells_bind s out _ xs _ k (λ x. tells_call (function_named name.text) (text_of args) x.0 x.1))
 
   mutual
     unfolding value value_events

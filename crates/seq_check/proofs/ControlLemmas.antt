@@ -15,17 +15,15 @@ use Rattle.seq_check.specs.declared.faulty.PartFault.{PartFault}
 use Rattle.seq_check.specs.StepFaults.{StepFault, no_place, path_before, part_rank, control_rank, fault_before, is_step_before, At, ConditionFault, TimeoutFault, LoopFault, ControlFault, OwnFault}
 use Rattle.seq_check.specs.Views.{own_view}
 use Rattle.seq_check.proofs.FirstLemmas.{first_of_none, first_or, first_mapped}
+use Rattle.dap_base.proofs.Basics.{lt_itself}
 
 -- ---- single faults of the form
 
-below_itself : (n : ℕ) → nat_lt n n ≡ false
-below_itself n = grind (arith, nat_tests)
-
-same_rank : (n : ℕ) → (n == n) ≡ true
+pub same_rank : (n : ℕ) → (n == n) ≡ true
 same_rank n = grind (arith, nat_tests)
 
 not_before_itself : (f : CodeFault) → fault_before parts.Control f f ≡ false
-not_before_itself f = rw (below_itself (control_rank f.kind), same_rank (control_rank f.kind)) (is_before-irrefl f)
+not_before_itself f = rw (lt_itself (control_rank f.kind), same_rank (control_rank f.kind)) (is_before-irrefl f)
 
 pub form_where : (Cause : Type 0) (kind : FaultKind) → Cause → IsFirst (fault_before parts.Control) (FaultWhere Cause no_place kind) (Some (record { place = no_place; kind = kind }))
 form_where Cause kind c = record {
@@ -43,14 +41,14 @@ pub ruleset forms = (form_where, form_where_not, form_none)
 
 -- ---- the order of those of the form
 
-kind_of_where : (Cause : Type 0) (kind : FaultKind) (f : CodeFault) → FaultWhere Cause no_place kind f → f.kind ≡ kind
+pub kind_of_where : (Cause : Type 0) (kind : FaultKind) (f : CodeFault) → FaultWhere Cause no_place kind f → f.kind ≡ kind
 kind_of_where Cause kind f h = ap (λ x. x.kind) h.is
 
-kind_of_timeout : (timeout : Option ℕ) (f : CodeFault) → TimeoutFault timeout f → f.kind ≡ k.TimeoutTooLong
+pub kind_of_timeout : (timeout : Option ℕ) (f : CodeFault) → TimeoutFault timeout f → f.kind ≡ k.TimeoutTooLong
 kind_of_timeout None f h = elim h [ ]
 kind_of_timeout (Some t) f h = kind_of_where (60000000 < t) k.TimeoutTooLong f h
 
-kind_of_loop : (repeat : Option Tree) (timeout : Option ℕ) (f : CodeFault) → LoopFault repeat timeout f → f.kind ≡ k.UnboundedLoop
+pub kind_of_loop : (repeat : Option Tree) (timeout : Option ℕ) (f : CodeFault) → LoopFault repeat timeout f → f.kind ≡ k.UnboundedLoop
 kind_of_loop None timeout f h = elim h [ ]
 kind_of_loop (Some e) None f h = kind_of_where (Unit {0}) k.UnboundedLoop f h
 kind_of_loop (Some e) (Some t) f h = kind_of_where (t ≡ 0) k.UnboundedLoop f h
@@ -92,7 +90,7 @@ abbrev view_at : Part → CodeFault → StepFault
 view_at part f = record { path = []; part = part; fault = f }
 
 view_order : (part : Part) (f g : CodeFault) → is_step_before (view_at part f) (view_at part g) ≡ fault_before part f g
-view_order part f g = rw (below_itself (part_rank part), same_rank (part_rank part)) refl
+view_order part f g = rw (lt_itself (part_rank part), same_rank (part_rank part)) refl
 
 at_from : (part : Part) (P : CodeFault → Type 0) (g : StepFault) → At part P g → (f : CodeFault) × P f × (g ≡ view_at part f)
 at_from part P g h = (g.fault, h.holds, same_view g.path g.part g.fault part h.own h.part_is) where

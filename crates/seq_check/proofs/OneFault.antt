@@ -1,6 +1,7 @@
 -- A set is valid, or has one first fault.
 use Rattle.std.proofs.Common.{◌≡◌, ◌∙◌, sym, ap, subst, ℕ, ◌<◌, slice_get, Some, inl, inr, arith}
 use Rattle.std.proofs.lemmas.Bool.{cases_lt}
+use Rattle.std.proofs.lemmas.Option.{same_Some}
 use Rattle.sequence_resolve.specs.declared.entry.SeqSet.{SeqSet}
 use Rattle.sequence_trees.specs.declared.spot.Spot.{Spot}
 use Rattle.sequence_trees.specs.Trees.{SetTrees}
@@ -16,9 +17,6 @@ use Rattle.seq_check.specs.Valid as valid
 use Rattle.seq_check.specs.Valid.{IsCallAt, IsFirstCallFault, spot_of, IsSound, IsFirstOf, IsValid, IsFirstFaultOf}
 use Rattle.seq_check.proofs.CheckLemmas.{not_sound}
 use Rattle.seq_check.proofs.OrderLaws.{is_set_before-total}
-
-some_is : {X : Type 0} (x y : X) → Some x ≡ Some y → x ≡ y
-some_is x y e = cc
 
 -- ---- two first calls are one
 
@@ -36,9 +34,9 @@ one_first_call P c d h j = one_spot c d (λ before. j.none_before c before h.hol
 
 pub one_place : (set : SetTrees) (c : CallSpot) (spot other : Spot) → IsCallAt set c spot → IsCallAt set c other → spot ≡ other
 one_place set c spot other h j =
-    let name : h.name ≡ j.name = some_is h.name j.name (sym h.named ∙ j.named) in
-    let calls : h.calls ≡ j.calls = some_is h.calls j.calls (sym h.has ∙ j.has) in
-    let call : h.call ≡ j.call = some_is h.call j.call (sym h.is_call ∙ ap (λ cs. slice_get cs c.call) calls ∙ j.is_call) in
+    let name : h.name ≡ j.name = same_Some h.name j.name (sym h.named ∙ j.named) in
+    let calls : h.calls ≡ j.calls = same_Some h.calls j.calls (sym h.has ∙ j.has) in
+    let call : h.call ≡ j.call = same_Some h.call j.call (sym h.is_call ∙ ap (λ cs. slice_get cs c.call) calls ∙ j.is_call) in
     h.spot_is ∙ ap (λ n. record { sequence = Some n; path = h.call.path; part = h.call.part; place = h.call.place }) name
     ∙ ap (λ x. record { sequence = Some j.name; path = x.path; part = x.part; place = x.place }) call ∙ sym j.spot_is
 
@@ -56,7 +54,7 @@ one_call_fault set kind other_kind spot other (valid.deep none c first at is) (v
 -- ---- a set that was read
 
 one_set_fault : (set : SetTrees) (f g : SetFault) → IsFirst is_set_before (FaultInSet set) (Some f) → IsFirst is_set_before (FaultInSet set) (Some g) → f ≡ g
-one_set_fault set f g h j = some_is f g (one_first is_set_before (FaultInSet set) (Some f) (Some g) is_set_before-total h j)
+one_set_fault set f g h j = same_Some f g (one_first is_set_before (FaultInSet set) (Some f) (Some g) is_set_before-total h j)
 
 one_first_of : (set : SetTrees) (kind other_kind : FaultKind) (spot other : Spot) → IsFirstOf set kind spot → IsFirstOf set other_kind other → (kind ≡ other_kind) × (spot ≡ other)
 one_first_of set kind other_kind spot other (valid.in_texts f first is at) (valid.in_texts g second was at') =

@@ -11,7 +11,7 @@ use Rattle.seq_check.specs.declared.faulty.Holder.TheVariants as holders
 use Rattle.seq_check.specs.StepFaults.{StepFault, path_before, part_rank, control_rank, fault_before, is_step_before}
 use Rattle.seq_check.specs.SetFaults.{SetFault, holder_before, is_set_before}
 
-or_first : (a b : Bool) → (a || b) ≡ false → a ≡ false
+pub or_first : (a b : Bool) → (a || b) ≡ false → a ≡ false
 or_first true b h = h
 or_first false b h = refl
 
@@ -44,7 +44,7 @@ part_at_rank parts.Block = refl
 part_at_rank parts.If = refl
 part_at_rank parts.While = refl
 
-one_part : (x y : Part) → part_rank x ≡ part_rank y → x ≡ y
+pub one_part : (x y : Part) → part_rank x ≡ part_rank y → x ≡ y
 one_part x y e = sym (part_at_rank x) ∙ ap (λ n. get_or ranked n parts.Debugvars) e ∙ part_at_rank y
 
 one_in_part : (part : Part) (f g : CodeFault) → fault_before part f g ≡ false → fault_before part g f ≡ false → f ≡ g

@@ -1,11 +1,12 @@
 -- The sequences of a set, one after another.
-use Rattle.std.proofs.Common.{◌≡◌, ◌∙◌, sym, ap, subst, ℕ, zero, suc, ◌+◌, ◌≤◌, nat_lt, ◌||◌, Bool, true, false, List, [], ◌∷◌, ◌++◌, map, length, drop, slice_get, Option, Some, None, option_map, bytes_eq, append_assoc, refl, arith, add-one, true≢false, Result, Ok, Err, IfOk}
+use Rattle.std.proofs.Common.{◌≡◌, ◌∙◌, sym, ap, subst, ℕ, zero, suc, ◌+◌, ◌≤◌, nat_lt, ◌||◌, true, false, List, [], ◌∷◌, ◌++◌, map, length, drop, slice_get, Option, Some, None, option_map, bytes_eq, append_assoc, refl, arith, add-one, Result, Ok, Err, IfOk}
 use Rattle.std.proofs.lemmas.Bool.Decides.{nat_tests}
-use Rattle.std.proofs.lemmas.Slice.Eq.{bytes_eq-Decides}
 use Rattle.std.proofs.lemmas.List.Folds.{list_any-append}
 use Rattle.std.proofs.lemmas.List.{append-nil}
 use Rattle.std.specs.List.{IsDistinct, AllByRecursion}
+use Rattle.std.proofs.lemmas.Bool.{or_from, lt-ltb}
 use Rattle.dap_base.specs.declared.text.OutOfMemory.{OutOfMemory}
+use Rattle.dap_base.proofs.Basics.{lt_itself, other_text}
 use Rattle.sequence_trees.specs.declared.spot.Part.TheVariants as parts
 use Rattle.sequence_trees.specs.Trees.{CodeSteps, SetTrees}
 use Rattle.code_check.specs.Names.{has_name, with_name}
@@ -41,15 +42,6 @@ abbrev pub added : List (List ℕ) → List (List ℕ) → List (List ℕ)
 added names [] = names
 added names (n ∷ more) = added (with_name names n) more
 
-swapped : (x y : List ℕ) → bytes_eq x y ≡ false → bytes_eq y x ≡ false
-swapped x y h = go (bytes_eq y x) refl where
-  go : (b : Bool) → bytes_eq y x ≡ b → b ≡ false
-  go true e = absurd (true≢false (sym ((bytes_eq-Decides x y).1 (sym ((bytes_eq-Decides y x).0 e))) ∙ h))
-  go false e = refl
-
-or_false : (a b : Bool) → a ≡ false → b ≡ false → (a || b) ≡ false
-or_false a b p q = rw (p, q) refl
-
 -- none of the names is among those
 abbrev Apart : List (List ℕ) → List (List ℕ) → Type 0
 Apart names more = AllByRecursion (λ n. has_name names n ≡ false) more
@@ -57,7 +49,7 @@ Apart names more = AllByRecursion (λ n. has_name names n ≡ false) more
 still_apart : (names : List (List ℕ)) (n : List ℕ) (more : List (List ℕ)) → Apart names more → AllByRecursion (λ m. bytes_eq n m ≡ false) more → Apart (names ++ n ∷ []) more
 still_apart names n [] h k = h
 still_apart names n (m ∷ more) h k =
-    (list_any-append (bytes_eq m) names (n ∷ []) ∙ or_false (has_name names m) (bytes_eq m n || false) h.0 (or_false (bytes_eq m n) false (swapped n m k.0) refl), still_apart names n more h.1 k.1)
+    (list_any-append (bytes_eq m) names (n ∷ []) ∙ or_from (has_name names m) (bytes_eq m n || false) h.0 (or_from (bytes_eq m n) false (other_text n m k.0) refl), still_apart names n more h.1 k.1)
 
 added-append : (names more : List (List ℕ)) → Apart names more → IsDistinct bytes_eq more → added names more ≡ names ++ more
 unfolding IsDistinct
@@ -77,12 +69,9 @@ added-distinct more h = added-append [] more (all_apart more) h
 abbrev pub held : Holder → StepFault → SetFault
 held holder f = record { holder = holder; fault = f }
 
-below_itself : (n : ℕ) → nat_lt n n ≡ false
-below_itself n = grind (arith, nat_tests)
-
 held_order : (holder : Holder) (f g : StepFault) → is_set_before (held holder f) (held holder g) ≡ is_step_before f g
 held_order holders.Debugvars f g = refl
-held_order (holders.Sequence n) f g = rw (below_itself n) refl
+held_order (holders.Sequence n) f g = rw (lt_itself n) refl
 
 pub first_held : (holder : Holder) (P : StepFault → Type 0) (r : Option StepFault) → IsFirst is_step_before P r → IsFirst is_set_before (Of holder P) (option_map (held holder) r)
 first_held holder P r h =
@@ -108,16 +97,13 @@ from_there s n (x ∷ more) f h = elim h [
 after_holder : (f g : SetFault) (a b : Holder) → f.holder ≡ a → g.holder ≡ b → holder_before a b ≡ false → holder_before b a ≡ true → is_set_before f g ≡ false
 after_holder f g a b p q after before = rw (p, q, after, before) refl
 
-above : (n k : ℕ) → suc n ≤ k → nat_lt k n ≡ false
+pub above : (n k : ℕ) → suc n ≤ k → nat_lt k n ≡ false
 above n k h = grind (arith, nat_tests)
-
-below : (n k : ℕ) → suc n ≤ k → nat_lt n k ≡ true
-below n k h = grind (arith, nat_tests)
 
 sequences_order : (s : Scope) (n : ℕ) (P : StepFault → Type 0) (more : List CodeSteps) (p q : SetFault) → Of (holders.Sequence n) P p → FaultInSequences s (suc n) more q → is_set_before q p ≡ false
 sequences_order s n P more p q h j =
     let r = from_there s (suc n) more q j in
-    after_holder q p (holders.Sequence r.number) (holders.Sequence n) r.is h.holder_is (above n r.number r.least) (below n r.number r.least)
+    after_holder q p (holders.Sequence r.number) (holders.Sequence n) r.is h.holder_is (above n r.number r.least) (lt-ltb n r.number r.least)
 
 debugvars_order : (s : Scope) (n : ℕ) (P : StepFault → Type 0) (more : List CodeSteps) (p q : SetFault) → Of holders.Debugvars P p → FaultInSequences s n more q → is_set_before q p ≡ false
 debugvars_order s n P more p q h j = (let r = from_there s n more q j in after_holder q p (holders.Sequence r.number) holders.Debugvars r.is h.holder_is refl refl)

@@ -1,7 +1,8 @@
 -- The first fault of steps.
-use Rattle.std.proofs.Common.{Box, Global, ◌≡◌, ◌∙◌, sym, ap, subst, ℕ, suc, ◌+◌, ◌<◌, ◌≤◌, ◌==◌, nat_lt, ◌&&◌, ◌||◌, not, Bool, true, false, List, [], ◌∷◌, ◌++◌, map, length, take, drop, get_or, Option, Some, None, option_map, Result, Ok, Err, IfOk, refl, arith, drop-cons}
+use Rattle.std.proofs.Common.{Box, Global, ◌≡◌, ◌∙◌, sym, ap, subst, ℕ, suc, ◌+◌, ◌<◌, ◌≤◌, ◌==◌, nat_lt, ◌&&◌, ◌||◌, not, Bool, false, List, [], ◌∷◌, ◌++◌, map, length, take, drop, get_or, Option, Some, None, option_map, Result, Ok, Err, IfOk, refl, arith, drop-cons}
 use Rattle.std.proofs.lemmas.Bool.Decides.{nat_tests}
 use Rattle.std.proofs.lemmas.List.{take_more, map-append, length-map, length-take-le, take-append-drop}
+use Rattle.std.proofs.lemmas.Bool.{lt-ltb}
 use Rattle.expr_grammar.specs.Tree.{Tree, tree, code_trees}
 use Rattle.expr_grammar.specs.declared.code.Stmt.{Stmt}
 use Rattle.expr_grammar.specs.declared.code.Expr.{Expr}
@@ -16,10 +17,13 @@ use Rattle.code_check.specs.First.{IsFirst, InEither, here, there}
 use Rattle.code_check.specs.ExprFaults.{Scope}
 use Rattle.code_check.specs.BlockFaults.{seeing}
 use Rattle.dap_base.specs.declared.text.OutOfMemory.{OutOfMemory}
+use Rattle.dap_base.proofs.Basics.{lt_itself}
 use Rattle.seq_check.specs.declared.faulty.FaultyStep.{FaultyStep}
 use Rattle.seq_check.specs.Views.{faulty_view}
 use Rattle.seq_check.specs.StepFaults.{StepFault, path_before, part_rank, fault_before, is_step_before, under, Under, OwnFault, FaultInStep, FaultInSteps, names_after_step, names_after_steps}
 use Rattle.seq_check.proofs.FirstLemmas.{first_of_none, first_of_same, first_here, first_there, first_mapped}
+use Rattle.seq_check.proofs.ControlLemmas.{same_rank}
+use Rattle.seq_check.proofs.SetLemmas.{above}
 
 -- ---- what each form of step is as a tree
 
@@ -49,30 +53,24 @@ numbered s around n (MoreSteps step more) f h = elim h [
 abbrev before_by : (a b : List ℕ) (x y : Part) (f g : CodeFault) → Bool
 before_by a b x y f g = path_before a b || not (path_before b a) && (nat_lt (part_rank x) (part_rank y) || part_rank x == part_rank y && fault_before x f g)
 
-above : (n j : ℕ) → suc n ≤ j → nat_lt j n ≡ false
-above n j h = grind (arith, nat_tests)
-
-apart : (n j : ℕ) → suc n ≤ j → (j == n) ≡ false
+pub apart : (n j : ℕ) → suc n ≤ j → (j == n) ≡ false
 apart n j h = grind (arith, nat_tests)
 
-under_it : (n j : ℕ) → suc n ≤ j → nat_lt n j ≡ true
-under_it n j h = grind (arith, nat_tests)
-
 after_path : (a b p q : List ℕ) (n j : ℕ) (x y : Part) (f g : CodeFault) → a ≡ j ∷ p → b ≡ n ∷ q → suc n ≤ j → before_by a b x y f g ≡ false
-after_path a b p q n j x y f g ea eb h = rw (ea, eb, above n j h, apart n j h, under_it n j h) refl
+after_path a b p q n j x y f g ea eb h = rw (ea, eb, above n j h, apart n j h, lt-ltb n j h) refl
 
 -- what stands at a later number is not before what stands at this one
 later_path : (n : ℕ) (P : StepFault → Type 0) (p q : StepFault) → Under n P p → Numbered (suc n) q.path → is_step_before q p ≡ false
 later_path n P p q h r = after_path q.path p.path r.rest h.inner.path n r.number q.part p.part q.fault p.fault r.parts (ap (λ x. x.path) h.is) r.least
 
 -- none of the later steps is before an earlier one
-steps_order : (s : Scope) (around n : ℕ) (P : StepFault → Type 0) (more : CodeSteps) (p q : StepFault) → Under n P p → FaultInSteps s around (suc n) more q → is_step_before q p ≡ false
+pub steps_order : (s : Scope) (around n : ℕ) (P : StepFault → Type 0) (more : CodeSteps) (p q : StepFault) → Under n P p → FaultInSteps s around (suc n) more q → is_step_before q p ≡ false
 steps_order s around n P more p q h k = later_path n P p q h (numbered s around (suc n) more q k)
 
 inner_path : (a b p : List ℕ) (j : ℕ) (x y : Part) (f g : CodeFault) → a ≡ j ∷ p → b ≡ [] → before_by a b x y f g ≡ false
 inner_path a b p j x y f g ea eb = rw (ea, eb) refl
 
-own_path : (s : Scope) (around : ℕ) (cond repeat : Option Tree) (timeout : Option ℕ) (p : StepFault) → OwnFault s around cond repeat timeout p → p.path ≡ []
+pub own_path : (s : Scope) (around : ℕ) (cond repeat : Option Tree) (timeout : Option ℕ) (p : StepFault) → OwnFault s around cond repeat timeout p → p.path ≡ []
 own_path s around cond repeat timeout p h = elim h [ here u ↦ u.own | there v ↦ elim v [ here w ↦ w.own | there w ↦ w.own ] ]
 
 -- no step inside a control is before the control itself
@@ -95,14 +93,8 @@ control_inner s around cond repeat timeout steps r h k = first_there is_step_bef
 
 -- ---- steps one after another
 
-below_itself : (n : ℕ) → nat_lt n n ≡ false
-below_itself n = grind (arith, nat_tests)
-
-same_number : (n : ℕ) → (n == n) ≡ true
-same_number n = grind (arith, nat_tests)
-
-under_order : (n : ℕ) (f g : StepFault) → is_step_before (under n f) (under n g) ≡ is_step_before f g
-under_order n f g = rw (below_itself n, same_number n) refl
+pub under_order : (n : ℕ) (f g : StepFault) → is_step_before (under n f) (under n g) ≡ is_step_before f g
+under_order n f g = rw (lt_itself n, same_rank n) refl
 
 first_under : (n : ℕ) (P : StepFault → Type 0) (r : Option StepFault) → IsFirst is_step_before P r → IsFirst is_step_before (Under n P) (option_map (under n) r)
 first_under n P r h = first_mapped is_step_before is_step_before (under n) P (Under n P) r (under_order n) (λ f p. record { inner = f; holds = p; is = refl }) (λ g u. (u.inner, u.holds, u.is)) h

@@ -96,7 +96,8 @@ pub fn own_fault(
     repeat: &Option<Expr>,
     timeout: Option<u64>,
 ) -> Option<PartFault>
-    ensures first { IsFirst is_step_before (OwnFault (scope_view scope.entry) around (option_map tree cond.now) (option_map tree repeat.now) timeout) (option_map own_view result) }
+    ensures first { IsFirst is_step_before
+        (OwnFault (scope_view scope.entry) around (option_map tree cond.now) (option_map tree repeat.now) timeout) (option_map own_view result) }
     ensures not_deep { result ≡ None → around < 32 }
 {
     let of_form = in_part(Part::Control, control_fault(around, repeat, timeout));

@@ -59,7 +59,10 @@ fn debugvars_fault(
     sequences: &Names,
     code: &[Stmt],
 ) -> Result<Option<HeldFault>, OutOfMemory>
-    ensures first { IfOk result (λ r. IsFirst is_set_before (Of holders.Debugvars (At parts.Debugvars (BlockFault (record { visible = names.old; sequences = sequences.now; in_debugvars = true }) (code_trees code.now)))) (option_map held_view r)) }
+    ensures first { IfOk result (λ r. IsFirst is_set_before
+        (Of holders.Debugvars (At parts.Debugvars
+        (BlockFault (record { visible = names.old; sequences = sequences.now; in_debugvars = true }) (code_trees code.now))))
+        (option_map held_view r)) }
     ensures names { OnOk result (names.new ≡ names_after_all names.old (code_trees code.now)) }
 {
     let fault = block_fault(alloc, names, sequences, true, code)?;
@@ -78,7 +81,9 @@ fn sequences_fault(
     sequences: &Names,
     set: &ReadSet,
 ) -> Result<Option<HeldFault>, OutOfMemory>
-    ensures { IfOk result (λ r. IsFirst is_set_before (FaultInSequences (record { visible = names.old; sequences = sequences.now; in_debugvars = false }) 0 (map (λ s. s.steps) (set_trees set.now).sequences)) (option_map held_view r)) }
+    ensures { IfOk result (λ r. IsFirst is_set_before
+        (FaultInSequences (record { visible = names.old; sequences = sequences.now; in_debugvars = false }) 0
+        (map (λ s. s.steps) (set_trees set.now).sequences)) (option_map held_view r)) }
 {
     for index in 0..set.len() {
         let steps = steps_of(set, index);
@@ -101,7 +106,7 @@ pub fn set_fault(
     requires { sequences.now ≡ names_of (set_trees set.now) }
     ensures { IfOk result (λ r. IsFirst is_set_before (FaultInSet (set_trees set.now)) (option_map held_view r)) }
 {
-    let mut names = Names::predefined(alloc)?;
+    let mut names = Names::predefined_names(alloc)?;
     if let Some(faulty) = debugvars_fault(
         alloc,
         &mut names,

@@ -22,7 +22,9 @@ fn block_step_fault(
     sequences: &Names,
     code: &[Stmt],
 ) -> Result<Option<FaultyStep>, OutOfMemory>
-    ensures first { IfOk result (λ r. IsFirst is_step_before (At parts.Block (BlockFault (record { visible = names.old; sequences = sequences.now; in_debugvars = false }) (code_trees code.now))) (option_map faulty_view r)) }
+    ensures first { IfOk result (λ r. IsFirst is_step_before
+        (At parts.Block (BlockFault (record { visible = names.old; sequences = sequences.now; in_debugvars = false })
+        (code_trees code.now))) (option_map faulty_view r)) }
     ensures names { OnOk result (names.new ≡ names_after_all names.old (code_trees code.now)) }
 {
     let fault = block_fault(alloc, names, sequences, false, code)?;
@@ -40,7 +42,9 @@ fn step_fault(
     around: u64,
     step: &CheckedStep,
 ) -> Result<Option<FaultyStep>, OutOfMemory>
-    ensures first { IfOk result (λ r. IsFirst is_step_before (FaultInStep (record { visible = names.old; sequences = sequences.now; in_debugvars = false }) around (step_tree step.now)) (option_map faulty_view r)) }
+    ensures first { IfOk result (λ r. IsFirst is_step_before
+        (FaultInStep (record { visible = names.old; sequences = sequences.now; in_debugvars = false }) around (step_tree step.now))
+        (option_map faulty_view r)) }
     ensures names { IfOk result (λ r. IfNone r (names.new ≡ names_after_step names.old (step_tree step.now))) }
 {
     match step {
@@ -73,7 +77,9 @@ pub fn inner_fault(
     around: u64,
     steps: &[CheckedStep],
 ) -> Result<Option<FaultyStep>, OutOfMemory>
-    ensures first { IfOk result (λ r. IsFirst is_step_before (FaultInSteps (record { visible = names.old; sequences = sequences.now; in_debugvars = false }) around 0 (steps_tree steps.now)) (option_map faulty_view r)) }
+    ensures first { IfOk result (λ r. IsFirst is_step_before
+        (FaultInSteps (record { visible = names.old; sequences = sequences.now; in_debugvars = false }) around 0 (steps_tree steps.now))
+        (option_map faulty_view r)) }
     ensures names { IfOk result (λ r. IfNone r (names.new ≡ names.old)) }
 {
     let len = names.len();
@@ -93,7 +99,9 @@ pub fn steps_fault(
     around: u64,
     steps: &[CheckedStep],
 ) -> Result<Option<FaultyStep>, OutOfMemory>
-    ensures first { IfOk result (λ r. IsFirst is_step_before (FaultInSteps (record { visible = names.old; sequences = sequences.now; in_debugvars = false }) around 0 (steps_tree steps.now)) (option_map faulty_view r)) }
+    ensures first { IfOk result (λ r. IsFirst is_step_before
+        (FaultInSteps (record { visible = names.old; sequences = sequences.now; in_debugvars = false }) around 0 (steps_tree steps.now))
+        (option_map faulty_view r)) }
     ensures names { IfOk result (λ r. IfNone r (names.new ≡ names_after_steps names.old (steps_tree steps.now))) }
 {
     for (number, step) in steps.iter().enumerate() {

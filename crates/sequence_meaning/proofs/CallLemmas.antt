@@ -1,5 +1,6 @@
 -- A call without a fault of its own is one of the table, with arguments that it takes.
-use Rattle.std.proofs.Common.{◌≡◌, ◌↔◌, ℕ, suc, ◌≤◌, Bool, true, false, cond, ◌&&◌, List, length, nat_eq, nat_le, Option, None, Some, MatchBool, refl, sym, ap, subst, arith}
+use Rattle.std.proofs.Common.{◌≡◌, ◌↔◌, ℕ, suc, ◌≤◌, Bool, true, false, cond, List, length, nat_eq, nat_le, Option, None, Some, MatchBool, refl, sym, ap, subst, arith}
+use Rattle.std.proofs.lemmas.Bool.{both_ways, and_from, true_from_ne_false}
 use Rattle.expr_grammar.specs.declared.code.Name.{Name}
 use Rattle.expr_grammar.specs.Tree as t
 use Rattle.expr_grammar.specs.Tree.{ArgTree, ArgTrees}
@@ -39,15 +40,8 @@ count_back : (b : Bool) (l n : ℕ) → cond b (nat_le l n) (nat_eq n l) ≡ tru
 count_back true l n h = grind arith
 count_back false l n h = grind arith
 
-decided : (b : Bool) → (b ≡ false → ⊥) → b ≡ true
-decided true h = refl
-decided false h = absurd (h refl)
-
-true_false : (b : Bool) → b ≡ true → b ≡ false → ⊥
-true_false b h k = absurd cc
-
 pub takes : (f : Function) (n : ℕ) → (¬ Takes f n → ⊥) → is_count f n ≡ true
-takes f n h = decided _ (λ k. h (λ p. true_false _ (count_one (has_more f) (length (parameters_of f)) n p) k))
+takes f n h = true_from_ne_false _ (λ k. h (λ p. both_ways _ k (count_one (has_more f) (length (parameters_of f)) n p)))
 
 -- ---- the kinds
 
@@ -59,20 +53,16 @@ kind_one None (t.TextArg a) h = refl
 kind_one (Some parameters.Text) (t.TextArg a) h = refl
 kind_one (Some parameters.Number) (t.TextArg a) h = absurd (h (record { place = a.at; kind = kinds.NumberExpected }) (record { cause = refl; is = refl }))
 
-both_true : (b c : Bool) → b ≡ true → c ≡ true → (b && c) ≡ true
-both_true true c h k = k
-both_true false c h k = h
-
 pub kinds_are : (f : Function) (i : ℕ) (args : ArgTrees) → ((g : CodeFault) → KindsFault f i args g → ⊥) → are_kinds f i args ≡ true
 kinds_are f i t.NoArgs h = refl
-kinds_are f i (t.MoreArgs a more) h = both_true _ _ (kind_one (kind_at f i) a (λ g p. h g (first.here p))) (kinds_are f (suc i) more (λ g p. h g (first.there p)))
+kinds_are f i (t.MoreArgs a more) h = and_from _ _ (kind_one (kind_at f i) a (λ g p. h g (first.here p))) (kinds_are f (suc i) more (λ g p. h g (first.there p)))
 
 -- ---- the call
 
 known_is : (sc : Scope) (name : Name) (args : ArgTrees) (f : Function) → ((g : CodeFault) → KnownFault sc name args f g → ⊥) → is_call (Some f) args ≡ true
 known_is sc name args f h =
     let count : is_count f (arg_count args) ≡ true = takes f (arg_count args) (λ k. h (record { place = name.at; kind = kinds.ArgumentCount }) (first.here (record { cause = k; is = refl }))) in
-    both_true _ _ (subst (λ n. is_count f n ≡ true) (sym (counts args)) count)
+    and_from _ _ (subst (λ n. is_count f n ≡ true) (sym (counts args)) count)
     (kinds_are f 0 args (λ g p. h g (first.there (record { cause = count_back (has_more f) (length (parameters_of f)) (arg_count args) count; holds = first.here p }))))
 
 pub call_is : (sc : Scope) (name : Name) (args : ArgTrees) → ((g : CodeFault) → CallFault sc name args g → ⊥) → is_call (function_named name.text) args ≡ true

@@ -1,8 +1,12 @@
 -- Calls with one number or two.
-use Rattle.std.proofs.Common.{◌≡◌, ℕ, false, [], ◌∷◌, Option, Result, Ok, refl, sym, subst}
+use Rattle.std.proofs.Common.{◌≡◌, ℕ, ◌<◌, ◌≤◌, false, List, [], ◌∷◌, get_or, length, Option, Result, Ok, arith, refl, sym, subst}
 use Rattle.dap_base.specs.declared.text.Place.{Place}
+use Rattle.expr_grammar.specs.declared.code.Arg.{Arg}
+use Rattle.expr_grammar.specs.declared.code.Arg.TheVariants as arg
+use Rattle.code_check.proofs.TreeLemmas.{arg_tree-Number}
+use Rattle.expr_grammar.specs.declared.code.Expr.{Expr}
 use Rattle.expr_grammar.specs.declared.code.Name.{Name}
-use Rattle.expr_grammar.specs.Tree.{Tree, ArgTrees, ExprArg, NoArgs, MoreArgs}
+use Rattle.expr_grammar.specs.Tree.{arg_trees, tree, Tree, ArgTrees, ExprArg, TextArg, NoArgs, MoreArgs}
 use Rattle.function_table.specs.Lookup.{function_named}
 use Rattle.function_table.specs.declared.function.Function.{Function}
 use Rattle.sequence_rules.specs.Calls.{guarded, use_now}
@@ -17,10 +21,40 @@ use Rattle.sequence_meaning.specs.declared.end.Stopped.{Stopped}
 use Rattle.sequence_meaning.specs.declared.runner.DirectRunner.{DirectRunner}
 use Rattle.sequence_meaning.specs.Few.{one_number, two_numbers}
 use Rattle.sequence_meaning.specs.Held.{EndsDirect, MeansDirect, calls_of}
+use Rattle.sequence_meaning.proofs.FrameLemmas.{frames}
 use Rattle.sequence_meaning.proofs.StopLemmas.{adds_ok, adds_sequence, ends_appended, ends_call, ends_on}
 
 abbrev S : Type 0
 S = State ℕ Now
+
+-- the place of the first argument, where it is an expression
+abbrev pub first_place : Place → ArgTrees → Place
+first_place default NoArgs = default
+first_place default (MoreArgs (ExprArg at a) more) = at
+first_place default (MoreArgs (TextArg a) more) = default
+
+-- the place of the second argument, where it is an expression
+abbrev pub second_place : Place → ArgTrees → Place
+second_place default NoArgs = default
+second_place default (MoreArgs a more) = first_place default more
+
+-- two expressions that are these
+pub two_same : (P : Expr → Expr → Type 0) {a b e k : Expr} → a ≡ e → b ≡ k → P a b → P e k
+two_same P {a = a} {k = k} first second h = subst (λ x. P x k) first (subst (λ y. P a y) second h)
+
+-- a list of one argument, which is a number
+pub one_listed : (args : List Arg) (d : Arg) (p at : Place) (e : Expr) → 1 ≤ length args → length args < 2 → get_or args 0 d ≡ arg.Number at e → arg_trees args ≡ one_number (first_place p (arg_trees args)) (tree e)
+one_listed [] d p at e some few is = absurd (omega arith)
+one_listed (x ∷ []) d p at e some few is = rw (is, arg_tree-Number at e) refl
+one_listed (x ∷ y ∷ more) d p at e some few is = absurd (omega arith)
+
+-- a list of two arguments, which are numbers
+pub two_listed : (args : List Arg) (d f : Arg) (p at later : Place) (e k : Expr) → 2 ≤ length args → length args < 3 → get_or args 0 d ≡ arg.Number at e → get_or args 1 f ≡ arg.Number later k
+    → arg_trees args ≡ two_numbers (first_place p (arg_trees args)) (tree e) (second_place p (arg_trees args)) (tree k)
+two_listed [] d f p at later e k some few is next = absurd (omega arith)
+two_listed (x ∷ []) d f p at later e k some few is next = absurd (omega arith)
+two_listed (x ∷ y ∷ []) d f p at later e k some few is next = rw (is, next, arg_tree-Number at e, arg_tree-Number later k) refl
+two_listed (x ∷ y ∷ z ∷ more) d f p at later e k some few is next = absurd (omega arith)
 
 module _ (runner : DirectRunner) (depth : ℕ) (name : Name) where
   abbrev val : Tree → S → Out ℕ Now ℕ
@@ -62,3 +96,7 @@ module _ (runner : DirectRunner) (depth : ℕ) (name : Name) where
   unfolding arguments argument chained appended
   ends_second e now s r at later a b n is h =
       rw is (ends_call runner depth e now name (two_numbers at a later b) _ (ends_on e now _ _ (λ x. adds_ok x.1 _) (ends_appended e now (n ∷ []) _ h)))
+
+pub ruleset one_ends = (ends_one, one_is, frames)
+
+pub ruleset two_ends = (ends_first, frames)

@@ -2,9 +2,10 @@
 use Rattle.std.proofs.Common.{◌≡◌, ◌<◌, ◌≤◌, ℕ, zero, suc, ◌+◌, Bool, true, false, cond, not, ◌||◌, List, [], ◌∷◌, ◌++◌, map, length, slice_get, slice_index_or, nat_lt, None, Some, unwrap_or, Contains, ◌⊎◌, inl, inr, codes, refl, sym, ap, subst, ◌∙◌, arith, bytes_eq}
 use Rattle.std.specs.List.{position_or_len}
 use Rattle.std.proofs.lemmas.List.Elements.{Contains-append_cases}
-use Rattle.std.proofs.lemmas.Slice.Eq.{bytes_eq-Decides}
-use Rattle.call_graph.specs.Graph.{callees_of, IsChain, BeginsChain}
+use Rattle.call_graph.specs.Graph.{callees_of, BeginsChain}
+use Rattle.call_graph.proofs.Chains.{chain_is_node}
 use Rattle.dap_base.specs.Outcome.{◌>>=◌}
+use Rattle.dap_base.proofs.Basics.{text_itself, contains_map}
 use Rattle.expr_grammar.specs.Tree as t
 use Rattle.expr_grammar.specs.Tree.{Tree, ArgTree, ArgTrees, StmtTree}
 use Rattle.function_table.specs.Variables.{predefined}
@@ -31,7 +32,7 @@ use Rattle.sequence_rules.specs.Variables.{bound, has_in, with_new, with_all_new
 use Rattle.sequence_meaning.proofs.Fine.{Fine, fine_bind, given_some, fine_weak, names_in, has_names, set_names, Has}
 use Rattle.sequence_meaning.proofs.FineCalls.{LacksNothing}
 use Rattle.sequence_meaning.proofs.FineValues.{Runs, fine_stored, fine_value}
-use Rattle.sequence_meaning.proofs.FineSteps.{AreGoodCalls, own_steps, contains_map, append_none, fine_steps}
+use Rattle.sequence_meaning.proofs.FineSteps.{AreGoodCalls, own_steps, append_none, fine_steps}
 
 -- ---- sequences by their names
 
@@ -101,14 +102,10 @@ node_exists [] v w k = absurd (omega (arith, k.1))
 node_exists (x ∷ xs) zero w k = omega arith
 node_exists (x ∷ xs) (suc v) w k = let r = node_exists xs v w k in omega arith
 
-chain_exists : (graph : List (List ℕ)) (v : ℕ) (ws : List ℕ) → IsChain graph v ws → v < length graph
-chain_exists graph v [] h = h
-chain_exists graph v (w ∷ ws) h = node_exists graph v w h.0.callee
-
 longer : (graph : List (List ℕ)) (v w n : ℕ) → Contains (callees_of graph v) w → BeginsChain graph w n → BeginsChain graph v (suc n)
 longer graph v w n k chain = record {
   others = w ∷ chain.others;
-  is_chain = (record { callee = k; exists = chain_exists graph w chain.others chain.is_chain }, chain.is_chain);
+  is_chain = (record { callee = k; exists = chain_is_node graph w chain.others chain.is_chain }, chain.is_chain);
   size = let s = chain.size in omega arith;
 }
 
@@ -141,9 +138,6 @@ keeps_with vs x n h = either (has_name vs x) (with_one vs x n ∙ ap (λ b. b ||
     either true k = h
     either false k = k
 
-same_name : (x : List ℕ) → bytes_eq x x ≡ true
-same_name x = (bytes_eq-Decides x x).1 refl
-
 has_with : (vs : List (List ℕ)) (x : List ℕ) → has_name (with_name vs x) x ≡ true
 has_with vs x = either (has_name vs x) refl
   where
@@ -153,7 +147,7 @@ has_with vs x = either (has_name vs x) refl
 
     either : (b : Bool) → has_name vs x ≡ b → has_name (cond b vs (vs ++ x ∷ [])) x ≡ true
     either true k = k
-    either false k = with_one vs x x ∙ ap (λ b. has_name vs x || b) (same_name x) ∙ last (has_name vs x)
+    either false k = with_one vs x x ∙ ap (λ b. has_name vs x || b) (text_itself x) ∙ last (has_name vs x)
 
 keeps_after : (vs : List (List ℕ)) (st : StmtTree) (n : List ℕ) → has_name vs n ≡ true → has_name (names_after vs st) n ≡ true
 keeps_after vs (t.Empty at) n h = h

@@ -1,5 +1,5 @@
 -- Steps without faults lack nothing, where the sequences that they call lack nothing.
-use Rattle.std.proofs.Common.{◌≡◌, ◌<◌, ℕ, zero, suc, Bool, true, false, cond, ◌&&◌, ◌||◌, List, [], ◌∷◌, ◌++◌, map, length, take, nat_eq, nat_lt, nat_le, Option, None, Some, Contains, slice_index_or, codes, refl, sym, ap, subst, ◌∙◌, arith, bytes_eq}
+use Rattle.std.proofs.Common.{◌≡◌, ◌<◌, ℕ, zero, suc, Bool, true, false, cond, ◌&&◌, ◌||◌, List, [], ◌∷◌, ◌++◌, length, take, nat_eq, nat_lt, nat_le, Option, None, Some, Contains, codes, refl, sym, ap, subst, ◌∙◌, arith, bytes_eq}
 use Rattle.std.proofs.lemmas.List.{append_assoc}
 use Rattle.std.proofs.lemmas.List.Elements.{Contains-append_left, Contains-append_right}
 use Rattle.expr_grammar.specs.Tree as t
@@ -27,6 +27,7 @@ use Rattle.sequence_rules.specs.Values.{used_now, value}
 use Rattle.sequence_meaning.proofs.Fine.{Fine, fine_bind, fine_cond, fine_given, names_in, Has}
 use Rattle.sequence_meaning.proofs.FineCalls.{LacksNothing, fine_global, fine_ask}
 use Rattle.sequence_meaning.proofs.FineValues.{Runs, AreGood, good_left, good_right, fine_used, fine_value}
+use Rattle.dap_base.proofs.Basics.{contains_map}
 
 -- ---- names
 
@@ -128,14 +129,6 @@ step_names gs ls sc same around (c.Block code) no' = block_names gs ls sc code s
 step_names gs ls sc same around (c.Control cond repeat timeout steps) no' = same
 
 -- ---- calls
-
-contains_at : {X Y : Type 0} (f : X → Y) (xs : List X) (x : X) (k : ℕ) → k < length xs → slice_index_or xs k x ≡ x → Contains (map f xs) (f x)
-contains_at f [] x k lt is = absurd (omega arith)
-contains_at f (y ∷ xs) x zero lt is = (0, omega arith, ap f is)
-contains_at f (y ∷ xs) x (suc k) lt is = let r = contains_at f xs x k (omega arith) is in (suc r.0, omega (arith, r.1), r.2)
-
-pub contains_map : {X Y : Type 0} (f : X → Y) (xs : List X) (x : X) → Contains xs x → Contains (map f xs) (f x)
-contains_map f xs x k = contains_at f xs x k.0 k.1 k.2
 
 -- each of the calls of steps is a good one
 abbrev pub AreGoodCalls : (ℕ → Type 0) → List StepCall → Type 0

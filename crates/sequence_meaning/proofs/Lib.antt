@@ -1,6 +1,5 @@
 pub mod CallLemmas
 pub mod DebugLemmas
-pub mod DirectLemmas
 pub mod EndLemmas
 pub mod FewLemmas
 pub mod FrameLemmas
@@ -12,6 +11,7 @@ pub mod FineRuns
 pub mod HeldLemmas
 pub mod Loops
 pub mod NeverLost
+pub mod Opened
 pub mod StartLemmas
 pub mod UnitLemmas
 pub mod StopLemmas

@@ -1,5 +1,5 @@
 -- Loops of the direct runner, one turn at a time.
-use Rattle.std.proofs.Common.{◌≡◌, ℕ, zero, suc, ◌+◌, ◌-◌, ◌<◌, ◌≤◌, true, false, List, [], ◌∷◌, ◌++◌, length, drop, take, get_or, Option, None, Some, unwrap_or, Result, Ok, codes, refl, sym, ap, subst, ◌∙◌, arith}
+use Rattle.std.proofs.Common.{◌≡◌, ℕ, zero, suc, ◌+◌, ◌-◌, ◌<◌, ◌≤◌, true, false, List, [], ◌∷◌, ◌++◌, length, drop, take, get_or, nat_eq, Option, None, Some, unwrap_or, Result, Ok, codes, refl, sym, ap, subst, ◌∙◌, arith}
 use Rattle.std.proofs.lemmas.List.{drop_all, drop_more}
 use Rattle.expr_grammar.specs.declared.code.Arg.{Arg}
 use Rattle.expr_grammar.specs.declared.code.Name.{Name}
@@ -12,18 +12,19 @@ use Rattle.sequence_meaning.specs.declared.end.Stopped.{Stopped}
 use Rattle.sequence_rules.specs.Direct.{Now, direct}
 use Rattle.sequence_rules.specs.declared.bindings.Binding.{Binding}
 use Rattle.sequence_rules.specs.Machine.{State, Out, with_locals, with_variables}
-use Rattle.sequence_rules.specs.Variables.{bound, value_named, set_in}
+use Rattle.sequence_rules.specs.Variables.{bound, value_named, set_in, set_visible}
 use Rattle.dap_base.specs.Outcome.{◌>>=◌}
-use Rattle.sequence_rules.specs.Values.{argument, arguments, chained}
-use Rattle.sequence_rules.specs.Steps.{in_order, counted, after_counted, declared, inside, statement, block, step, steps_result, turn, turns, given_back, sequence_result, steps_at, sequence_at}
-use Rattle.sequence_rules.specs.Calls.{given, missing}
+use Rattle.sequence_rules.specs.Values.{argument, arguments, assigned, chained, stored, used_now}
+use Rattle.sequence_rules.specs.Steps.{in_order, counted, after_counted, declared, dropped, inside, statement, block, step, steps_result, turn, turns, given_back, sequence_result, steps_at, sequence_at}
+use Rattle.sequence_rules.specs.Calls.{given, guarded, missing, use_now}
 use Rattle.sequence_rules.specs.Laws.{Adds}
 use Rattle.sequence_rules.specs.Steady.{Goes}
-use Rattle.sequence_rules.proofs.Adding.{adds_direct}
+use Rattle.sequence_rules.proofs.Adding.{adds_direct, adds_same}
 use Rattle.sequence_rules.proofs.Goes as g
 use Rattle.sequence_meaning.specs.declared.runner.DirectRunner.{DirectRunner}
 use Rattle.sequence_meaning.specs.Held.{EndsDirect, MeansDirect, calls_of}
-use Rattle.sequence_meaning.proofs.StopLemmas.{nothing_added, adds_ok, adds_cond, adds_sequence, adds_done, ends_on}
+use Rattle.sequence_meaning.proofs.FrameLemmas.{frames}
+use Rattle.sequence_meaning.proofs.StopLemmas.{adds_ok, adds_cond, adds_sequence, adds_done, ends_on}
 
 abbrev S : Type 0
 S = State ℕ Now
@@ -124,6 +125,27 @@ pub declared_on : (name : Name) (f : S → O ℕ) (s k r o : S) (n : ℕ) → co
 unfolding after_counted declared
 declared_on name f s k r o n h i j = rw h (rw i (rw j refl))
 
+-- an expression whose value is dropped
+pub plain_on : (f : S → O ℕ) (s k r : S) (n : ℕ) → counted (direct false) s ≡ Ok (tt, k) → f k ≡ Ok (n, r) → after_counted (direct false) (λ q. dropped (direct false) (f q)) s ≡ Ok (tt, r)
+unfolding after_counted dropped
+plain_on f s k r n h i = rw h (rw i refl)
+
+-- a value that is stored
+pub assigned_on : (name : Name) (out : O ℕ) (r o : S) (n : ℕ) → out ≡ Ok (n, r) → o ≡ set_visible name.text n r → assigned (direct false) name out ≡ Ok (n, o)
+unfolding assigned stored guarded direct
+assigned_on name out r o n h i = rw h (rw i refl)
+
+-- the last turn, as its condition is 0
+pub turn_over : (test : S → O ℕ) (body : S → O (Unit {0})) (s k r : S) (n : ℕ) → counted (direct false) s ≡ Ok (tt, k) → test k ≡ Ok (n, r) → n ≡ 0 → turn (direct false) test body s ≡ Ok (false, r)
+unfolding turn used_now use_now direct
+turn_over test body s k r n h i z = rw h (rw i (rw z refl))
+
+-- a turn after which another may follow
+pub turn_on : (test : S → O ℕ) (body : S → O (Unit {0})) (s k r o : S) (n : ℕ) → counted (direct false) s ≡ Ok (tt, k) → test k ≡ Ok (n, r) → nat_eq n 0 ≡ false → body r ≡ Ok (tt, o)
+    → turn (direct false) test body s ≡ Ok (true, o)
+unfolding turn used_now use_now direct
+turn_on test body s k r o n h i some b = rw h (rw i (rw some (rw b refl)))
+
 pub inside_on : (body : S → O (Unit {0})) (s r o : S) (n : ℕ) → body s ≡ Ok (tt, r) → n ≡ length s.locals → o ≡ with_locals r (take n r.locals) → inside (direct false) body s ≡ Ok (tt, o)
 unfolding inside
 inside_on body s r o n h i j = rw h (rw j (rw i refl))
@@ -169,10 +191,8 @@ module _ (body : S → O (Unit {0})) where
 
   pub entered_fail : (s r q : S) (end : DirectEnd) → r ≡ with_locals s [] → EndsDirect end q (body r) → EndsDirect end q (sequence_result (direct false) body s)
   unfolding sequence_result
-  entered_fail s r q end none h = ends_on end q (body (with_locals s [])) _ (λ x. record { so = nothing_added x.1.rest }) (subst (λ x. EndsDirect end q (body x)) none h)
+  entered_fail s r q end none h = ends_on end q (body (with_locals s [])) _ (λ x. record { so = adds_same x.1.rest }) (subst (λ x. EndsDirect end q (body x)) none h)
 
-pub ruleset entering = (entered_on, entered_fail)
+pub ruleset turning = (turns_on, turns_over, turns_fail, turns_none, frames)
 
-pub ruleset turning = (turns_on, turns_over, turns_fail, turns_none)
-
-pub ruleset loops = (args_on, args_fail, args_over, block_on, block_fail, block_over, done_on, done_fail, done_over)
+pub ruleset loops = (args_on, args_fail, args_over, block_on, block_fail, block_over, done_on, done_fail, done_over, frames)

@@ -11,7 +11,7 @@ use Rattle.sequence_rules.specs.Machine.{State, Out, end_state}
 use Rattle.sequence_rules.specs.Runs as ending
 use Rattle.sequence_rules.specs.Runs.{Ending, Outcome, Program, as_values, meaning, outcome, outcome_of}
 use Rattle.sequence_rules.specs.Steps.{start_state}
-use Rattle.sequence_rules.proofs.Adding.{adds_direct}
+use Rattle.sequence_rules.proofs.Adding.{adds_direct, adds_same}
 use Rattle.sequence_rules.proofs.Goes as g
 use Rattle.sequence_rules.proofs.OutcomeLemmas.{over_calls, over_written}
 use Rattle.sequence_meaning.specs.declared.end.DirectEnd.{DirectEnd}
@@ -20,7 +20,6 @@ use Rattle.sequence_meaning.specs.declared.held.DirectHeld.{DirectHeld}
 use Rattle.sequence_meaning.specs.Answers.{IsFirstPart}
 use Rattle.sequence_meaning.specs.declared.end.Stopped.{Stopped}
 use Rattle.sequence_meaning.specs.Held.{EndsDirect, IsMade, MeansDirect, made_all, state_of, world_at}
-use Rattle.sequence_meaning.proofs.StopLemmas.{nothing_added}
 
 abbrev O : Type 0
 O = Out ℕ Now (Unit {0})
@@ -85,13 +84,13 @@ written_at_end (Err e) = over_written e.0 e.1
 -- ---- where the code is, the meaning adds to it
 
 adds_end : (e : DirectEnd) (now : State ℕ Now) (out : O) → EndsDirect e now out → Adds now.rest (end_state out).rest
-adds_end (end.Halted cause) now out h = rw h (nothing_added now.rest)
-adds_end (end.Faulted u) now out h = rw h (nothing_added now.rest)
+adds_end (end.Halted cause) now out h = rw h (adds_same now.rest)
+adds_end (end.Faulted u) now out h = rw h (adds_same now.rest)
 adds_end end.WriteFault now out h = h
 adds_end end.OutOfMemory now out h = h
 
 adds_all : (e : DirectEnd) (ended : Result (Unit {0}) Stopped) (now : State ℕ Now) (out : O) → MeansDirect e ended now out → Adds now.rest (end_state out).rest
-adds_all e (Ok x) now out h = rw h (nothing_added now.rest)
+adds_all e (Ok x) now out h = rw h (adds_same now.rest)
 adds_all e (Err stopped) now out h = adds_end e now out h
 
 pub first_part : (ended : Result (Unit {0}) Stopped) (held : DirectHeld) (start target : TargetState) (written : Option (List ℕ)) (out : O) → MeansDirect held.end ended (state_of held target written) out

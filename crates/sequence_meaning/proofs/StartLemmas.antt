@@ -1,20 +1,13 @@
 -- What a run starts with.
-use Rattle.std.proofs.Common.{◌≡◌, ◌<◌, ◌≤◌, ℕ, zero, suc, ◌+◌, Bool, true, false, cond, List, [], ◌∷◌, ◌++◌, map, take, drop, length, get_or, slice_get, Option, None, Some, refl, sym, ap, ◌∙◌, arith, bytes_eq}
-use Rattle.std.proofs.lemmas.List.{drop_all, drop_more, get_or-map, length-map, map-append, take_more}
+use Rattle.std.proofs.Common.{◌≡◌, ◌<◌, ◌≤◌, ℕ, zero, suc, ◌+◌, Bool, true, false, cond, List, [], ◌∷◌, ◌++◌, map, take, length, get_or, slice_get, Some, refl, sym, ap, ◌∙◌, arith, bytes_eq}
+use Rattle.std.proofs.lemmas.List.{map-append}
 use Rattle.expr_grammar.specs.Tree as t
-use Rattle.expr_grammar.specs.Tree.{StmtTree, stmt_tree, code_trees}
 use Rattle.expr_grammar.specs.declared.code.Stmt as statement
-use Rattle.target_calls.specs.World.{start_world}
 use Rattle.function_table.specs.Variables.{predefined}
-use Rattle.sequence_trees.specs.Trees.{SetTrees}
-use Rattle.target_machine.specs.State.{TargetState}
 use Rattle.target_machine.specs.declared.unit.Variable.{Variable}
 use Rattle.sequence_rules.specs.declared.bindings.Binding.{Binding}
-use Rattle.sequence_rules.specs.Direct.{Now, now_at, direct}
-use Rattle.sequence_rules.specs.Machine.{State}
-use Rattle.sequence_rules.specs.Runs.{as_values, variables_of}
-use Rattle.sequence_rules.specs.Steps.{declared_names, start_state}
-use Rattle.sequence_rules.specs.Variables.{bound, has_in, with_new, with_all_new}
+use Rattle.sequence_rules.specs.Runs.{variables_of}
+use Rattle.sequence_rules.specs.Variables.{bound, has_in}
 
 -- ---- the predefined variables have names of their own
 
@@ -40,38 +33,6 @@ own_name (suc (suc (suc (suc (suc zero))))) h = refl
 own_name (suc (suc (suc (suc (suc (suc zero)))))) h = refl
 own_name (suc (suc (suc (suc (suc (suc (suc i))))))) h = absurd (omega arith)
 
-new_name : (vs : List Variable) (i : ℕ) (d : Variable) → map (λ v. v.name) vs ≡ predefined → i < length vs → has_in (variables_of (take i vs)) (get_or vs i d).name ≡ false
-new_name vs i d same h =
-    let seven : length vs ≡ 7 = sym (length-map vs (λ (v : Variable). v.name)) ∙ ap length same in
-    let named : (get_or vs i d).name ≡ get_or predefined i [] = sym (get_or-map (λ (v : Variable). v.name) vs i d [] h) ∙ ap (λ ns. get_or ns i []) same in
-    has_is vs i (get_or vs i d).name ∙ ap (λ ns. has (take i ns) (get_or vs i d).name) same ∙ ap (has (take i predefined)) named ∙ own_name i (omega arith)
-
--- one more of them
-pub start_more : (vs : List Variable) (i : ℕ) (d v : Variable) (old new : List (Binding ℕ)) → map (λ v. v.name) vs ≡ predefined → i < length vs → v ≡ get_or vs i d → old ≡ variables_of (take i vs) → new ≡ with_new old v.name v.value
-    → new ≡ variables_of (take (i + 1) vs)
-start_more vs i d v old new same h is was add =
-    let fresh : has_in old v.name ≡ false = ap (λ bs. has_in bs v.name) was ∙ ap (λ x. has_in (variables_of (take i vs)) x.name) is ∙ new_name vs i d same h in
-    add ∙ ap (λ b. cond b old (old ++ bound v.name v.value ∷ [])) fresh ∙ ap (λ bs. bs ++ bound v.name v.value ∷ []) was
-    ∙ ap (λ x. variables_of (take i vs) ++ bound x.name x.value ∷ []) is
-    ∙ sym (ap variables_of (take_more vs i d h) ∙ map-append (λ (x : Variable). record { name = x.name; value = x.value }) (take i vs) (get_or vs i d ∷ []))
-
--- ---- the debug variables
-
-first_declared : (st : StmtTree) (code : List StmtTree) (bs : List (Binding ℕ)) (v : ℕ) → with_all_new bs (declared_names (st ∷ code)) v ≡ with_all_new (with_all_new bs (declared_names (st ∷ [])) v) (declared_names code) v
-first_declared (t.Empty at) code bs v = refl
-first_declared (t.Declare name e) code bs v = refl
-first_declared (t.Plain at e) code bs v = refl
-
-pub declared_more : (xs : List statement.Stmt) (i : ℕ) (d one : statement.Stmt) (whole old new : List (Binding ℕ)) → i < length xs → one ≡ get_or xs i d → whole ≡ with_all_new old (declared_names (code_trees (drop i xs))) 0
-    → new ≡ with_all_new old (declared_names (stmt_tree one ∷ [])) 0 → whole ≡ with_all_new new (declared_names (code_trees (drop (i + 1) xs))) 0
-declared_more xs i d one whole old new h is same add =
-    same ∙ ap (λ l. with_all_new old (declared_names (code_trees l)) 0) (drop_more xs i d h) ∙ first_declared (stmt_tree (get_or xs i d)) (code_trees (drop (i + 1) xs)) old 0
-    ∙ ap (λ x. with_all_new (with_all_new old (declared_names (stmt_tree x ∷ [])) 0) (declared_names (code_trees (drop (i + 1) xs))) 0) (sym is)
-    ∙ ap (λ bs. with_all_new bs (declared_names (code_trees (drop (i + 1) xs))) 0) (sym add)
-
-pub declared_over : (xs : List statement.Stmt) (i : ℕ) (whole old : List (Binding ℕ)) → length xs ≤ i → whole ≡ with_all_new old (declared_names (code_trees (drop i xs))) 0 → old ≡ whole
-declared_over xs i whole old h same = sym (same ∙ ap (λ l. with_all_new old (declared_names (code_trees l)) 0) (drop_all i xs h))
-
 -- ---- the variables of an answer
 
 pub answered_more : (bs : List (Binding ℕ)) (i : ℕ) (x : Binding ℕ) (old new : List Variable) (v : Variable) → Some x ≡ slice_get bs i → v.name ≡ x.name → v.value ≡ x.value → new ≡ old ++ v ∷ [] → variables_of old ≡ take i bs
@@ -96,19 +57,3 @@ answered_all bs i vs same h k = same ∙ all bs i k
     all [] (suc j) q = refl
     all (z ∷ cs) zero q = absurd (omega arith)
     all (z ∷ cs) (suc j) q = ap (λ r. z ∷ r) (all cs j (omega arith))
-
--- ---- the state at the start
-
-same_values : (bs : List (Binding ℕ)) → as_values (direct false) bs ≡ bs
-unfolding direct
-same_values [] = refl
-same_values (b ∷ bs) = ap (λ r. b ∷ r) (same_values bs)
-
-pub start_is : (turn_us : ℕ) (set : SetTrees) (bs gs : List (Binding ℕ)) (t : TargetState) (written : Option (List ℕ)) → gs ≡ with_all_new bs (declared_names set.debugvars) 0
-    → record { globals = gs; locals = []; units = 0; lines = 0; steps = 0; rest = now_at (start_world t None) written } ≡ start_state (direct false) turn_us set (as_values (direct false) bs) (now_at (start_world t None) written)
-unfolding direct
-start_is turn_us set bs gs t written h =
-    ap (λ k. at k) (h ∙ ap (λ k. with_all_new k (declared_names set.debugvars) 0) (sym (same_values bs)))
-  where
-    at : List (Binding ℕ) → State ℕ Now
-    at k = record { globals = k; locals = []; units = 0; lines = 0; steps = 0; rest = now_at (start_world t None) written }

@@ -27,12 +27,14 @@ use Rattle.sequence_rules.specs.Steady.{Goes}
 use Rattle.sequence_rules.specs.Steps.{counted, after_counted, declared, dropped, inside, turn, poll_result_at, poll_result, condition, repeat_result, controlled, steps_result}
 use Rattle.sequence_rules.specs.Values.{used_now, of_unary, operands, strict_binary, truth_of, conjunction, disjunction, choice, assigned, appended, numbers_of, call_result, call_of, value}
 use Rattle.sequence_rules.specs.Variables.{bound}
-use Rattle.sequence_rules.proofs.Adding.{adds_direct}
+use Rattle.sequence_rules.proofs.Adding.{adds_direct, adds_same}
 use Rattle.sequence_rules.proofs.Goes as g
 use Rattle.sequence_meaning.specs.declared.end.DirectEnd.{DirectEnd}
 use Rattle.sequence_meaning.specs.declared.end.DirectEnd.TheVariants as end
 use Rattle.sequence_meaning.specs.declared.runner.DirectRunner.{DirectRunner}
 use Rattle.sequence_rules.specs.Known.{Knows, known_part}
+use Rattle.sequence_rules.proofs.NowLemmas.{numbers_as}
+use Rattle.sequence_meaning.proofs.FrameLemmas.{frames}
 use Rattle.sequence_meaning.specs.Held.{EndsDirect, calls_of, made_all, seen, world_at}
 
 abbrev S : Type 0
@@ -40,10 +42,6 @@ S = State ℕ Now
 
 abbrev O : Type 0 → Type 0
 O A = Out ℕ Now A
-
--- nothing was added
-pub nothing_added : (t : Now) → Adds t t
-nothing_added t = (adds_direct false).same t
 
 -- ---- what only adds
 
@@ -216,7 +214,7 @@ ends_appended e now got out h = ends_on e now out _ (λ x. adds_ok x.1 _) h
 -- memory is refused for a value
 pub append_refused : (now : S) (got : List ℕ) (out : O ℕ) (n : ℕ) → out ≡ Ok (n, now) → Adds now.rest (end_state (appended (direct false) got out)).rest
 unfolding appended
-append_refused now got out n is = rw is (nothing_added now.rest)
+append_refused now got out n is = rw is (adds_same now.rest)
 
 pub ends_counted : (e : DirectEnd) (now s : S) (rest : S → O (Unit {0})) → ((r : S) → Goes Adds r (rest r)) → EndsDirect e now (counted (direct false) s) → EndsDirect e now (after_counted (direct false) rest s)
 unfolding after_counted
@@ -227,7 +225,7 @@ unfolding after_counted
 ends_after e now s r rest is h = rw is h
 
 adds_with : (a b : S) → b.rest ≡ a.rest → Goes {V = ℕ} {T = Now} {A = Unit {0}} Adds a (Ok (tt, b))
-adds_with a b same = record { so = rw same (nothing_added a.rest) }
+adds_with a b same = record { so = rw same (adds_same a.rest) }
 
 module _ (runner : DirectRunner) (depth : ℕ) (test : Tree) where
   adds_declared : (name : Name) (r : S) → Goes Adds r (declared (direct false) name (value (direct false) (calls_of runner depth) test r))
@@ -251,7 +249,7 @@ module _ (runner : DirectRunner) (depth : ℕ) (test : Tree) where
   pub declare_refused : (now s r q : S) (name : Name) (n : ℕ) → counted (direct false) s ≡ Ok (tt, r) → value (direct false) (calls_of runner depth) test r ≡ Ok (n, q) → now ≡ q
       → Adds now.rest (end_state (after_counted (direct false) (λ p. declared (direct false) name (value (direct false) (calls_of runner depth) test p)) s)).rest
   unfolding after_counted declared
-  declare_refused now s r q name n is it same = rw (is, it, same) (nothing_added q.rest)
+  declare_refused now s r q name n is it same = rw (is, it, same) (adds_same q.rest)
 
   pub plain_first : (e : DirectEnd) (now s : S) → EndsDirect e now (counted (direct false) s) → EndsDirect e now (after_counted (direct false) (λ r. dropped (direct false) (value (direct false) (calls_of runner depth) test r)) s)
   plain_first e now s h = ends_counted e now s _ (λ r. adds_dropped r) h
@@ -272,7 +270,7 @@ module _ (runner : DirectRunner) (depth : ℕ) (test : Tree) where
 
 pub ends_inside : (e : DirectEnd) (now s : S) (body : S → O (Unit {0})) → EndsDirect e now (body s) → EndsDirect e now (inside (direct false) body s)
 unfolding inside
-ends_inside e now s body h = ends_on e now _ _ (λ x. record { so = nothing_added x.1.rest }) h
+ends_inside e now s body h = ends_on e now _ _ (λ x. record { so = adds_same x.1.rest }) h
 
 -- ---- polls
 
@@ -316,3 +314,29 @@ pub one_made : (w : World) (calls calls2 : List Ask) (t u : TargetState) (large 
     → made_all w calls2 ≡ world_at u large2
 one_made w calls calls2 t u large large2 ask e was more d =
     ap (made_all w) more ∙ made_more w calls (ask ∷ []) ∙ ap (λ x. next_world x ask) was ∙ ap (λ x. world_at x (call_done t large ask.forgive ask.call).large) d.next_is ∙ ap (world_at u) d.large_is
+
+-- ---- where a function ends in the middle, and what it keeps until then
+
+pub ruleset unary_ends = (ends_unary, frames)
+
+pub ruleset strict_ends = (ends_left, ends_right, frames)
+
+pub ruleset and_ends = (ends_and, ends_and_right, frames)
+
+pub ruleset or_ends = (ends_or, ends_or_right, frames)
+
+pub ruleset choice_ends = (ends_choice, frames)
+
+pub ruleset assignment_ends = (ends_assigned, frames)
+
+pub ruleset value_ends = (ends_appended, append_refused, frames)
+
+pub ruleset call_ends = (ends_call, numbers_as, frames)
+
+pub ruleset sequence_ends = (ends_sequence, frames)
+
+pub ruleset condition_ends = (ends_condition, frames)
+
+pub ruleset control_ends = (ends_control, frames)
+
+pub ruleset inside_ends = (ends_inside, frames)

@@ -22,8 +22,10 @@ IsOutcome o ending variables calls skipped target written =
 -- A recorded run ends as the outcome says. What it leaves where the sink failed is said by `Leaves`.
 abbrev pub Records : Outcome → Direct → List Ask → ℕ → TargetState → Option (List ℕ) → Type 0
 Records o (d.Done variables) calls skipped target written = IsOutcome o ending.Done (variables_of variables) calls skipped target written
-Records o (d.Halted cause variables) calls skipped target written = IsOutcome o (ending.Halted cause) (variables_of variables) calls skipped target written
-Records o (d.Faulted unit what) calls skipped target written = IsOutcome o (ending.Faulted (Access what)) [] calls skipped target written × (unit ≡ units_of o)
+Records o (d.Halted cause variables) calls skipped target written =
+    IsOutcome o (ending.Halted cause) (variables_of variables) calls skipped target written
+Records o (d.Faulted unit what) calls skipped target written =
+    IsOutcome o (ending.Faulted (Access what)) [] calls skipped target written × (unit ≡ units_of o)
 Records o d.WriteFault calls skipped target written = Unit {0}
 
 -- What is answered, the target and what was written are those of the outcome. Where memory was refused, see `Leaves`.

@@ -11,9 +11,10 @@ use Rattle.sequence_rules.specs.Known.{known_part}
 use Rattle.sequence_rules.specs.Machine as machine
 use Rattle.sequence_rules.specs.Laws.{Adds}
 use Rattle.sequence_rules.specs.Locals.{locals_of}
-use Rattle.sequence_rules.specs.Machine.{State, Out, end_state}
+use Rattle.sequence_rules.specs.Machine.{State, Out, end_state, with_variables}
 use Rattle.sequence_rules.specs.Steps.{sequence_at}
 use Rattle.sequence_rules.specs.Shared.{bindings_of}
+use Rattle.sequence_rules.specs.Variables.{set_in}
 use Rattle.sequence_meaning.specs.declared.end.DirectEnd.{DirectEnd}
 use Rattle.sequence_meaning.specs.declared.end.DirectEnd.TheVariants as end
 use Rattle.sequence_meaning.specs.declared.end.Stopped.{Stopped}
@@ -40,6 +41,10 @@ state_of held target written = record {
 abbrev pub seen : Bool → DirectHeld → TargetState → Option (List ℕ) → State ℕ Now
 seen known held target written = state_of held target (known_part known written)
 
+-- what comes of a part of a program: from a state, an answer and the state after it, or why nothing more is done
+abbrev pub Meaning : Type 0 → Type 0
+Meaning A = State ℕ Now → Out ℕ Now A
+
 -- Why the code ends is why the meaning ends, in this state. Where the sink failed or memory was refused, the meaning goes on from
 -- there: it has made these calls first, and written this first.
 abbrev pub EndsDirect : {A : Type 0} → DirectEnd → State ℕ Now → Out ℕ Now A → Type 0
@@ -48,13 +53,12 @@ EndsDirect (end.Faulted u) now out = out ≡ Err (machine.Faulted (Access u), no
 EndsDirect end.WriteFault now out = Adds now.rest (end_state out).rest
 EndsDirect end.OutOfMemory now out = Adds now.rest (end_state out).rest
 
--- What the code answers and the state that it leaves are those of the meaning. Here x is what an answer stands for, and e is why the code
--- stopped, where it did.
-abbrev pub MeansDirectAs : {A B : Type 0} → DirectEnd → B → Result A Stopped → State ℕ Now → Out ℕ Now B → Type 0
-MeansDirectAs e x (Ok y) now out = out ≡ Ok (x, now)
-MeansDirectAs e x (Err stopped) now out = EndsDirect e now out
+-- the answer is x, where there is one
+abbrev pub with_answer : {A B : Type 0} → B → Result A Stopped → Result B Stopped
+with_answer x (Ok y) = Ok x
+with_answer x (Err stopped) = Err stopped
 
--- the same, where an answer stands for itself
+-- what the code answers and the state that it leaves are those of the meaning; e is why the code stopped, where it did
 abbrev pub MeansDirect : {A : Type 0} → DirectEnd → Result A Stopped → State ℕ Now → Out ℕ Now A → Type 0
 MeansDirect e (Ok x) now out = out ≡ Ok (x, now)
 MeansDirect e (Err stopped) now out = EndsDirect e now out
@@ -71,6 +75,10 @@ abbrev pub IsCaused : {A : Type 0} → DirectEnd → Result A Stopped → ℕ �
 IsCaused e (Ok x) before now = now ≡ before
 IsCaused e (Err stopped) before now = IsEndCaused e before now
 
+-- the state with this value of a variable that all sequences share
+abbrev pub with_global : List ℕ → ℕ → State ℕ Now → State ℕ Now
+with_global name value s = with_variables s (set_in s.globals name value) s.locals
+
 -- the world after calls, each made in the world that the one before left
 abbrev pub made_all : World → List Ask → World
 made_all w [] = w
@@ -85,5 +93,5 @@ pub record IsMade (w : World) (held : DirectHeld) (target : TargetState) : Type 
   pub world : made_all w held.calls ≡ world_at target held.large.items
 
 -- the sequences of the runner's set, from which calls lead at most so deep
-abbrev pub calls_of : DirectRunner → ℕ → List ℕ → State ℕ Now → Out ℕ Now (Unit {0})
+abbrev pub calls_of : DirectRunner → ℕ → List ℕ → Meaning (Unit {0})
 calls_of runner depth name s = sequence_at (direct false) runner.turn_us (checked_trees runner.set.now) depth name s

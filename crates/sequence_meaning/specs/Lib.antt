@@ -1,5 +1,6 @@
 pub mod Few
 pub mod Held
+pub mod Parts
 pub mod Frame
 pub mod Starting
 pub mod Answers

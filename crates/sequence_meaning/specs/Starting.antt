@@ -14,7 +14,8 @@ module _ (turn_us : ℕ) (set : SetTrees) where
   -- a debug variable gets its value
   abbrev pub defined : Name → Tree → State ℕ Now → Out ℕ Now (Unit {0})
   defined name e s =
-      value (direct false) (λ n q. sequence_at (direct false) turn_us set 0 n q) e s >>= λ x. stored (direct false) name x.0 x.1 >>= λ y. Ok (tt, y.1)
+      value (direct false) (λ n q. sequence_at (direct false) turn_us set 0 n q) e s
+      >>= λ x. stored (direct false) name x.0 x.1 >>= λ y. Ok (tt, y.1)
 
   -- one statement of the debug variables
   abbrev pub debugged_one : StmtTree → State ℕ Now → Out ℕ Now (Unit {0})

@@ -17,5 +17,6 @@ pub record IsChecked (p : Program) : Type 0 where
 -- Nor does it meet a sequence that the set does not have, a chain of more than 32, or a loop without a timeout. So 0 or nothing never takes the
 -- place of what is missing.
 abbrev pub ChecksLeaveNothingMissing : Type 0
-ChecksLeaveNothingMissing = (w : World) (p : Program) (written : Option (List ℕ)) → IsChecked p → outcome_of (watched w p written) ≡ outcome_of (meaning w p written)
+ChecksLeaveNothingMissing = (w : World) (p : Program) (written : Option (List ℕ)) → IsChecked p
+    → outcome_of (watched w p written) ≡ outcome_of (meaning w p written)
     × ((outcome_of (watched w p written)).ending ≡ ending.Lost → ⊥)

@@ -1,12 +1,11 @@
 //! Units, asked one at a time, and the predefined variables that they use.
-ghost use Rattle.std.specs.Prelude.{◌≡◌, ℕ, ◌<◌, ◌^◌, List, Option, IfOk, Ok, codes, false};
 ghost use Rattle.target_machine.specs.Sound.{IsSound, IsSoundProbe};
 ghost use Rattle.sequence_rules.specs.Calls as c;
 ghost use Rattle.sequence_rules.specs.Direct.{Now, direct};
 ghost use Rattle.sequence_rules.specs.Machine.{State};
 ghost use Rattle.sequence_rules.specs.Shared.{bindings_of};
-ghost use Rattle.sequence_meaning.specs.Frame.{KeepsMade};
-ghost use Rattle.sequence_meaning.specs.Held.{IsCaused, MeansDirect, state_of};
+ghost use Rattle.std.specs.Prelude.{◌≡◌, ℕ, ◌<◌, ◌^◌, IfOk, Ok, codes, false};
+ghost use Rattle.sequence_meaning.specs.Frame.{RunsWithoutSink};
 
 use crate::end::{DirectEnd, Stopped};
 use crate::held::DirectHeld;
@@ -29,7 +28,8 @@ pub(crate) fn port_of(held: &DirectHeld) -> Port
 
 // `__dp`.
 pub(crate) fn debug_port(held: &DirectHeld) -> u64
-    ensures { (s : State ℕ Now) → s.globals ≡ bindings_of held.now.globals.variables → c.global (direct false) (codes "__dp") s ≡ Ok (result, s) }
+    ensures { (s : State ℕ Now) → s.globals ≡ bindings_of held.now.globals.variables
+        → c.global (direct false) (codes "__dp") s ≡ Ok (result, s) }
 {
     held.globals.dp()
 }
@@ -37,7 +37,7 @@ pub(crate) fn debug_port(held: &DirectHeld) -> u64
 // An access as a unit, made at once, unless it would be number 1,000,001. It is inlined, so that no access is put together in memory
 // and taken apart again.
 #[inline(always)]
-#[tactic(auto, unfolding(sequence_rules::specs::Calls::ask, sequence_rules::specs::Calls::answered, sequence_rules::specs::Direct::direct, sequence_rules::specs::Direct::made))]
+#[tactic(auto, unfolding(crate::proofs::Opened::units))]
 pub(crate) fn ask(
     unit: Unit,
     forgive: bool,
@@ -45,9 +45,7 @@ pub(crate) fn ask(
     target: &mut Target,
 ) -> Result<u64, Stopped>
     requires { IsSound unit }
-    ensures gives { (written : Option (List ℕ)) → MeansDirect held.new.end result (state_of held.new target.new written) (c.ask (direct false) unit forgive (state_of held.old target.old written)) }
-    ensures keeps { KeepsMade held.old target.old held.new target.new }
-    ensures cause { (faults : ℕ) → IsCaused held.new.end result faults faults }
+    ensures runs { RunsWithoutSink (c.ask (direct false) unit forgive) held.old target.old held.new target.new result }
     ensures word { IfOk result (λ value. value < 2 ^ 32) }
 {
     if held.units >= MOST_UNITS {
@@ -85,7 +83,7 @@ pub(crate) fn ask(
 
 // A read has its value, and a write 0.
 #[inline(always)]
-#[tactic(auto, unfolding(sequence_rules::specs::Calls::if_read, sequence_rules::specs::Calls::zero_of, sequence_rules::specs::Direct::direct), using(crate::proofs::StopLemmas::ends_if_read))]
+#[tactic(auto, unfolding(crate::proofs::Opened::answers), using(crate::proofs::StopLemmas::ends_if_read))]
 pub(crate) fn ask_for_result(
     read: bool,
     unit: Unit,
@@ -94,25 +92,22 @@ pub(crate) fn ask_for_result(
     target: &mut Target,
 ) -> Result<u64, Stopped>
     requires { IsSound unit }
-    ensures gives { (written : Option (List ℕ)) → MeansDirect held.new.end result (state_of held.new target.new written) (c.if_read (direct false) read (c.ask (direct false) unit forgive (state_of held.old target.old written))) }
-    ensures keeps { KeepsMade held.old target.old held.new target.new }
-    ensures cause { (faults : ℕ) → IsCaused held.new.end result faults faults }
+    ensures { RunsWithoutSink (λ s. c.if_read (direct false) read (c.ask (direct false) unit forgive s))
+        held.old target.old held.new target.new result }
 {
     let value = ask(unit, forgive, held, target)?;
     Ok(if read { value } else { 0 })
 }
 
 // A command of the probe as a unit, made at once, unless it would be number 1,000,001.
-#[tactic(auto, unfolding(sequence_rules::specs::Calls::command, sequence_rules::specs::Calls::numbered, sequence_rules::specs::Direct::direct, sequence_rules::specs::Direct::made))]
+#[tactic(auto, unfolding(crate::proofs::Opened::commands))]
 pub(crate) fn command(
     call: ProbeCall,
     held: &mut DirectHeld,
     target: &mut Target,
 ) -> Result<u64, Stopped>
     requires { IsSoundProbe call }
-    ensures gives { (written : Option (List ℕ)) → MeansDirect held.new.end result (state_of held.new target.new written) (c.command (direct false) call (state_of held.old target.old written)) }
-    ensures keeps { KeepsMade held.old target.old held.new target.new }
-    ensures cause { (faults : ℕ) → IsCaused held.new.end result faults faults }
+    ensures { RunsWithoutSink (c.command (direct false) call) held.old target.old held.new target.new result }
 {
     if held.units >= MOST_UNITS {
         held.end = DirectEnd::Halted(HaltCause::AccessLimit);

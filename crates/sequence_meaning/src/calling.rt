@@ -1,17 +1,14 @@
 //! Calls of functions and of sequences.
-ghost use Rattle.std.specs.Prelude.{◌≡◌, [], ◌∷◌, ◌++◌, Bool, false, unwrap_or, option_map, List, Option, ℕ, ◌<◌, ◌≤◌};
-ghost use Rattle.expr_grammar.specs.Tree.{tree, arg_tree, arg_trees, stmt_tree, code_trees};
 ghost use Rattle.dap_base.specs.declared.text.Place.{Place};
 ghost use Rattle.seq_check.specs.Answers.{checked_trees};
 ghost use Rattle.sequence_trees.specs.Trees.{NoSteps, steps_named, steps_tree};
 ghost use Rattle.function_table.specs.declared.function.Function.{Function};
-ghost use Rattle.sequence_rules.specs.Direct.{direct};
-ghost use Rattle.sequence_rules.specs.Steps as m;
-ghost use Rattle.sequence_rules.specs.Values as v;
-ghost use Rattle.sequence_rules.specs.Known.{Knows};
 ghost use Rattle.sequence_meaning.specs.Few.{one_number, two_numbers};
-ghost use Rattle.sequence_meaning.specs.Frame.{Keeps};
-ghost use Rattle.sequence_meaning.specs.Held.{IsCaused, MeansDirect, MeansDirectAs, calls_of, seen};
+ghost use Rattle.std.specs.Prelude.{◌≡◌, [], unwrap_or};
+ghost use Rattle.sequence_meaning.specs.Frame.{RunsDirect};
+ghost use Rattle.sequence_meaning.specs.Held.{calls_of, with_answer};
+ghost use Rattle.sequence_meaning.specs.Parts.{argument_of, arguments_of, call_of, function_of, sequence_of, value_after};
+ghost use Rattle.expr_grammar.specs.Tree.{arg_tree, arg_trees, tree};
 
 use crate::end::{DirectEnd, Stopped};
 use crate::functions::make_call;
@@ -37,9 +34,8 @@ impl DirectRunner<'_> {
         target: &mut Target,
         sink: &mut K,
     ) -> Result<(), Stopped>
-        ensures gives { (known : Bool) → Knows known (K.written sink.old) → MeansDirectAs held.new.end numbers.new.items result (seen known held.new target.new (K.written sink.new)) (v.argument (direct false) (calls_of self.now depth) (arg_tree arg.now) numbers.old.items (seen known held.old target.old (K.written sink.old))) }
-        ensures keeps { Keeps K.written held.old target.old sink.old held.new target.new sink.new }
-        ensures cause { IsCaused held.new.end result (K.faults sink.old) (K.faults sink.new) }
+        ensures { RunsDirect (argument_of self.now depth (arg_tree arg.now) numbers.old.items)
+            K.written K.faults held.old target.old sink.old held.new target.new sink.new (with_answer numbers.new.items result) }
     {
         match arg {
             Arg::Number(_, expr) => self.push_value(expr, numbers, depth, held, target, sink),
@@ -49,7 +45,7 @@ impl DirectRunner<'_> {
 
     // A value after others.
     #[cycle(eval)]
-    #[tactic(auto, unfolding(sequence_rules::specs::Values::appended), using(crate::proofs::StopLemmas::ends_appended, crate::proofs::StopLemmas::append_refused, crate::proofs::FrameLemmas::frames))]
+    #[tactic(auto, unfolding(sequence_rules::specs::Values::appended), using(crate::proofs::StopLemmas::value_ends))]
     fn push_value<K: Sink>(
         &self,
         expr: &Expr,
@@ -59,9 +55,8 @@ impl DirectRunner<'_> {
         target: &mut Target,
         sink: &mut K,
     ) -> Result<(), Stopped>
-        ensures gives { (known : Bool) → Knows known (K.written sink.old) → MeansDirectAs held.new.end numbers.new.items result (seen known held.new target.new (K.written sink.new)) (v.appended (direct false) numbers.old.items (v.value (direct false) (calls_of self.now depth) (tree expr.now) (seen known held.old target.old (K.written sink.old)))) }
-        ensures keeps { Keeps K.written held.old target.old sink.old held.new target.new sink.new }
-        ensures cause { IsCaused held.new.end result (K.faults sink.old) (K.faults sink.new) }
+        ensures { RunsDirect (value_after self.now depth numbers.old.items (tree expr.now))
+            K.written K.faults held.old target.old sink.old held.new target.new sink.new (with_answer numbers.new.items result) }
     {
         let number = self.evaluate_operand(expr, depth, held, target, sink)?;
         match numbers.push(number) {
@@ -75,7 +70,7 @@ impl DirectRunner<'_> {
 
     // The arguments of a call, in order.
     #[cycle(eval)]
-    #[tactic(auto, unfolding(sequence_rules::specs::Values::arguments), using(crate::proofs::Loops::loops, crate::proofs::FrameLemmas::frames))]
+    #[tactic(auto, unfolding(sequence_rules::specs::Values::arguments), using(crate::proofs::Loops::loops))]
     fn evaluate_arguments<K: Sink>(
         &self,
         args: &[Arg],
@@ -85,9 +80,8 @@ impl DirectRunner<'_> {
         target: &mut Target,
         sink: &mut K,
     ) -> Result<(), Stopped>
-        ensures gives { (known : Bool) → Knows known (K.written sink.old) → MeansDirectAs held.new.end numbers.new.items result (seen known held.new target.new (K.written sink.new)) (v.arguments (direct false) (calls_of self.now depth) (arg_trees args.now) numbers.old.items (seen known held.old target.old (K.written sink.old))) }
-        ensures keeps { Keeps K.written held.old target.old sink.old held.new target.new sink.new }
-        ensures cause { IsCaused held.new.end result (K.faults sink.old) (K.faults sink.new) }
+        ensures { RunsDirect (arguments_of self.now depth (arg_trees args.now) numbers.old.items)
+            K.written K.faults held.old target.old sink.old held.new target.new sink.new (with_answer numbers.new.items result) }
     {
         for arg in args {
             match self.evaluate_argument(arg, numbers, depth, held, target, sink) {
@@ -100,7 +94,7 @@ impl DirectRunner<'_> {
 
     // A call: its arguments, and then the function. The numbers among them go into an empty list.
     #[cycle(eval)]
-    #[tactic(auto, unfolding(sequence_rules::specs::Values::call_of, sequence_rules::specs::Calls::guarded, sequence_rules::specs::Values::numbers_of, sequence_rules::specs::Direct::direct), using(crate::proofs::StopLemmas::ends_call, crate::proofs::DirectLemmas::numbers_used, crate::proofs::FrameLemmas::frames))]
+    #[tactic(auto, unfolding(crate::proofs::Opened::calls), using(crate::proofs::StopLemmas::call_ends))]
     fn call_with<K: Sink>(
         &self,
         called: &CalledName,
@@ -112,9 +106,8 @@ impl DirectRunner<'_> {
         sink: &mut K,
     ) -> Result<u64, Stopped>
         requires { numbers.old.items ≡ [] }
-        ensures gives { (known : Bool) → Knows known (K.written sink.old) → MeansDirect held.new.end result (seen known held.new target.new (K.written sink.new)) (v.call_of (direct false) (calls_of self.now depth) called.now.name (arg_trees args.now) (v.arguments (direct false) (calls_of self.now depth) (arg_trees args.now) [] (seen known held.old target.old (K.written sink.old)))) }
-        ensures keeps { Keeps K.written held.old target.old sink.old held.new target.new sink.new }
-        ensures cause { IsCaused held.new.end result (K.faults sink.old) (K.faults sink.new) }
+        ensures { RunsDirect (call_of self.now depth called.now.name (arg_trees args.now))
+            K.written K.faults held.old target.old sink.old held.new target.new sink.new result }
     {
         self.evaluate_arguments(args, numbers, depth, held, target, sink)?;
         self.call_function(
@@ -140,9 +133,8 @@ impl DirectRunner<'_> {
         target: &mut Target,
         sink: &mut K,
     ) -> Result<u64, Stopped>
-        ensures gives { (known : Bool) → Knows known (K.written sink.old) → MeansDirect held.new.end result (seen known held.new target.new (K.written sink.new)) (v.call_of (direct false) (calls_of self.now depth) called.now.name (arg_trees args.now) (v.arguments (direct false) (calls_of self.now depth) (arg_trees args.now) [] (seen known held.old target.old (K.written sink.old)))) }
-        ensures keeps { Keeps K.written held.old target.old sink.old held.new target.new sink.new }
-        ensures cause { IsCaused held.new.end result (K.faults sink.old) (K.faults sink.new) }
+        ensures { RunsDirect (call_of self.now depth called.now.name (arg_trees args.now))
+            K.written K.faults held.old target.old sink.old held.new target.new sink.new result }
     {
         let mut numbers = held.take_numbers(self.alloc);
         let answer = self.call_with(called, args, &mut numbers, depth, held, target, sink);
@@ -152,7 +144,7 @@ impl DirectRunner<'_> {
 
     // A call whose argument is one number.
     #[cycle(eval)]
-    #[tactic(auto, using(crate::proofs::FewLemmas::ends_one, crate::proofs::FewLemmas::one_is, crate::proofs::FrameLemmas::frames))]
+    #[tactic(auto, using(crate::proofs::FewLemmas::one_ends))]
     fn call_one<K: Sink>(
         &self,
         called: &CalledName,
@@ -162,9 +154,8 @@ impl DirectRunner<'_> {
         target: &mut Target,
         sink: &mut K,
     ) -> Result<u64, Stopped>
-        ensures gives { (known : Bool) (at : Place) → Knows known (K.written sink.old) → MeansDirect held.new.end result (seen known held.new target.new (K.written sink.new)) (v.call_of (direct false) (calls_of self.now depth) called.now.name (one_number at (tree only.now)) (v.arguments (direct false) (calls_of self.now depth) (one_number at (tree only.now)) [] (seen known held.old target.old (K.written sink.old)))) }
-        ensures keeps { Keeps K.written held.old target.old sink.old held.new target.new sink.new }
-        ensures cause { IsCaused held.new.end result (K.faults sink.old) (K.faults sink.new) }
+        ensures { (at : Place) → RunsDirect (call_of self.now depth called.now.name (one_number at (tree only.now)))
+            K.written K.faults held.old target.old sink.old held.new target.new sink.new result }
     {
         let number = self.evaluate_operand(only, depth, held, target, sink)?;
         self.call_function(called.function, "", &[number], depth, held, target, sink)
@@ -172,7 +163,7 @@ impl DirectRunner<'_> {
 
     // A call whose arguments are two numbers.
     #[cycle(eval)]
-    #[tactic(auto, using(crate::proofs::FewLemmas::ends_first, crate::proofs::FewLemmas::ends_second, crate::proofs::FewLemmas::two_is, crate::proofs::FrameLemmas::frames))]
+    #[tactic(auto, using(crate::proofs::FewLemmas::two_ends))]
     fn call_two<K: Sink>(
         &self,
         called: &CalledName,
@@ -183,9 +174,9 @@ impl DirectRunner<'_> {
         target: &mut Target,
         sink: &mut K,
     ) -> Result<u64, Stopped>
-        ensures gives { (known : Bool) (at later : Place) → Knows known (K.written sink.old) → MeansDirect held.new.end result (seen known held.new target.new (K.written sink.new)) (v.call_of (direct false) (calls_of self.now depth) called.now.name (two_numbers at (tree first.now) later (tree second.now)) (v.arguments (direct false) (calls_of self.now depth) (two_numbers at (tree first.now) later (tree second.now)) [] (seen known held.old target.old (K.written sink.old)))) }
-        ensures keeps { Keeps K.written held.old target.old sink.old held.new target.new sink.new }
-        ensures cause { IsCaused held.new.end result (K.faults sink.old) (K.faults sink.new) }
+        ensures { (at later : Place) → RunsDirect
+            (call_of self.now depth called.now.name (two_numbers at (tree first.now) later (tree second.now)))
+            K.written K.faults held.old target.old sink.old held.new target.new sink.new result }
     {
         let first = self.evaluate_operand(first, depth, held, target, sink)?;
         let second = self.evaluate_operand(second, depth, held, target, sink)?;
@@ -211,9 +202,8 @@ impl DirectRunner<'_> {
         target: &mut Target,
         sink: &mut K,
     ) -> Result<u64, Stopped>
-        ensures gives { (known : Bool) → Knows known (K.written sink.old) → MeansDirect held.new.end result (seen known held.new target.new (K.written sink.new)) (v.call_of (direct false) (calls_of self.now depth) called.now.name (arg_trees args.now) (v.arguments (direct false) (calls_of self.now depth) (arg_trees args.now) [] (seen known held.old target.old (K.written sink.old)))) }
-        ensures keeps { Keeps K.written held.old target.old sink.old held.new target.new sink.new }
-        ensures cause { IsCaused held.new.end result (K.faults sink.old) (K.faults sink.new) }
+        ensures { RunsDirect (call_of self.now depth called.now.name (arg_trees args.now))
+            K.written K.faults held.old target.old sink.old held.new target.new sink.new result }
     {
         match args {
             [Arg::Number(_, only)] => self.call_one(called, only, depth, held, target, sink),
@@ -226,7 +216,7 @@ impl DirectRunner<'_> {
 
     // The function of a call.
     #[cycle(eval)]
-    #[tactic(auto, unfolding(sequence_rules::specs::Values::call_result, sequence_rules::specs::Calls::missing, sequence_rules::specs::Direct::direct))]
+    #[tactic(auto, unfolding(crate::proofs::Opened::callees))]
     fn call_function<K: Sink>(
         &self,
         function: Option<Function>,
@@ -237,9 +227,8 @@ impl DirectRunner<'_> {
         target: &mut Target,
         sink: &mut K,
     ) -> Result<u64, Stopped>
-        ensures gives { (known : Bool) → Knows known (K.written sink.old) → MeansDirect held.new.end result (seen known held.new target.new (K.written sink.new)) (v.call_result (direct false) (calls_of self.now depth) function text.now numbers.now (seen known held.old target.old (K.written sink.old))) }
-        ensures keeps { Keeps K.written held.old target.old sink.old held.new target.new sink.new }
-        ensures cause { IsCaused held.new.end result (K.faults sink.old) (K.faults sink.new) }
+        ensures { RunsDirect (function_of self.now depth function text.now numbers.now)
+            K.written K.faults held.old target.old sink.old held.new target.new sink.new result }
     {
         match function {
             None => Ok(0),
@@ -250,7 +239,7 @@ impl DirectRunner<'_> {
 
     // A call of a sequence.
     #[cycle(eval)]
-    #[tactic(auto, unfolding(sequence_rules::specs::Values::call_result, sequence_rules::specs::Direct::direct), using(crate::proofs::StopLemmas::ends_sequence, crate::proofs::FrameLemmas::frames))]
+    #[tactic(auto, unfolding(crate::proofs::Opened::callees), using(crate::proofs::StopLemmas::sequence_ends))]
     fn call_sequence<K: Sink>(
         &self,
         name: &str,
@@ -259,9 +248,8 @@ impl DirectRunner<'_> {
         target: &mut Target,
         sink: &mut K,
     ) -> Result<u64, Stopped>
-        ensures gives { (known : Bool) → Knows known (K.written sink.old) → MeansDirect held.new.end result (seen known held.new target.new (K.written sink.new)) (v.call_result (direct false) (calls_of self.now depth) (Some Function.Sequence) name.now [] (seen known held.old target.old (K.written sink.old))) }
-        ensures keeps { Keeps K.written held.old target.old sink.old held.new target.new sink.new }
-        ensures cause { IsCaused held.new.end result (K.faults sink.old) (K.faults sink.new) }
+        ensures { RunsDirect (function_of self.now depth (Some Function.Sequence) name.now [])
+            K.written K.faults held.old target.old sink.old held.new target.new sink.new result }
     {
         self.run_named(name, depth, held, target, sink)?;
         Ok(0)
@@ -269,7 +257,7 @@ impl DirectRunner<'_> {
 
     // The sequence of the name.
     #[cycle(eval)]
-    #[tactic(auto, unfolding(sequence_rules::specs::Steps::sequence_at, sequence_rules::specs::Calls::missing, sequence_rules::specs::Direct::direct), using(crate::proofs::Loops::sequence_on))]
+    #[tactic(auto, unfolding(crate::proofs::Opened::sequences))]
     pub(crate) fn run_named<K: Sink>(
         &self,
         name: &str,
@@ -278,9 +266,8 @@ impl DirectRunner<'_> {
         target: &mut Target,
         sink: &mut K,
     ) -> Result<(), Stopped>
-        ensures gives { (known : Bool) → Knows known (K.written sink.old) → MeansDirect held.new.end result (seen known held.new target.new (K.written sink.new)) ((calls_of self.now depth) name.now (seen known held.old target.old (K.written sink.old))) }
-        ensures keeps { Keeps K.written held.old target.old sink.old held.new target.new sink.new }
-        ensures cause { IsCaused held.new.end result (K.faults sink.old) (K.faults sink.new) }
+        ensures { RunsDirect (calls_of self.now depth name.now)
+            K.written K.faults held.old target.old sink.old held.new target.new sink.new result }
     {
         if depth == 0 {
             return Ok(());
@@ -300,7 +287,6 @@ impl DirectRunner<'_> {
 
     // The steps of a called sequence. After them the caller has its variables again, and its `__dp`, `__ap` and `__errorcontrol`.
     #[cycle(eval)]
-    #[tactic(auto, unfolding(sequence_rules::specs::Steps::sequence_result), using(crate::proofs::Loops::entering, crate::proofs::FrameLemmas::frames))]
     fn run_sequence<K: Sink>(
         &self,
         steps: &[CheckedStep],
@@ -309,9 +295,8 @@ impl DirectRunner<'_> {
         target: &mut Target,
         sink: &mut K,
     ) -> Result<(), Stopped>
-        ensures gives { (known : Bool) → Knows known (K.written sink.old) → MeansDirect held.new.end result (seen known held.new target.new (K.written sink.new)) (m.sequence_result (direct false) (m.steps_result (direct false) self.now.turn_us (calls_of self.now depth) (steps_tree steps.now)) (seen known held.old target.old (K.written sink.old))) }
-        ensures keeps { Keeps K.written held.old target.old sink.old held.new target.new sink.new }
-        ensures cause { IsCaused held.new.end result (K.faults sink.old) (K.faults sink.new) }
+        ensures { RunsDirect (sequence_of self.now depth (steps_tree steps.now))
+            K.written K.faults held.old target.old sink.old held.new target.new sink.new result }
     {
         let dp = held.globals.dp();
         let ap = held.globals.ap();

@@ -1,14 +1,12 @@
 //! Controls, their turns, and polls.
-ghost use Rattle.std.specs.Prelude.{◌≡◌, [], ◌∷◌, ◌++◌, Bool, false, unwrap_or, option_map, List, Option, ℕ, ◌<◌, ◌≤◌};
-ghost use Rattle.expr_grammar.specs.Tree.{tree, arg_tree, arg_trees, stmt_tree, code_trees};
-ghost use Rattle.sequence_trees.specs.Trees.{step_tree, steps_tree};
+
 ghost use Rattle.sequence_rules.specs.Direct.{direct};
-ghost use Rattle.sequence_rules.specs.Polls as p;
 ghost use Rattle.sequence_rules.specs.Steps as m;
-ghost use Rattle.sequence_rules.specs.Values as v;
-ghost use Rattle.sequence_rules.specs.Known.{Knows};
-ghost use Rattle.sequence_meaning.specs.Frame.{Keeps, KeepsMade};
-ghost use Rattle.sequence_meaning.specs.Held.{IsCaused, MeansDirect, calls_of, seen, state_of};
+ghost use Rattle.std.specs.Prelude.{◌≤◌, Some, false, option_map};
+ghost use Rattle.sequence_meaning.specs.Frame.{RunsDirect, RunsWithoutSink};
+ghost use Rattle.sequence_meaning.specs.Parts.{condition_of, control_of, inside_of, loop_of, repeat_of, turn_of, turns_of};
+ghost use Rattle.expr_grammar.specs.Tree.{tree};
+ghost use Rattle.sequence_trees.specs.Trees.{steps_tree};
 
 use crate::asking::{ask, debug_port};
 use crate::end::{DirectEnd, Stopped};
@@ -24,7 +22,7 @@ use target_machine::{HaltCause, Target, Unit};
 impl DirectRunner<'_> {
     // A control.
     #[cycle(eval)]
-    #[tactic(auto, unfolding(sequence_rules::specs::Steps::controlled), using(crate::proofs::StopLemmas::ends_control, crate::proofs::FrameLemmas::frames))]
+    #[tactic(auto, unfolding(sequence_rules::specs::Steps::controlled), using(crate::proofs::StopLemmas::control_ends))]
     pub(crate) fn run_control<K: Sink>(
         &self,
         cond: &Option<Expr>,
@@ -36,9 +34,9 @@ impl DirectRunner<'_> {
         target: &mut Target,
         sink: &mut K,
     ) -> Result<(), Stopped>
-        ensures gives { (known : Bool) → Knows known (K.written sink.old) → MeansDirect held.new.end result (seen known held.new target.new (K.written sink.new)) (m.controlled (direct false) self.now.turn_us (calls_of self.now depth) (option_map tree cond.now) (option_map tree repeat.now) timeout (steps_tree steps.now) (m.steps_result (direct false) self.now.turn_us (calls_of self.now depth) (steps_tree steps.now)) (seen known held.old target.old (K.written sink.old))) }
-        ensures keeps { Keeps K.written held.old target.old sink.old held.new target.new sink.new }
-        ensures cause { IsCaused held.new.end result (K.faults sink.old) (K.faults sink.new) }
+        ensures { RunsDirect
+            (control_of self.now depth (option_map tree cond.now) (option_map tree repeat.now) timeout (steps_tree steps.now))
+            K.written K.faults held.old target.old sink.old held.new target.new sink.new result }
     {
         if self.test_condition(cond, depth, held, target, sink)? {
             self.repeat_steps(repeat, timeout, steps, depth, held, target, sink)
@@ -58,9 +56,8 @@ impl DirectRunner<'_> {
         target: &mut Target,
         sink: &mut K,
     ) -> Result<bool, Stopped>
-        ensures gives { (known : Bool) → Knows known (K.written sink.old) → MeansDirect held.new.end result (seen known held.new target.new (K.written sink.new)) (m.condition (direct false) self.now.turn_us (calls_of self.now depth) (option_map tree cond.now) (seen known held.old target.old (K.written sink.old))) }
-        ensures keeps { Keeps K.written held.old target.old sink.old held.new target.new sink.new }
-        ensures cause { IsCaused held.new.end result (K.faults sink.old) (K.faults sink.new) }
+        ensures { RunsDirect (condition_of self.now depth (option_map tree cond.now))
+            K.written K.faults held.old target.old sink.old held.new target.new sink.new result }
     {
         match cond {
             None => Ok(true),
@@ -70,7 +67,7 @@ impl DirectRunner<'_> {
 
     // Whether an expression is not 0.
     #[cycle(eval)]
-    #[tactic(auto, unfolding(sequence_rules::specs::Steps::condition, sequence_rules::specs::Values::used_now, sequence_rules::specs::Calls::use_now, sequence_rules::specs::Direct::direct), using(crate::proofs::StopLemmas::ends_condition, crate::proofs::FrameLemmas::frames))]
+    #[tactic(auto, unfolding(crate::proofs::Opened::conditions), using(crate::proofs::StopLemmas::condition_ends))]
     fn is_true<K: Sink>(
         &self,
         expr: &Expr,
@@ -79,9 +76,8 @@ impl DirectRunner<'_> {
         target: &mut Target,
         sink: &mut K,
     ) -> Result<bool, Stopped>
-        ensures gives { (known : Bool) → Knows known (K.written sink.old) → MeansDirect held.new.end result (seen known held.new target.new (K.written sink.new)) (m.condition (direct false) self.now.turn_us (calls_of self.now depth) (Some (tree expr.now)) (seen known held.old target.old (K.written sink.old))) }
-        ensures keeps { Keeps K.written held.old target.old sink.old held.new target.new sink.new }
-        ensures cause { IsCaused held.new.end result (K.faults sink.old) (K.faults sink.new) }
+        ensures { RunsDirect (condition_of self.now depth (Some (tree expr.now)))
+            K.written K.faults held.old target.old sink.old held.new target.new sink.new result }
     {
         let number = self.evaluate(expr, depth, held, target, sink)?;
         Ok(number != 0)
@@ -89,7 +85,7 @@ impl DirectRunner<'_> {
 
     // The steps of a control, once or in turns.
     #[cycle(eval)]
-    #[tactic(auto, unfolding(sequence_rules::specs::Steps::repeat_result, sequence_rules::specs::Calls::given, sequence_rules::specs::Calls::missing, sequence_rules::specs::Direct::direct))]
+    #[tactic(auto, unfolding(crate::proofs::Opened::repeats))]
     fn repeat_steps<K: Sink>(
         &self,
         repeat: &Option<Expr>,
@@ -100,9 +96,8 @@ impl DirectRunner<'_> {
         target: &mut Target,
         sink: &mut K,
     ) -> Result<(), Stopped>
-        ensures gives { (known : Bool) → Knows known (K.written sink.old) → MeansDirect held.new.end result (seen known held.new target.new (K.written sink.new)) (m.repeat_result (direct false) self.now.turn_us (calls_of self.now depth) (option_map tree repeat.now) timeout (steps_tree steps.now) (m.steps_result (direct false) self.now.turn_us (calls_of self.now depth) (steps_tree steps.now)) (seen known held.old target.old (K.written sink.old))) }
-        ensures keeps { Keeps K.written held.old target.old sink.old held.new target.new sink.new }
-        ensures cause { IsCaused held.new.end result (K.faults sink.old) (K.faults sink.new) }
+        ensures { RunsDirect (repeat_of self.now depth (option_map tree repeat.now) timeout (steps_tree steps.now))
+            K.written K.faults held.old target.old sink.old held.new target.new sink.new result }
     {
         match repeat {
             None => self.run_inside(steps, depth, held, target, sink),
@@ -133,9 +128,8 @@ impl DirectRunner<'_> {
     ) -> Result<(), Stopped>
         requires least { 1 ≤ count }
         requires most { count ≤ 60000000 }
-        ensures gives { (known : Bool) → Knows known (K.written sink.old) → MeansDirect held.new.end result (seen known held.new target.new (K.written sink.new)) (m.loop_result (direct false) self.now.turn_us (calls_of self.now depth) (p.poll_of (tree expr.now) (steps_tree steps.now)) (tree expr.now) count (m.steps_result (direct false) self.now.turn_us (calls_of self.now depth) (steps_tree steps.now)) (seen known held.old target.old (K.written sink.old))) }
-        ensures keeps { Keeps K.written held.old target.old sink.old held.new target.new sink.new }
-        ensures cause { IsCaused held.new.end result (K.faults sink.old) (K.faults sink.new) }
+        ensures { RunsDirect (loop_of self.now depth (tree expr.now) count (steps_tree steps.now))
+            K.written K.faults held.old target.old sink.old held.new target.new sink.new result }
     {
         match poll_of(expr, steps) {
             Some((mask, requested)) => run_poll(mask, requested, count, held, target),
@@ -145,7 +139,7 @@ impl DirectRunner<'_> {
 
     // At most so many turns.
     #[cycle(eval)]
-    #[tactic(auto, unfolding(sequence_rules::specs::Steps::turns), using(crate::proofs::Loops::turning, crate::proofs::FrameLemmas::frames))]
+    #[tactic(auto, unfolding(sequence_rules::specs::Steps::turns), using(crate::proofs::Loops::turning))]
     fn run_turns<K: Sink>(
         &self,
         expr: &Expr,
@@ -156,9 +150,8 @@ impl DirectRunner<'_> {
         target: &mut Target,
         sink: &mut K,
     ) -> Result<(), Stopped>
-        ensures gives { (known : Bool) → Knows known (K.written sink.old) → MeansDirect held.new.end result (seen known held.new target.new (K.written sink.new)) (m.turns (direct false) (v.value (direct false) (calls_of self.now depth) (tree expr.now)) (λ r. m.inside (direct false) (m.steps_result (direct false) self.now.turn_us (calls_of self.now depth) (steps_tree steps.now)) r) count (seen known held.old target.old (K.written sink.old))) }
-        ensures keeps { Keeps K.written held.old target.old sink.old held.new target.new sink.new }
-        ensures cause { IsCaused held.new.end result (K.faults sink.old) (K.faults sink.new) }
+        ensures { RunsDirect (turns_of self.now depth (tree expr.now) count (steps_tree steps.now))
+            K.written K.faults held.old target.old sink.old held.new target.new sink.new result }
     {
         let mut left = count;
         while left > 0 {
@@ -173,7 +166,6 @@ impl DirectRunner<'_> {
 
     // One turn: whether another may follow.
     #[cycle(eval)]
-    #[tactic(auto, unfolding(sequence_rules::specs::Steps::turn, sequence_rules::specs::Values::used_now, sequence_rules::specs::Calls::use_now, sequence_rules::specs::Direct::direct), using(crate::proofs::StopLemmas::ends_turn, crate::proofs::StopLemmas::ends_test, crate::proofs::StopLemmas::ends_body, crate::proofs::FrameLemmas::frames))]
     fn run_turn<K: Sink>(
         &self,
         expr: &Expr,
@@ -183,9 +175,8 @@ impl DirectRunner<'_> {
         target: &mut Target,
         sink: &mut K,
     ) -> Result<bool, Stopped>
-        ensures gives { (known : Bool) → Knows known (K.written sink.old) → MeansDirect held.new.end result (seen known held.new target.new (K.written sink.new)) (m.turn (direct false) (v.value (direct false) (calls_of self.now depth) (tree expr.now)) (λ r. m.inside (direct false) (m.steps_result (direct false) self.now.turn_us (calls_of self.now depth) (steps_tree steps.now)) r) (seen known held.old target.old (K.written sink.old))) }
-        ensures keeps { Keeps K.written held.old target.old sink.old held.new target.new sink.new }
-        ensures cause { IsCaused held.new.end result (K.faults sink.old) (K.faults sink.new) }
+        ensures { RunsDirect (turn_of self.now depth (tree expr.now) (steps_tree steps.now))
+            K.written K.faults held.old target.old sink.old held.new target.new sink.new result }
     {
         match count_step(held) {
             Ok(()) => {}
@@ -204,7 +195,7 @@ impl DirectRunner<'_> {
 
     // Steps whose declarations are not visible after them.
     #[cycle(eval)]
-    #[tactic(auto, unfolding(sequence_rules::specs::Steps::inside), using(crate::proofs::StopLemmas::ends_inside, crate::proofs::Loops::inside_on, crate::proofs::FrameLemmas::frames))]
+    #[tactic(auto, using(crate::proofs::StopLemmas::inside_ends))]
     pub(crate) fn run_inside<K: Sink>(
         &self,
         steps: &[CheckedStep],
@@ -213,9 +204,8 @@ impl DirectRunner<'_> {
         target: &mut Target,
         sink: &mut K,
     ) -> Result<(), Stopped>
-        ensures gives { (known : Bool) → Knows known (K.written sink.old) → MeansDirect held.new.end result (seen known held.new target.new (K.written sink.new)) (m.inside (direct false) (m.steps_result (direct false) self.now.turn_us (calls_of self.now depth) (steps_tree steps.now)) (seen known held.old target.old (K.written sink.old))) }
-        ensures keeps { Keeps K.written held.old target.old sink.old held.new target.new sink.new }
-        ensures cause { IsCaused held.new.end result (K.faults sink.old) (K.faults sink.new) }
+        ensures { RunsDirect (inside_of self.now depth (steps_tree steps.now))
+            K.written K.faults held.old target.old sink.old held.new target.new sink.new result }
     {
         let count = held.local_count();
         self.run_steps(steps, depth, held, target, sink)?;
@@ -225,7 +215,6 @@ impl DirectRunner<'_> {
 }
 
 // A poll of CTRL/STAT.
-#[tactic(auto, unfolding(sequence_rules::specs::Steps::poll_result, sequence_rules::specs::Steps::poll_result_at, sequence_rules::specs::Steps::dropped), using(crate::proofs::StopLemmas::poll_first, crate::proofs::StopLemmas::poll_ask))]
 fn run_poll(
     mask: u32,
     requested: u32,
@@ -235,9 +224,7 @@ fn run_poll(
 ) -> Result<(), Stopped>
     requires least { 1 ≤ count }
     requires most { count ≤ 60000000 }
-    ensures gives { (written : Option (List ℕ)) → MeansDirect held.new.end result (state_of held.new target.new written) (m.poll_result (direct false) (mask, requested) count (state_of held.old target.old written)) }
-    ensures keeps { KeepsMade held.old target.old held.new target.new }
-    ensures cause { (faults : ℕ) → IsCaused held.new.end result faults faults }
+    ensures { RunsWithoutSink (m.poll_result (direct false) (mask, requested) count) held.old target.old held.new target.new result }
 {
     count_step(held)?;
     if debug_port(held) != 0 {

@@ -28,10 +28,12 @@ fn ending_of(
     ended: Result<(), Stopped>,
     held: &DirectHeld,
 ) -> Result<Direct, OutOfMemory>
-    ensures answer { (target : TargetState) (written : Option (List ℕ)) (out : Out ℕ Now (Unit {0})) → MeansDirect held.now.end ended (state_of held.now target written) out
-        → (end_state out).units ≡ units_of (outcome_of out) → AnswersDirect (outcome_of out) result target written }
-    ensures records { (target : TargetState) (written : Option (List ℕ)) (out : Out ℕ Now (Unit {0})) → MeansDirect held.now.end ended (state_of held.now target written) out
-        → (end_state out).units ≡ units_of (outcome_of out) → IfOk result (λ ending. Records (outcome_of out) ending held.now.calls held.now.skipped target written) }
+    ensures answer { (target : TargetState) (written : Option (List ℕ)) (out : Out ℕ Now (Unit {0}))
+        → MeansDirect held.now.end ended (state_of held.now target written) out → (end_state out).units ≡ units_of (outcome_of out)
+        → AnswersDirect (outcome_of out) result target written }
+    ensures records { (target : TargetState) (written : Option (List ℕ)) (out : Out ℕ Now (Unit {0}))
+        → MeansDirect held.now.end ended (state_of held.now target written) out → (end_state out).units ≡ units_of (outcome_of out)
+        → IfOk result (λ ending. Records (outcome_of out) ending held.now.calls held.now.skipped target written) }
     ensures cause { (before now : ℕ) → IsCaused held.now.end ended before now → IsDirectCaused result before now }
 {
     let Err(Stopped) = ended else {
@@ -57,11 +59,13 @@ fn record_run(
     ended: Result<(), Stopped>,
     held: DirectHeld,
 ) -> Result<Recorded, OutOfMemory>
-    ensures answer { (target : TargetState) (written : Option (List ℕ)) (out : Out ℕ Now (Unit {0})) → MeansDirect held.end ended (state_of held target written) out
-        → (end_state out).units ≡ units_of (outcome_of out) → Answers (outcome_of out) result target written }
+    ensures answer { (target : TargetState) (written : Option (List ℕ)) (out : Out ℕ Now (Unit {0}))
+        → MeansDirect held.end ended (state_of held target written) out → (end_state out).units ≡ units_of (outcome_of out)
+        → Answers (outcome_of out) result target written }
     ensures cause { (before now : ℕ) → IsCaused held.end ended before now → IsRecordedCaused result before now }
-    ensures part { (start target : TargetState) (written : Option (List ℕ)) (out : Out ℕ Now (Unit {0})) → MeansDirect held.end ended (state_of held target written) out
-        → IsMadeIn (start_world start None) (outcome_of out) → IsMade (start_world start None) held target → Leaves start (outcome_of out) result target written }
+    ensures part { (start target : TargetState) (written : Option (List ℕ)) (out : Out ℕ Now (Unit {0}))
+        → MeansDirect held.end ended (state_of held target written) out → IsMadeIn (start_world start None) (outcome_of out)
+        → IsMade (start_world start None) held target → Leaves start (outcome_of out) result target written }
 {
     let ending = match ending_of(alloc, ended, &held) {
         Ok(ending) => ending,
@@ -92,12 +96,16 @@ pub fn run_recorded<K: Sink>(
     requires names { map (λ variable. variable.name) settings.now.start ≡ predefined }
     // What is answered, the target and the lines are those of the outcome: Done, Halted or Faulted, the variables, the calls and the skips.
     ensures answer { (known : Bool) → Knows known (K.written sink.old)
-        → Answers (outcome (program_of (checked_trees checked.now) start.now settings.now) target.old (known_part known (K.written sink.old))) result target.new (known_part known (K.written sink.new)) }
+        → Answers
+        (outcome (program_of (checked_trees checked.now) start.now settings.now) target.old (known_part known (K.written sink.old)))
+        result target.new (known_part known (K.written sink.new)) }
     // `WriteFault` comes only where the sink's count of faults rose, or is at its last value, and any other answer leaves the count.
     ensures cause { IsRecordedCaused result (K.faults sink.old) (K.faults sink.new) }
     // However it ends, a first part of the run was made and written, and the target is as these calls leave it.
     ensures part { (known : Bool) → Knows known (K.written sink.old)
-        → Leaves target.old (outcome (program_of (checked_trees checked.now) start.now settings.now) target.old (known_part known (K.written sink.old))) result target.new (known_part known (K.written sink.new)) }
+        → Leaves target.old
+        (outcome (program_of (checked_trees checked.now) start.now settings.now) target.old (known_part known (K.written sink.old)))
+        result target.new (known_part known (K.written sink.new)) }
 {
     let mut globals = match make_globals(alloc, settings.start.as_slice()) {
         Ok(globals) => globals,
@@ -130,12 +138,16 @@ pub fn run_direct<K: Sink>(
     requires names { map (λ variable. variable.name) settings.now.start ≡ predefined }
     // How it ended, the target and the lines are those of the outcome.
     ensures answer { (known : Bool) → Knows known (K.written sink.old)
-        → AnswersDirect (outcome (program_of (checked_trees checked.now) start.now settings.now) target.old (known_part known (K.written sink.old))) result target.new (known_part known (K.written sink.new)) }
+        → AnswersDirect
+        (outcome (program_of (checked_trees checked.now) start.now settings.now) target.old (known_part known (K.written sink.old)))
+        result target.new (known_part known (K.written sink.new)) }
     // `WriteFault` comes only where the sink's count of faults rose, or is at its last value, and any other answer leaves the count.
     ensures cause { IsDirectCaused result (K.faults sink.old) (K.faults sink.new) }
     // However it ends, a first part of the run was made and written, and the target is as its calls leave it.
     ensures part { (known : Bool) → Knows known (K.written sink.old)
-        → LeavesSome target.old (outcome (program_of (checked_trees checked.now) start.now settings.now) target.old (known_part known (K.written sink.old))) target.new (known_part known (K.written sink.new)) }
+        → LeavesSome target.old
+        (outcome (program_of (checked_trees checked.now) start.now settings.now) target.old (known_part known (K.written sink.old)))
+        target.new (known_part known (K.written sink.new)) }
 {
     match run_recorded(alloc, checked, start, settings, target, sink) {
         Ok(run) => Ok(run.ending),

@@ -1,12 +1,10 @@
 //! What calls of functions do, once their arguments are numbers.
-ghost use Rattle.std.specs.Prelude.{◌≡◌, ℕ, Bool, List, IfOk, drop, slice_index, false};
 ghost use Rattle.target_machine.specs.State.{TargetState};
 ghost use Rattle.sequence_rules.specs.Calls as c;
 ghost use Rattle.sequence_rules.specs.Lines.{load_line, message_line, query_line, value_line};
 ghost use Rattle.sequence_rules.specs.Direct.{direct};
-ghost use Rattle.sequence_rules.specs.Known.{Knows};
-ghost use Rattle.sequence_meaning.specs.Frame.{Keeps};
-ghost use Rattle.sequence_meaning.specs.Held.{IsCaused, MeansDirect, seen};
+ghost use Rattle.std.specs.Prelude.{◌≡◌, ℕ, List, IfOk, drop, slice_index, false};
+ghost use Rattle.sequence_meaning.specs.Frame.{RunsDirect};
 
 use crate::end::{DirectEnd, Stopped};
 use crate::held::DirectHeld;
@@ -23,17 +21,16 @@ use text_lines::{Line, TextError, put_text};
 // Writes a line, and then this is the value, unless it would be line 100,001. Functions that write lines are not inlined: few calls
 // write lines, and all would pay for the room of these.
 #[inline(never)]
-#[tactic(auto, unfolding(sequence_rules::specs::Calls::line_result, sequence_rules::specs::Direct::direct), using(sequence_rules::proofs::KnownLemmas::known_more, sequence_rules::proofs::KnownLemmas::knows_more, sequence_rules::proofs::KnownLemmas::knows_part))]
+#[tactic(auto, unfolding(crate::proofs::Opened::lines), using(crate::proofs::FrameLemmas::lines_known))]
 fn write_line<K: Sink>(
     line: Result<Line, OutOfMemory>,
     value: u64,
     held: &mut DirectHeld,
     sink: &mut K,
 ) -> Result<u64, Stopped>
-    ensures gives { (known : Bool) (target : TargetState) (text : List ℕ) → IfOk line (λ l. l ≡ text) → Knows known (K.written sink.old)
-        → MeansDirect held.new.end result (seen known held.new target (K.written sink.new)) (c.line_result (direct false) text value (seen known held.old target (K.written sink.old))) }
-    ensures keeps { (target : TargetState) → Keeps K.written held.old target sink.old held.new target sink.new }
-    ensures cause { IsCaused held.new.end result (K.faults sink.old) (K.faults sink.new) }
+    ensures { (target : TargetState) (text : List ℕ) → IfOk line (λ l. l ≡ text)
+        → RunsDirect (c.line_result (direct false) text value)
+        K.written K.faults held.old target sink.old held.new target sink.new result }
 {
     if held.lines >= MOST_LINES {
         held.end = DirectEnd::Halted(HaltCause::MessageLimit);
@@ -78,10 +75,9 @@ fn write_message<K: Sink>(
     held: &mut DirectHeld,
     sink: &mut K,
 ) -> Result<u64, Stopped>
-    ensures gives { (known : Bool) (target : TargetState) → Knows known (K.written sink.old)
-        → MeansDirect held.new.end result (seen known held.new target (K.written sink.new)) (c.line_result (direct false) (message_line (slice_index numbers.now 0) text.now (drop 1 numbers.now)) 0 (seen known held.old target (K.written sink.old))) }
-    ensures keeps { (target : TargetState) → Keeps K.written held.old target sink.old held.new target sink.new }
-    ensures cause { IsCaused held.new.end result (K.faults sink.old) (K.faults sink.new) }
+    ensures { (target : TargetState) → RunsDirect
+        (c.line_result (direct false) (message_line (slice_index numbers.now 0) text.now (drop 1 numbers.now)) 0)
+        K.written K.faults held.old target sink.old held.new target sink.new result }
 {
     let more = if numbers.is_empty() {
         numbers
@@ -105,10 +101,10 @@ fn write_query<K: Sink>(
     held: &mut DirectHeld,
     sink: &mut K,
 ) -> Result<u64, Stopped>
-    ensures gives { (known : Bool) (target : TargetState) → Knows known (K.written sink.old)
-        → MeansDirect held.new.end result (seen known held.new target (K.written sink.new)) (c.line_result (direct false) (query_line (slice_index numbers.now 0) text.now (slice_index numbers.now 1)) (slice_index numbers.now 1) (seen known held.old target (K.written sink.old))) }
-    ensures keeps { (target : TargetState) → Keeps K.written held.old target sink.old held.new target sink.new }
-    ensures cause { IsCaused held.new.end result (K.faults sink.old) (K.faults sink.new) }
+    ensures { (target : TargetState) → RunsDirect
+        (c.line_result (direct false) (query_line (slice_index numbers.now 0) text.now (slice_index numbers.now 1))
+        (slice_index numbers.now 1))
+        K.written K.faults held.old target sink.old held.new target sink.new result }
 {
     let default = number_at(numbers, 1);
     write_line(
@@ -128,10 +124,9 @@ fn write_query_value<K: Sink>(
     held: &mut DirectHeld,
     sink: &mut K,
 ) -> Result<u64, Stopped>
-    ensures gives { (known : Bool) (target : TargetState) → Knows known (K.written sink.old)
-        → MeansDirect held.new.end result (seen known held.new target (K.written sink.new)) (c.line_result (direct false) (value_line text.now (slice_index numbers.now 0)) (slice_index numbers.now 0) (seen known held.old target (K.written sink.old))) }
-    ensures keeps { (target : TargetState) → Keeps K.written held.old target sink.old held.new target sink.new }
-    ensures cause { IsCaused held.new.end result (K.faults sink.old) (K.faults sink.new) }
+    ensures { (target : TargetState) → RunsDirect
+        (c.line_result (direct false) (value_line text.now (slice_index numbers.now 0)) (slice_index numbers.now 0))
+        K.written K.faults held.old target sink.old held.new target sink.new result }
 {
     let default = number_at(numbers, 0);
     write_line(value_line(alloc, text, default), default, held, sink)
@@ -145,16 +140,14 @@ fn write_load<K: Sink>(
     held: &mut DirectHeld,
     sink: &mut K,
 ) -> Result<u64, Stopped>
-    ensures gives { (known : Bool) (target : TargetState) → Knows known (K.written sink.old)
-        → MeansDirect held.new.end result (seen known held.new target (K.written sink.new)) (c.line_result (direct false) (load_line text.now) 0 (seen known held.old target (K.written sink.old))) }
-    ensures keeps { (target : TargetState) → Keeps K.written held.old target sink.old held.new target sink.new }
-    ensures cause { IsCaused held.new.end result (K.faults sink.old) (K.faults sink.new) }
+    ensures { (target : TargetState) → RunsDirect (c.line_result (direct false) (load_line text.now) 0)
+        K.written K.faults held.old target sink.old held.new target sink.new result }
 {
     write_line(load_line(alloc, text), 0, held, sink)
 }
 
 // A call of a function other than `Sequence`, with its text and the numbers among its arguments.
-#[tactic(auto, unfolding(sequence_rules::specs::Calls::function_result, sequence_rules::specs::Direct::direct))]
+#[tactic(auto, unfolding(crate::proofs::Opened::functions), using(crate::proofs::FrameLemmas::runs_with_sink))]
 pub(crate) fn make_call<K: Sink>(
     function: Function,
     text: &str,
@@ -164,10 +157,8 @@ pub(crate) fn make_call<K: Sink>(
     target: &mut Target,
     sink: &mut K,
 ) -> Result<u64, Stopped>
-    ensures gives { (known : Bool) → Knows known (K.written sink.old)
-        → MeansDirect held.new.end result (seen known held.new target.new (K.written sink.new)) (c.function_result (direct false) function text.now numbers.now (seen known held.old target.old (K.written sink.old))) }
-    ensures keeps { Keeps K.written held.old target.old sink.old held.new target.new sink.new }
-    ensures cause { IsCaused held.new.end result (K.faults sink.old) (K.faults sink.new) }
+    ensures { RunsDirect (c.function_result (direct false) function text.now numbers.now)
+        K.written K.faults held.old target.old sink.old held.new target.new sink.new result }
 {
     match function {
         Function::Read8 => access_memory(1, true, number_at(numbers, 0), 0, held, target),

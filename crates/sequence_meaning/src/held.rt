@@ -7,8 +7,8 @@ ghost use Rattle.sequence_rules.specs.Locals.{locals_of};
 ghost use Rattle.sequence_rules.specs.Machine.{State, with_locals, with_variables};
 ghost use Rattle.sequence_rules.specs.Variables.{bound, set_in, set_visible, value_named, visible};
 ghost use Rattle.sequence_rules.specs.Shared.{bindings_of};
-ghost use Rattle.sequence_meaning.specs.Frame.{KeepsMade};
-ghost use Rattle.sequence_meaning.specs.Held.{state_of};
+ghost use Rattle.sequence_meaning.specs.Frame.{Changes};
+ghost use Rattle.sequence_meaning.specs.Held.{state_of, with_global};
 
 use crate::end::DirectEnd;
 use dap_base::{NameText, OutOfMemory};
@@ -38,7 +38,14 @@ impl DirectHeld {
     /// What a run starts with: these variables, and nothing else.
     pub fn new(alloc: Global, globals: Globals<u64>) -> DirectHeld
         ensures { (target : TargetState) (written : Option (List ℕ)) → state_of result target written
-            ≡ record { globals = bindings_of globals; locals = []; units = 0; lines = 0; steps = 0; rest = now_at (start_world target None) written } }
+            ≡ record {
+              globals = bindings_of globals;
+              locals = [];
+              units = 0;
+              lines = 0;
+              steps = 0;
+              rest = now_at (start_world target None) written;
+            } }
     {
         DirectHeld {
             globals: SharedVariables::new(globals),
@@ -67,9 +74,7 @@ impl DirectHeld {
 
     /// Gives a visible variable a value.
     pub fn store(&mut self, name: &str, value: u64)
-        ensures state { (target : TargetState) (written : Option (List ℕ))
-            → state_of self.new target written ≡ set_visible name.now value (state_of self.old target written) }
-        ensures keeps { (target : TargetState) → KeepsMade self.old target self.new target }
+        ensures { Changes self.old self.new (set_visible name.now value) }
     {
         if !self.locals.set(name, value) {
             self.globals.set(name, value);
@@ -79,8 +84,7 @@ impl DirectHeld {
     /// Takes an empty list for numbers out.
     pub fn take_numbers(&mut self, alloc: Global) -> Vec<u64>
         ensures none { result.items ≡ [] }
-        ensures state { (target : TargetState) (written : Option (List ℕ)) → state_of self.new target written ≡ state_of self.old target written }
-        ensures keeps { (target : TargetState) → KeepsMade self.old target self.new target }
+        ensures state { Changes self.old self.new (λ s. s) }
     {
         let mut numbers = mem::replace(&mut self.numbers, Vec::new(alloc));
         numbers.clear();
@@ -89,10 +93,8 @@ impl DirectHeld {
 
     /// Declares a variable of the running sequence.
     pub fn declare(&mut self, alloc: Global, name: &NameText, value: u64) -> Result<(), OutOfMemory>
-        ensures state { (target : TargetState) (written : Option (List ℕ))
-            → OnOk result (state_of self.new target written ≡ with_locals (state_of self.old target written) (locals_of self.old.locals ++ bound name.now value ∷ [])) }
-        ensures keeps { (target : TargetState) → KeepsMade self.old target self.new target }
-        ensures same { (target : TargetState) (written : Option (List ℕ)) → OnErr result (state_of self.new target written ≡ state_of self.old target written) }
+        ensures state { OnOk result (Changes self.old self.new (λ s. with_locals s (s.locals ++ bound name.now value ∷ []))) }
+        ensures same { OnErr result (Changes self.old self.new (λ s. s)) }
     {
         self.locals.add(alloc, name.as_str(), value)
     }
@@ -107,64 +109,49 @@ impl DirectHeld {
     /// Takes the variables of the running sequence out.
     pub fn take_locals(&mut self, alloc: Global) -> Locals<u64>
         ensures taken { locals_of result ≡ locals_of self.old.locals }
-        ensures none { (target : TargetState) (written : Option (List ℕ))
-            → state_of self.new target written ≡ with_locals (state_of self.old target written) [] }
-        ensures keeps { (target : TargetState) → KeepsMade self.old target self.new target }
+        ensures none { Changes self.old self.new (λ s. with_locals s []) }
     {
         mem::replace(&mut self.locals, Locals::new(alloc))
     }
 
     /// Drops the variables of the running sequence after the first `len`.
     pub fn cut_back(&mut self, len: usize)
-        ensures state { (target : TargetState) (written : Option (List ℕ))
-            → state_of self.new target written ≡ with_locals (state_of self.old target written) (take len (locals_of self.old.locals)) }
-        ensures keeps { (target : TargetState) → KeepsMade self.old target self.new target }
+        ensures { Changes self.old self.new (λ s. with_locals s (take len s.locals)) }
     {
         self.locals.truncate(len);
     }
 
     // Gives the caller its `__dp` again.
     fn set_dp(&mut self, value: u64)
-        ensures state { (target : TargetState) (written : Option (List ℕ)) → state_of self.new target written
-            ≡ with_variables (state_of self.old target written) (set_in (bindings_of self.old.globals.variables) (codes "__dp") value) (locals_of self.old.locals) }
-        ensures keeps { (target : TargetState) → KeepsMade self.old target self.new target }
+        ensures { Changes self.old self.new (with_global (codes "__dp") value) }
     {
         self.globals.set_dp(value);
     }
 
     // Gives the caller its `__ap` again.
     fn set_ap(&mut self, value: u64)
-        ensures state { (target : TargetState) (written : Option (List ℕ)) → state_of self.new target written
-            ≡ with_variables (state_of self.old target written) (set_in (bindings_of self.old.globals.variables) (codes "__ap") value) (locals_of self.old.locals) }
-        ensures keeps { (target : TargetState) → KeepsMade self.old target self.new target }
+        ensures { Changes self.old self.new (with_global (codes "__ap") value) }
     {
         self.globals.set_ap(value);
     }
 
     // Gives the caller its `__errorcontrol` again.
     fn set_control(&mut self, value: u64)
-        ensures state { (target : TargetState) (written : Option (List ℕ)) → state_of self.new target written
-            ≡ with_variables (state_of self.old target written)
-            (set_in (bindings_of self.old.globals.variables) (codes "__errorcontrol") value) (locals_of self.old.locals) }
-        ensures keeps { (target : TargetState) → KeepsMade self.old target self.new target }
+        ensures { Changes self.old self.new (with_global (codes "__errorcontrol") value) }
     {
         self.globals.set_control(value);
     }
 
     fn set_locals(&mut self, locals: Locals<u64>)
-        ensures state { (target : TargetState) (written : Option (List ℕ))
-            → state_of self.new target written ≡ with_locals (state_of self.old target written) (locals_of locals) }
-        ensures keeps { (target : TargetState) → KeepsMade self.old target self.new target }
+        ensures { Changes self.old self.new (λ s. with_locals s (locals_of locals)) }
     {
         self.locals = locals;
     }
 
     /// Returns from a called sequence: gives the caller its `__dp`, `__ap` and `__errorcontrol`, and its own variables.
     pub fn give_back(&mut self, dp: u64, ap: u64, control: u64, locals: Locals<u64>)
-        ensures state { (target : TargetState) (written : Option (List ℕ)) → state_of self.new target written
-            ≡ with_variables (state_of self.old target written)
-            (set_in (set_in (set_in (bindings_of self.old.globals.variables) (codes "__dp") dp) (codes "__ap") ap) (codes "__errorcontrol") control) (locals_of locals) }
-        ensures keeps { (target : TargetState) → KeepsMade self.old target self.new target }
+        ensures { Changes self.old self.new (λ s. with_variables s
+            (set_in (set_in (set_in s.globals (codes "__dp") dp) (codes "__ap") ap) (codes "__errorcontrol") control) (locals_of locals)) }
     {
         self.set_dp(dp);
         self.set_ap(ap);

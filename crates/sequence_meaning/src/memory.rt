@@ -1,10 +1,9 @@
 //! Calls that access memory.
-ghost use Rattle.std.specs.Prelude.{◌≡◌, ◌⊎◌, ℕ, ◌<◌, ◌^◌, ◌%◌, ◌≤◌, List, Option, false};
 ghost use Rattle.sequence_rules.specs.Calls as c;
 ghost use Rattle.sequence_rules.specs.Direct.{Now, direct};
 ghost use Rattle.sequence_rules.specs.Machine.{State};
-ghost use Rattle.sequence_meaning.specs.Frame.{KeepsMade};
-ghost use Rattle.sequence_meaning.specs.Held.{IsCaused, MeansDirect, state_of};
+ghost use Rattle.std.specs.Prelude.{◌≡◌, ◌⊎◌, ◌<◌, ◌^◌, ◌%◌, false, ℕ};
+ghost use Rattle.sequence_meaning.specs.Frame.{RunsWithoutSink};
 
 use crate::asking::{ask, ask_for_result, port_of};
 use crate::end::{DirectEnd, Stopped};
@@ -13,7 +12,7 @@ use sequence_rules::{Port, memory_port, memory_unit};
 use target_machine::Target;
 
 // The value of `Read64`.
-#[tactic(auto, unfolding(sequence_rules::specs::Calls::low_and_high, sequence_rules::specs::Calls::use_now, sequence_rules::specs::Direct::direct))]
+#[tactic(auto, unfolding(crate::proofs::Opened::answers))]
 fn join_words(low: u64, high: u64) -> u64
     requires low { low < 2 ^ 32 }
     requires high { high < 2 ^ 32 }
@@ -23,7 +22,7 @@ fn join_words(low: u64, high: u64) -> u64
 }
 
 // The second unit of a 64-bit call, at the higher address.
-#[tactic(auto, unfolding(sequence_rules::specs::Calls::second_half, sequence_rules::specs::Direct::direct), using(crate::proofs::StopLemmas::ends_second_half))]
+#[tactic(auto, unfolding(crate::proofs::Opened::second_halves), using(crate::proofs::StopLemmas::ends_second_half))]
 fn ask_second_half(
     read: bool,
     ap: u8,
@@ -36,9 +35,8 @@ fn ask_second_half(
 ) -> Result<u64, Stopped>
     requires aligned { address % 8 ≡ 0 }
     requires low { low < 2 ^ 32 }
-    ensures gives { (written : Option (List ℕ)) → MeansDirect held.new.end result (state_of held.new target.new written) (c.second_half (direct false) read (record { ap = ap; forgive = forgive; dp = 0 }) address value low (state_of held.old target.old written)) }
-    ensures keeps { KeepsMade held.old target.old held.new target.new }
-    ensures cause { (faults : ℕ) → IsCaused held.new.end result faults faults }
+    ensures { RunsWithoutSink (c.second_half (direct false) read (record { ap = ap; forgive = forgive; dp = 0 }) address value low)
+        held.old target.old held.new target.new result }
 {
     let unit = memory_unit(4, read, ap, address + 4, value / 0x1_0000_0000);
     let high = match ask(unit, forgive, held, target) {
@@ -60,9 +58,8 @@ fn ask_two_units(
     target: &mut Target,
 ) -> Result<u64, Stopped>
     requires aligned { address % 8 ≡ 0 }
-    ensures gives { (written : Option (List ℕ)) → MeansDirect held.new.end result (state_of held.new target.new written) (c.two_units (direct false) read (record { ap = ap; forgive = forgive; dp = 0 }) address value (state_of held.old target.old written)) }
-    ensures keeps { KeepsMade held.old target.old held.new target.new }
-    ensures cause { (faults : ℕ) → IsCaused held.new.end result faults faults }
+    ensures { RunsWithoutSink (c.two_units (direct false) read (record { ap = ap; forgive = forgive; dp = 0 }) address value)
+        held.old target.old held.new target.new result }
 {
     let unit = memory_unit(4, read, ap, address, value);
     let low = match ask(unit, forgive, held, target) {
@@ -74,7 +71,7 @@ fn ask_two_units(
 
 // A memory call, once the port is known.
 #[inline(always)]
-#[tactic(auto, unfolding(sequence_rules::specs::Calls::memory_at, sequence_rules::specs::Calls::one_unit, sequence_rules::specs::Calls::or_halt))]
+#[tactic(auto, unfolding(crate::proofs::Opened::memory_calls))]
 fn access_memory_at(
     size: u8,
     read: bool,
@@ -85,9 +82,9 @@ fn access_memory_at(
     target: &mut Target,
 ) -> Result<u64, Stopped>
     requires { (size ≡ 1) ⊎ ((size ≡ 2) ⊎ ((size ≡ 4) ⊎ (size ≡ 8))) }
-    ensures gives { (written : Option (List ℕ)) → MeansDirect held.new.end result (state_of held.new target.new written) (c.memory_at (direct false) size read address value (record { ap = port.ap; forgive = port.forgive; dp = port.dp }) (state_of held.old target.old written)) }
-    ensures keeps { KeepsMade held.old target.old held.new target.new }
-    ensures cause { (faults : ℕ) → IsCaused held.new.end result faults faults }
+    ensures { RunsWithoutSink
+        (c.memory_at (direct false) size read address value (record { ap = port.ap; forgive = port.forgive; dp = port.dp }))
+        held.old target.old held.new target.new result }
 {
     let ap = match memory_port(size, address, port.ap, port.dp) {
         Ok(ap) => ap,
@@ -120,9 +117,7 @@ pub(crate) fn access_memory(
     target: &mut Target,
 ) -> Result<u64, Stopped>
     requires { (size ≡ 1) ⊎ ((size ≡ 2) ⊎ ((size ≡ 4) ⊎ (size ≡ 8))) }
-    ensures gives { (written : Option (List ℕ)) → MeansDirect held.new.end result (state_of held.new target.new written) (c.memory (direct false) size read address value (state_of held.old target.old written)) }
-    ensures keeps { KeepsMade held.old target.old held.new target.new }
-    ensures cause { (faults : ℕ) → IsCaused held.new.end result faults faults }
+    ensures { RunsWithoutSink (c.memory (direct false) size read address value) held.old target.old held.new target.new result }
 {
     access_memory_at(size, read, address, value, port_of(held), held, target)
 }
@@ -136,9 +131,7 @@ pub(crate) fn access_word(
     held: &mut DirectHeld,
     target: &mut Target,
 ) -> Result<u64, Stopped>
-    ensures gives { (written : Option (List ℕ)) → MeansDirect held.new.end result (state_of held.new target.new written) (c.memory (direct false) 4 read address value (state_of held.old target.old written)) }
-    ensures keeps { KeepsMade held.old target.old held.new target.new }
-    ensures cause { (faults : ℕ) → IsCaused held.new.end result faults faults }
+    ensures { RunsWithoutSink (c.memory (direct false) 4 read address value) held.old target.old held.new target.new result }
 {
     access_memory_at(4, read, address, value, port_of(held), held, target)
 }

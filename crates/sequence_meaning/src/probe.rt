@@ -1,11 +1,10 @@
 //! Calls that are commands of the probe.
-ghost use Rattle.std.specs.Prelude.{ℕ, List, Option, false};
 ghost use Rattle.target_machine.specs.Sound.{IsSoundProbe};
 ghost use Rattle.sequence_rules.specs.Calls as c;
-ghost use Rattle.sequence_rules.specs.Direct.{Now, direct};
-ghost use Rattle.sequence_rules.specs.Machine.{State};
-ghost use Rattle.sequence_meaning.specs.Frame.{KeepsMade};
-ghost use Rattle.sequence_meaning.specs.Held.{IsCaused, MeansDirect, state_of};
+ghost use Rattle.std.specs.Prelude.{false};
+ghost use Rattle.sequence_meaning.specs.Frame.{RunsWithoutSink};
+ghost use Rattle.sequence_meaning.specs.Parts.{zero_after};
+ghost use Rattle.sequence_rules.specs.Direct.{direct};
 
 use crate::asking::{command, debug_port};
 use crate::end::{DirectEnd, Stopped};
@@ -14,27 +13,23 @@ use sequence_rules::{low_bits, pins_command};
 use target_machine::{HaltCause, ProbeCall, Target};
 
 // A command whose result is dropped.
-#[tactic(auto, unfolding(sequence_rules::specs::Calls::zero_of, sequence_rules::specs::Direct::direct), using(crate::proofs::StopLemmas::ends_zero))]
+#[tactic(auto, unfolding(crate::proofs::Opened::answers), using(crate::proofs::StopLemmas::ends_zero))]
 fn command_without_result(
     call: ProbeCall,
     held: &mut DirectHeld,
     target: &mut Target,
 ) -> Result<u64, Stopped>
     requires { IsSoundProbe call }
-    ensures gives { (written : Option (List ℕ)) → MeansDirect held.new.end result (state_of held.new target.new written) (c.zero_of (direct false) (c.command (direct false) call (state_of held.old target.old written))) }
-    ensures keeps { KeepsMade held.old target.old held.new target.new }
-    ensures cause { (faults : ℕ) → IsCaused held.new.end result faults faults }
+    ensures { RunsWithoutSink (zero_after (c.command (direct false) call)) held.old target.old held.new target.new result }
 {
     command(call, held, target)?;
     Ok(0)
 }
 
 // `DAP_WriteABORT`, on debug port 0 alone.
-#[tactic(auto, unfolding(sequence_rules::specs::Calls::abort, sequence_rules::specs::Calls::abort_at, sequence_rules::specs::Calls::zero_of))]
+#[tactic(auto, unfolding(crate::proofs::Opened::aborts))]
 pub(crate) fn abort(value: u64, held: &mut DirectHeld, target: &mut Target) -> Result<u64, Stopped>
-    ensures gives { (written : Option (List ℕ)) → MeansDirect held.new.end result (state_of held.new target.new written) (c.zero_of (direct false) (c.abort (direct false) value (state_of held.old target.old written))) }
-    ensures keeps { KeepsMade held.old target.old held.new target.new }
-    ensures cause { (faults : ℕ) → IsCaused held.new.end result faults faults }
+    ensures { RunsWithoutSink (zero_after (c.abort (direct false) value)) held.old target.old held.new target.new result }
 {
     if debug_port(held) == 0 {
         command_without_result(
@@ -51,9 +46,7 @@ pub(crate) fn abort(value: u64, held: &mut DirectHeld, target: &mut Target) -> R
 // `DAP_Delay`, of at most 60,000,000 microseconds.
 #[tactic(auto, unfolding(sequence_rules::specs::Calls::delay, sequence_rules::specs::Calls::zero_of))]
 pub(crate) fn delay(micros: u64, held: &mut DirectHeld, target: &mut Target) -> Result<u64, Stopped>
-    ensures gives { (written : Option (List ℕ)) → MeansDirect held.new.end result (state_of held.new target.new written) (c.zero_of (direct false) (c.delay (direct false) micros (state_of held.old target.old written))) }
-    ensures keeps { KeepsMade held.old target.old held.new target.new }
-    ensures cause { (faults : ℕ) → IsCaused held.new.end result faults faults }
+    ensures { RunsWithoutSink (zero_after (c.delay (direct false) micros)) held.old target.old held.new target.new result }
 {
     if micros > 60_000_000 {
         held.end = DirectEnd::Halted(HaltCause::ArgumentOutOfRange);
@@ -69,9 +62,7 @@ pub(crate) fn set_clock(
     held: &mut DirectHeld,
     target: &mut Target,
 ) -> Result<u64, Stopped>
-    ensures gives { (written : Option (List ℕ)) → MeansDirect held.new.end result (state_of held.new target.new written) (c.zero_of (direct false) (c.clock (direct false) hertz (state_of held.old target.old written))) }
-    ensures keeps { KeepsMade held.old target.old held.new target.new }
-    ensures cause { (faults : ℕ) → IsCaused held.new.end result faults faults }
+    ensures { RunsWithoutSink (zero_after (c.clock (direct false) hertz)) held.old target.old held.new target.new result }
 {
     if hertz == 0 || hertz > 0xFFFF_FFFF {
         held.end = DirectEnd::Halted(HaltCause::ArgumentOutOfRange);
@@ -89,9 +80,7 @@ pub(crate) fn set_pins(
     held: &mut DirectHeld,
     target: &mut Target,
 ) -> Result<u64, Stopped>
-    ensures gives { (written : Option (List ℕ)) → MeansDirect held.new.end result (state_of held.new target.new written) (c.pins (direct false) output select wait (state_of held.old target.old written)) }
-    ensures keeps { KeepsMade held.old target.old held.new target.new }
-    ensures cause { (faults : ℕ) → IsCaused held.new.end result faults faults }
+    ensures { RunsWithoutSink (c.pins (direct false) output select wait) held.old target.old held.new target.new result }
 {
     match pins_command(output, select, wait) {
         Ok(call) => command(call, held, target),
@@ -110,9 +99,7 @@ pub(crate) fn send_bits(
     held: &mut DirectHeld,
     target: &mut Target,
 ) -> Result<u64, Stopped>
-    ensures gives { (written : Option (List ℕ)) → MeansDirect held.new.end result (state_of held.new target.new written) (c.zero_of (direct false) (c.line_bits (direct false) count bits (state_of held.old target.old written))) }
-    ensures keeps { KeepsMade held.old target.old held.new target.new }
-    ensures cause { (faults : ℕ) → IsCaused held.new.end result faults faults }
+    ensures { RunsWithoutSink (zero_after (c.line_bits (direct false) count bits)) held.old target.old held.new target.new result }
 {
     if count == 0 || count > 64 {
         held.end = DirectEnd::Halted(HaltCause::ArgumentOutOfRange);

@@ -1,10 +1,8 @@
 //! Calls that access registers.
-ghost use Rattle.std.specs.Prelude.{◌≡◌, ℕ, List, Option, false};
 ghost use Rattle.sequence_rules.specs.Calls as c;
-ghost use Rattle.sequence_rules.specs.Direct.{Now, direct};
-ghost use Rattle.sequence_rules.specs.Machine.{State};
-ghost use Rattle.sequence_meaning.specs.Frame.{KeepsMade};
-ghost use Rattle.sequence_meaning.specs.Held.{IsCaused, MeansDirect, state_of};
+ghost use Rattle.std.specs.Prelude.{false};
+ghost use Rattle.sequence_meaning.specs.Frame.{RunsWithoutSink};
+ghost use Rattle.sequence_rules.specs.Direct.{direct};
 
 use crate::asking::{ask_for_result, debug_port, port_of};
 use crate::end::{DirectEnd, Stopped};
@@ -22,9 +20,8 @@ fn access_ap_at(
     held: &mut DirectHeld,
     target: &mut Target,
 ) -> Result<u64, Stopped>
-    ensures gives { (written : Option (List ℕ)) → MeansDirect held.new.end result (state_of held.new target.new written) (c.ap_at (direct false) read addr value (record { ap = port.ap; forgive = port.forgive; dp = port.dp }) (state_of held.old target.old written)) }
-    ensures keeps { KeepsMade held.old target.old held.new target.new }
-    ensures cause { (faults : ℕ) → IsCaused held.new.end result faults faults }
+    ensures { RunsWithoutSink (c.ap_at (direct false) read addr value (record { ap = port.ap; forgive = port.forgive; dp = port.dp }))
+        held.old target.old held.new target.new result }
 {
     match ap_unit(read, addr, value, port.ap, port.dp) {
         Ok(unit) => ask_for_result(read, unit, port.forgive, held, target),
@@ -44,9 +41,7 @@ pub(crate) fn access_ap(
     held: &mut DirectHeld,
     target: &mut Target,
 ) -> Result<u64, Stopped>
-    ensures gives { (written : Option (List ℕ)) → MeansDirect held.new.end result (state_of held.new target.new written) (c.ap_register (direct false) read addr value (state_of held.old target.old written)) }
-    ensures keeps { KeepsMade held.old target.old held.new target.new }
-    ensures cause { (faults : ℕ) → IsCaused held.new.end result faults faults }
+    ensures { RunsWithoutSink (c.ap_register (direct false) read addr value) held.old target.old held.new target.new result }
 {
     access_ap_at(read, addr, value, port_of(held), held, target)
 }
@@ -61,9 +56,7 @@ fn access_dp_at(
     held: &mut DirectHeld,
     target: &mut Target,
 ) -> Result<u64, Stopped>
-    ensures gives { (written : Option (List ℕ)) → MeansDirect held.new.end result (state_of held.new target.new written) (c.dp_at (direct false) read addr value dp (state_of held.old target.old written)) }
-    ensures keeps { KeepsMade held.old target.old held.new target.new }
-    ensures cause { (faults : ℕ) → IsCaused held.new.end result faults faults }
+    ensures { RunsWithoutSink (c.dp_at (direct false) read addr value dp) held.old target.old held.new target.new result }
 {
     match dp_unit(read, addr, value, dp) {
         Ok(unit) => ask_for_result(read, unit, false, held, target),
@@ -83,9 +76,7 @@ pub(crate) fn access_dp(
     held: &mut DirectHeld,
     target: &mut Target,
 ) -> Result<u64, Stopped>
-    ensures gives { (written : Option (List ℕ)) → MeansDirect held.new.end result (state_of held.new target.new written) (c.dp_register (direct false) read addr value (state_of held.old target.old written)) }
-    ensures keeps { KeepsMade held.old target.old held.new target.new }
-    ensures cause { (faults : ℕ) → IsCaused held.new.end result faults faults }
+    ensures { RunsWithoutSink (c.dp_register (direct false) read addr value) held.old target.old held.new target.new result }
 {
     access_dp_at(read, addr, value, debug_port(held), held, target)
 }

@@ -1,14 +1,12 @@
 //! Steps and statements.
-ghost use Rattle.std.specs.Prelude.{◌≡◌, [], ◌∷◌, ◌++◌, Bool, false, unwrap_or, option_map, List, Option, ℕ, ◌<◌, ◌≤◌};
-ghost use Rattle.expr_grammar.specs.Tree.{tree, arg_tree, arg_trees, stmt_tree, code_trees};
 ghost use Rattle.sequence_trees.specs.Trees.{step_tree, steps_tree};
-ghost use Rattle.sequence_rules.specs.Direct.{direct};
 ghost use Rattle.target_machine.specs.State.{TargetState};
+ghost use Rattle.sequence_rules.specs.Direct.{direct};
 ghost use Rattle.sequence_rules.specs.Steps as m;
-ghost use Rattle.sequence_rules.specs.Values as v;
-ghost use Rattle.sequence_rules.specs.Known.{Knows};
-ghost use Rattle.sequence_meaning.specs.Frame.{Keeps, KeepsMade};
-ghost use Rattle.sequence_meaning.specs.Held.{IsCaused, MeansDirect, calls_of, seen, state_of};
+ghost use Rattle.std.specs.Prelude.{false};
+ghost use Rattle.sequence_meaning.specs.Frame.{RunsDirect, RunsWithoutSink};
+ghost use Rattle.sequence_meaning.specs.Parts.{block_of, declaration_of, plain_of, statement_of, step_of, steps_of};
+ghost use Rattle.expr_grammar.specs.Tree.{code_trees, stmt_tree, tree};
 
 use crate::end::{DirectEnd, Stopped};
 use crate::held::DirectHeld;
@@ -22,7 +20,7 @@ use target_machine::{HaltCause, Target};
 impl DirectRunner<'_> {
     // Steps, in order.
     #[cycle(eval)]
-    #[tactic(auto, unfolding(sequence_rules::specs::Steps::steps_result), using(crate::proofs::Loops::loops, crate::proofs::FrameLemmas::frames))]
+    #[tactic(auto, unfolding(sequence_rules::specs::Steps::steps_result), using(crate::proofs::Loops::loops))]
     pub(crate) fn run_steps<K: Sink>(
         &self,
         steps: &[CheckedStep],
@@ -31,9 +29,8 @@ impl DirectRunner<'_> {
         target: &mut Target,
         sink: &mut K,
     ) -> Result<(), Stopped>
-        ensures gives { (known : Bool) → Knows known (K.written sink.old) → MeansDirect held.new.end result (seen known held.new target.new (K.written sink.new)) (m.steps_result (direct false) self.now.turn_us (calls_of self.now depth) (steps_tree steps.now) (seen known held.old target.old (K.written sink.old))) }
-        ensures keeps { Keeps K.written held.old target.old sink.old held.new target.new sink.new }
-        ensures cause { IsCaused held.new.end result (K.faults sink.old) (K.faults sink.new) }
+        ensures { RunsDirect (steps_of self.now depth (steps_tree steps.now))
+            K.written K.faults held.old target.old sink.old held.new target.new sink.new result }
     {
         for one in steps {
             match self.run_step(one, depth, held, target, sink) {
@@ -55,9 +52,8 @@ impl DirectRunner<'_> {
         target: &mut Target,
         sink: &mut K,
     ) -> Result<(), Stopped>
-        ensures gives { (known : Bool) → Knows known (K.written sink.old) → MeansDirect held.new.end result (seen known held.new target.new (K.written sink.new)) (m.step (direct false) self.now.turn_us (calls_of self.now depth) (step_tree one.now) (seen known held.old target.old (K.written sink.old))) }
-        ensures keeps { Keeps K.written held.old target.old sink.old held.new target.new sink.new }
-        ensures cause { IsCaused held.new.end result (K.faults sink.old) (K.faults sink.new) }
+        ensures { RunsDirect (step_of self.now depth (step_tree one.now))
+            K.written K.faults held.old target.old sink.old held.new target.new sink.new result }
     {
         match one {
             CheckedStep::Block(code) => self.run_block(code.as_slice(), depth, held, target, sink),
@@ -81,7 +77,7 @@ impl DirectRunner<'_> {
 
     // The statements of a block, in order.
     #[cycle(eval)]
-    #[tactic(auto, unfolding(sequence_rules::specs::Steps::block), using(crate::proofs::Loops::loops, crate::proofs::FrameLemmas::frames))]
+    #[tactic(auto, unfolding(sequence_rules::specs::Steps::block), using(crate::proofs::Loops::loops))]
     fn run_block<K: Sink>(
         &self,
         code: &[Stmt],
@@ -90,9 +86,8 @@ impl DirectRunner<'_> {
         target: &mut Target,
         sink: &mut K,
     ) -> Result<(), Stopped>
-        ensures gives { (known : Bool) → Knows known (K.written sink.old) → MeansDirect held.new.end result (seen known held.new target.new (K.written sink.new)) (m.block (direct false) self.now.turn_us (calls_of self.now depth) (code_trees code.now) (seen known held.old target.old (K.written sink.old))) }
-        ensures keeps { Keeps K.written held.old target.old sink.old held.new target.new sink.new }
-        ensures cause { IsCaused held.new.end result (K.faults sink.old) (K.faults sink.new) }
+        ensures { RunsDirect (block_of self.now depth (code_trees code.now))
+            K.written K.faults held.old target.old sink.old held.new target.new sink.new result }
     {
         for one in code {
             match self.run_statement(one, depth, held, target, sink) {
@@ -114,9 +109,8 @@ impl DirectRunner<'_> {
         target: &mut Target,
         sink: &mut K,
     ) -> Result<(), Stopped>
-        ensures gives { (known : Bool) → Knows known (K.written sink.old) → MeansDirect held.new.end result (seen known held.new target.new (K.written sink.new)) (m.statement (direct false) self.now.turn_us (calls_of self.now depth) (stmt_tree one.now) (seen known held.old target.old (K.written sink.old))) }
-        ensures keeps { Keeps K.written held.old target.old sink.old held.new target.new sink.new }
-        ensures cause { IsCaused held.new.end result (K.faults sink.old) (K.faults sink.new) }
+        ensures { RunsDirect (statement_of self.now depth (stmt_tree one.now))
+            K.written K.faults held.old target.old sink.old held.new target.new sink.new result }
     {
         match one {
             Stmt::Empty(_) => count_step(held),
@@ -127,7 +121,6 @@ impl DirectRunner<'_> {
 
     // A declaration.
     #[cycle(eval)]
-    #[tactic(auto, unfolding(sequence_rules::specs::Steps::after_counted, sequence_rules::specs::Steps::declared), using(crate::proofs::StopLemmas::declare_first, crate::proofs::StopLemmas::declare_value, crate::proofs::StopLemmas::declare_refused, crate::proofs::Loops::declared_on, crate::proofs::FrameLemmas::frames))]
     fn declare<K: Sink>(
         &self,
         name: &Name,
@@ -137,9 +130,8 @@ impl DirectRunner<'_> {
         target: &mut Target,
         sink: &mut K,
     ) -> Result<(), Stopped>
-        ensures gives { (known : Bool) → Knows known (K.written sink.old) → MeansDirect held.new.end result (seen known held.new target.new (K.written sink.new)) (m.after_counted (direct false) (λ r. m.declared (direct false) name.now (v.value (direct false) (calls_of self.now depth) (tree expr.now) r)) (seen known held.old target.old (K.written sink.old))) }
-        ensures keeps { Keeps K.written held.old target.old sink.old held.new target.new sink.new }
-        ensures cause { IsCaused held.new.end result (K.faults sink.old) (K.faults sink.new) }
+        ensures { RunsDirect (declaration_of self.now depth name.now (tree expr.now))
+            K.written K.faults held.old target.old sink.old held.new target.new sink.new result }
     {
         match count_step(held) {
             Ok(()) => {}
@@ -160,7 +152,6 @@ impl DirectRunner<'_> {
 
     // An expression whose value is dropped.
     #[cycle(eval)]
-    #[tactic(auto, unfolding(sequence_rules::specs::Steps::after_counted, sequence_rules::specs::Steps::dropped), using(crate::proofs::StopLemmas::plain_first, crate::proofs::StopLemmas::plain_value, crate::proofs::FrameLemmas::frames))]
     fn run_expression<K: Sink>(
         &self,
         expr: &Expr,
@@ -169,9 +160,8 @@ impl DirectRunner<'_> {
         target: &mut Target,
         sink: &mut K,
     ) -> Result<(), Stopped>
-        ensures gives { (known : Bool) → Knows known (K.written sink.old) → MeansDirect held.new.end result (seen known held.new target.new (K.written sink.new)) (m.after_counted (direct false) (λ r. m.dropped (direct false) (v.value (direct false) (calls_of self.now depth) (tree expr.now) r)) (seen known held.old target.old (K.written sink.old))) }
-        ensures keeps { Keeps K.written held.old target.old sink.old held.new target.new sink.new }
-        ensures cause { IsCaused held.new.end result (K.faults sink.old) (K.faults sink.new) }
+        ensures { RunsDirect (plain_of self.now depth (tree expr.now))
+            K.written K.faults held.old target.old sink.old held.new target.new sink.new result }
     {
         match count_step(held) {
             Ok(()) => {}
@@ -187,9 +177,7 @@ impl DirectRunner<'_> {
 // Counts a step.
 #[tactic(auto, unfolding(sequence_rules::specs::Steps::counted))]
 pub(crate) fn count_step(held: &mut DirectHeld) -> Result<(), Stopped>
-    ensures gives { (target : TargetState) (written : Option (List ℕ)) → MeansDirect held.new.end result (state_of held.new target written) (m.counted (direct false) (state_of held.old target written)) }
-    ensures keeps { (target : TargetState) → KeepsMade held.old target held.new target }
-    ensures cause { (faults : ℕ) → IsCaused held.new.end result faults faults }
+    ensures { (target : TargetState) → RunsWithoutSink (m.counted (direct false)) held.old target held.new target result }
 {
     if held.steps >= MOST_STEPS {
         held.end = DirectEnd::Halted(HaltCause::StepLimit);

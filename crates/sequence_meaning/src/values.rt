@@ -1,14 +1,9 @@
 //! The values of expressions.
-ghost use Rattle.std.specs.Prelude.{◌≡◌, [], ◌∷◌, ◌++◌, Bool, false, unwrap_or, option_map, List, Option, ℕ, ◌<◌, ◌≤◌};
 ghost use Rattle.expr_grammar.specs.Arithmetic.{truth};
-ghost use Rattle.expr_grammar.specs.Tree.{tree, arg_tree, arg_trees, stmt_tree, code_trees};
-ghost use Rattle.sequence_trees.specs.Trees.{step_tree, steps_tree};
-ghost use Rattle.sequence_rules.specs.Direct.{direct};
-ghost use Rattle.sequence_rules.specs.Steps as m;
-ghost use Rattle.sequence_rules.specs.Values as v;
-ghost use Rattle.sequence_rules.specs.Known.{Knows};
-ghost use Rattle.sequence_meaning.specs.Frame.{Keeps};
-ghost use Rattle.sequence_meaning.specs.Held.{IsCaused, MeansDirect, calls_of, seen};
+ghost use Rattle.std.specs.Prelude.{◌≡◌};
+ghost use Rattle.sequence_meaning.specs.Frame.{RunsDirect};
+ghost use Rattle.sequence_meaning.specs.Parts.{and_of, assignment_of, binary_of, choice_of, or_of, strict_of, unary_of, value_of};
+ghost use Rattle.expr_grammar.specs.Tree.{tree};
 
 use crate::end::{DirectEnd, Stopped};
 use crate::held::DirectHeld;
@@ -20,7 +15,7 @@ use target_machine::{HaltCause, Target};
 impl DirectRunner<'_> {
     // The value of an expression.
     #[cycle(eval)]
-    #[tactic(auto, unfolding(sequence_rules::specs::Values::value, sequence_rules::specs::Values::named, sequence_rules::specs::Calls::given, sequence_rules::specs::Calls::missing, sequence_rules::specs::Direct::direct))]
+    #[tactic(auto, unfolding(crate::proofs::Opened::expressions))]
     pub(crate) fn evaluate<K: Sink>(
         &self,
         expr: &Expr,
@@ -29,9 +24,8 @@ impl DirectRunner<'_> {
         target: &mut Target,
         sink: &mut K,
     ) -> Result<u64, Stopped>
-        ensures gives { (known : Bool) → Knows known (K.written sink.old) → MeansDirect held.new.end result (seen known held.new target.new (K.written sink.new)) (v.value (direct false) (calls_of self.now depth) (tree expr.now) (seen known held.old target.old (K.written sink.old))) }
-        ensures keeps { Keeps K.written held.old target.old sink.old held.new target.new sink.new }
-        ensures cause { IsCaused held.new.end result (K.faults sink.old) (K.faults sink.new) }
+        ensures { RunsDirect (value_of self.now depth (tree expr.now))
+            K.written K.faults held.old target.old sink.old held.new target.new sink.new result }
     {
         match expr {
             Expr::Number(number) => Ok(*number),
@@ -60,7 +54,7 @@ impl DirectRunner<'_> {
 
     // The value of an operand or an argument. Most are numbers or names, which are taken here, without a call for each.
     #[cycle(eval)]
-    #[tactic(auto, unfolding(sequence_rules::specs::Values::value, sequence_rules::specs::Values::named, sequence_rules::specs::Calls::given, sequence_rules::specs::Calls::missing, sequence_rules::specs::Direct::direct))]
+    #[tactic(auto, unfolding(crate::proofs::Opened::expressions))]
     pub(crate) fn evaluate_operand<K: Sink>(
         &self,
         expr: &Expr,
@@ -69,9 +63,8 @@ impl DirectRunner<'_> {
         target: &mut Target,
         sink: &mut K,
     ) -> Result<u64, Stopped>
-        ensures gives { (known : Bool) → Knows known (K.written sink.old) → MeansDirect held.new.end result (seen known held.new target.new (K.written sink.new)) (v.value (direct false) (calls_of self.now depth) (tree expr.now) (seen known held.old target.old (K.written sink.old))) }
-        ensures keeps { Keeps K.written held.old target.old sink.old held.new target.new sink.new }
-        ensures cause { IsCaused held.new.end result (K.faults sink.old) (K.faults sink.new) }
+        ensures { RunsDirect (value_of self.now depth (tree expr.now))
+            K.written K.faults held.old target.old sink.old held.new target.new sink.new result }
     {
         match expr {
             Expr::Number(number) => Ok(*number),
@@ -82,7 +75,7 @@ impl DirectRunner<'_> {
 
     // An operator before its operand.
     #[cycle(eval)]
-    #[tactic(auto, unfolding(sequence_rules::specs::Values::of_unary, sequence_rules::specs::Values::used_now, sequence_rules::specs::Calls::use_now, sequence_rules::specs::Direct::direct), using(crate::proofs::StopLemmas::ends_unary, crate::proofs::FrameLemmas::frames))]
+    #[tactic(auto, unfolding(crate::proofs::Opened::unary_operators), using(crate::proofs::StopLemmas::unary_ends))]
     fn evaluate_unary<K: Sink>(
         &self,
         op: UnaryOp,
@@ -92,9 +85,8 @@ impl DirectRunner<'_> {
         target: &mut Target,
         sink: &mut K,
     ) -> Result<u64, Stopped>
-        ensures gives { (known : Bool) → Knows known (K.written sink.old) → MeansDirect held.new.end result (seen known held.new target.new (K.written sink.new)) (v.of_unary (direct false) op (v.value (direct false) (calls_of self.now depth) (tree operand.now) (seen known held.old target.old (K.written sink.old)))) }
-        ensures keeps { Keeps K.written held.old target.old sink.old held.new target.new sink.new }
-        ensures cause { IsCaused held.new.end result (K.faults sink.old) (K.faults sink.new) }
+        ensures { RunsDirect (unary_of self.now depth op (tree operand.now))
+            K.written K.faults held.old target.old sink.old held.new target.new sink.new result }
     {
         let number = self.evaluate(operand, depth, held, target, sink)?;
         Ok(unary_value(op, number))
@@ -102,7 +94,7 @@ impl DirectRunner<'_> {
 
     // An operator of two operands that are both evaluated.
     #[cycle(eval)]
-    #[tactic(auto, unfolding(sequence_rules::specs::Values::strict_binary, sequence_rules::specs::Values::operands, sequence_rules::specs::Values::both, sequence_rules::specs::Values::result_of, sequence_rules::specs::Calls::use_now, sequence_rules::specs::Direct::direct), using(crate::proofs::StopLemmas::ends_left, crate::proofs::StopLemmas::ends_right, crate::proofs::FrameLemmas::frames))]
+    #[tactic(auto, unfolding(crate::proofs::Opened::strict_operators), using(crate::proofs::StopLemmas::strict_ends))]
     fn evaluate_strict<K: Sink>(
         &self,
         op: BinaryOp,
@@ -113,9 +105,8 @@ impl DirectRunner<'_> {
         target: &mut Target,
         sink: &mut K,
     ) -> Result<u64, Stopped>
-        ensures gives { (known : Bool) → Knows known (K.written sink.old) → MeansDirect held.new.end result (seen known held.new target.new (K.written sink.new)) (v.strict_binary (direct false) op (v.value (direct false) (calls_of self.now depth) (tree left.now) (seen known held.old target.old (K.written sink.old))) (v.value (direct false) (calls_of self.now depth) (tree right.now))) }
-        ensures keeps { Keeps K.written held.old target.old sink.old held.new target.new sink.new }
-        ensures cause { IsCaused held.new.end result (K.faults sink.old) (K.faults sink.new) }
+        ensures { RunsDirect (strict_of self.now depth op (tree left.now) (tree right.now))
+            K.written K.faults held.old target.old sink.old held.new target.new sink.new result }
     {
         let left = self.evaluate_operand(left, depth, held, target, sink)?;
         let right = self.evaluate_operand(right, depth, held, target, sink)?;
@@ -130,7 +121,7 @@ impl DirectRunner<'_> {
 
     // The right side counts only where the left one is not 0.
     #[cycle(eval)]
-    #[tactic(auto, unfolding(sequence_rules::specs::Values::conjunction, sequence_rules::specs::Values::used_now, sequence_rules::specs::Values::truth_of, sequence_rules::specs::Calls::use_now, sequence_rules::specs::Direct::direct), using(crate::proofs::StopLemmas::ends_and, crate::proofs::StopLemmas::ends_and_right, crate::proofs::FrameLemmas::frames))]
+    #[tactic(auto, unfolding(crate::proofs::Opened::conjunctions), using(crate::proofs::StopLemmas::and_ends))]
     fn evaluate_and<K: Sink>(
         &self,
         left: &Expr,
@@ -140,9 +131,8 @@ impl DirectRunner<'_> {
         target: &mut Target,
         sink: &mut K,
     ) -> Result<u64, Stopped>
-        ensures gives { (known : Bool) → Knows known (K.written sink.old) → MeansDirect held.new.end result (seen known held.new target.new (K.written sink.new)) (v.conjunction (direct false) (v.value (direct false) (calls_of self.now depth) (tree left.now) (seen known held.old target.old (K.written sink.old))) (v.value (direct false) (calls_of self.now depth) (tree right.now))) }
-        ensures keeps { Keeps K.written held.old target.old sink.old held.new target.new sink.new }
-        ensures cause { IsCaused held.new.end result (K.faults sink.old) (K.faults sink.new) }
+        ensures { RunsDirect (and_of self.now depth (tree left.now) (tree right.now))
+            K.written K.faults held.old target.old sink.old held.new target.new sink.new result }
     {
         if self.evaluate(left, depth, held, target, sink)? == 0 {
             return Ok(0);
@@ -153,7 +143,7 @@ impl DirectRunner<'_> {
 
     // The right side counts only where the left one is 0.
     #[cycle(eval)]
-    #[tactic(auto, unfolding(sequence_rules::specs::Values::disjunction, sequence_rules::specs::Values::used_now, sequence_rules::specs::Values::truth_of, sequence_rules::specs::Calls::use_now, sequence_rules::specs::Direct::direct), using(crate::proofs::StopLemmas::ends_or, crate::proofs::StopLemmas::ends_or_right, crate::proofs::FrameLemmas::frames))]
+    #[tactic(auto, unfolding(crate::proofs::Opened::disjunctions), using(crate::proofs::StopLemmas::or_ends))]
     fn evaluate_or<K: Sink>(
         &self,
         left: &Expr,
@@ -163,9 +153,8 @@ impl DirectRunner<'_> {
         target: &mut Target,
         sink: &mut K,
     ) -> Result<u64, Stopped>
-        ensures gives { (known : Bool) → Knows known (K.written sink.old) → MeansDirect held.new.end result (seen known held.new target.new (K.written sink.new)) (v.disjunction (direct false) (v.value (direct false) (calls_of self.now depth) (tree left.now) (seen known held.old target.old (K.written sink.old))) (v.value (direct false) (calls_of self.now depth) (tree right.now))) }
-        ensures keeps { Keeps K.written held.old target.old sink.old held.new target.new sink.new }
-        ensures cause { IsCaused held.new.end result (K.faults sink.old) (K.faults sink.new) }
+        ensures { RunsDirect (or_of self.now depth (tree left.now) (tree right.now))
+            K.written K.faults held.old target.old sink.old held.new target.new sink.new result }
     {
         if self.evaluate(left, depth, held, target, sink)? != 0 {
             return Ok(1);
@@ -187,9 +176,8 @@ impl DirectRunner<'_> {
         target: &mut Target,
         sink: &mut K,
     ) -> Result<u64, Stopped>
-        ensures gives { (known : Bool) → Knows known (K.written sink.old) → MeansDirect held.new.end result (seen known held.new target.new (K.written sink.new)) (v.of_binary (direct false) op (v.value (direct false) (calls_of self.now depth) (tree left.now) (seen known held.old target.old (K.written sink.old))) (v.value (direct false) (calls_of self.now depth) (tree right.now))) }
-        ensures keeps { Keeps K.written held.old target.old sink.old held.new target.new sink.new }
-        ensures cause { IsCaused held.new.end result (K.faults sink.old) (K.faults sink.new) }
+        ensures { RunsDirect (binary_of self.now depth op (tree left.now) (tree right.now))
+            K.written K.faults held.old target.old sink.old held.new target.new sink.new result }
     {
         match op {
             BinaryOp::And => self.evaluate_and(left, right, depth, held, target, sink),
@@ -200,7 +188,7 @@ impl DirectRunner<'_> {
 
     // One of two, by a condition.
     #[cycle(eval)]
-    #[tactic(auto, unfolding(sequence_rules::specs::Values::choice, sequence_rules::specs::Values::used_now, sequence_rules::specs::Calls::use_now, sequence_rules::specs::Direct::direct), using(crate::proofs::StopLemmas::ends_choice, crate::proofs::FrameLemmas::frames))]
+    #[tactic(auto, unfolding(crate::proofs::Opened::choices), using(crate::proofs::StopLemmas::choice_ends))]
     fn evaluate_choice<K: Sink>(
         &self,
         test: &Expr,
@@ -211,9 +199,8 @@ impl DirectRunner<'_> {
         target: &mut Target,
         sink: &mut K,
     ) -> Result<u64, Stopped>
-        ensures gives { (known : Bool) → Knows known (K.written sink.old) → MeansDirect held.new.end result (seen known held.new target.new (K.written sink.new)) (v.choice (direct false) (v.value (direct false) (calls_of self.now depth) (tree test.now) (seen known held.old target.old (K.written sink.old))) (v.value (direct false) (calls_of self.now depth) (tree first.now)) (v.value (direct false) (calls_of self.now depth) (tree second.now))) }
-        ensures keeps { Keeps K.written held.old target.old sink.old held.new target.new sink.new }
-        ensures cause { IsCaused held.new.end result (K.faults sink.old) (K.faults sink.new) }
+        ensures { RunsDirect (choice_of self.now depth (tree test.now) (tree first.now) (tree second.now))
+            K.written K.faults held.old target.old sink.old held.new target.new sink.new result }
     {
         if self.evaluate(test, depth, held, target, sink)? == 0 {
             self.evaluate(second, depth, held, target, sink)
@@ -224,7 +211,7 @@ impl DirectRunner<'_> {
 
     // An assignment.
     #[cycle(eval)]
-    #[tactic(auto, unfolding(sequence_rules::specs::Values::assigned, sequence_rules::specs::Values::stored, sequence_rules::specs::Calls::guarded, sequence_rules::specs::Direct::direct), using(crate::proofs::StopLemmas::ends_assigned, crate::proofs::FrameLemmas::frames))]
+    #[tactic(auto, using(crate::proofs::StopLemmas::assignment_ends))]
     fn assign<K: Sink>(
         &self,
         name: &Name,
@@ -234,9 +221,8 @@ impl DirectRunner<'_> {
         target: &mut Target,
         sink: &mut K,
     ) -> Result<u64, Stopped>
-        ensures gives { (known : Bool) → Knows known (K.written sink.old) → MeansDirect held.new.end result (seen known held.new target.new (K.written sink.new)) (v.assigned (direct false) name.now (v.value (direct false) (calls_of self.now depth) (tree right.now) (seen known held.old target.old (K.written sink.old)))) }
-        ensures keeps { Keeps K.written held.old target.old sink.old held.new target.new sink.new }
-        ensures cause { IsCaused held.new.end result (K.faults sink.old) (K.faults sink.new) }
+        ensures { RunsDirect (assignment_of self.now depth name.now (tree right.now))
+            K.written K.faults held.old target.old sink.old held.new target.new sink.new result }
     {
         let number = self.evaluate(right, depth, held, target, sink)?;
         held.store(name.text.as_str(), number);

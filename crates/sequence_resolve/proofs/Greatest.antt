@@ -1,22 +1,16 @@
 -- Candidates put one after another leave the greatest of each name.
 use Rattle.std.proofs.Common.{◌≡◌, ℕ, ◌<◌, ◌≤◌, Bool, true, false, cond, nat_le, List, [], ◌∷◌, ◌++◌, map, bytes_eq, refl, ap, sym, subst, ◌∙◌, arith, append_assoc, true≢false, ◌||◌}
-use Rattle.std.proofs.lemmas.Bool.{leb-true, leb-false}
-use Rattle.std.proofs.lemmas.Slice.Eq.{bytes_eq-Decides}
+use Rattle.std.proofs.lemmas.Bool.{leb-true, leb-false, or_parts}
 use Rattle.std.proofs.lemmas.List.{append-nil}
 use Rattle.std.specs.List.{AllByRecursion, list_any, IsDistinct}
 use Rattle.sequence_resolve.specs.Effective.{Candidate, name_added, names_after, NoneAbove, AllBelow, Wins, AreWinners, entry_of}
 use Rattle.sequence_resolve.specs.Winners.{with_candidate, with_all}
+use Rattle.dap_base.proofs.Basics.{text_itself, same_text}
 
 abbrev pub names_of : List Candidate → List (List ℕ)
 names_of ws = map (λ w. w.sequence.name) ws
 
 -- ---- the names
-
-same_name : (xs ys : List ℕ) → bytes_eq xs ys ≡ true → xs ≡ ys
-same_name xs ys e = (bytes_eq-Decides xs ys).0 e
-
-itself : (xs : List ℕ) → bytes_eq xs xs ≡ true
-itself xs = (bytes_eq-Decides xs xs).1 refl
 
 kept_name : (over : Bool) (c w : Candidate) (ws : List Candidate) → c.sequence.name ≡ w.sequence.name → names_of (cond over c w ∷ ws) ≡ names_of (w ∷ ws)
 kept_name true c w ws e = ap (λ n. n ∷ names_of ws) e
@@ -24,7 +18,7 @@ kept_name false c w ws e = refl
 
 names_at : (b : Bool) (c w : Candidate) (ws rest : List Candidate) (more : List (List ℕ)) → bytes_eq c.sequence.name w.sequence.name ≡ b → names_of rest ≡ more
     → names_of (cond b (cond (nat_le w.rank c.rank) c w ∷ ws) (w ∷ rest)) ≡ cond b (w.sequence.name ∷ names_of ws) (w.sequence.name ∷ more)
-names_at true c w ws rest more is e = kept_name (nat_le w.rank c.rank) c w ws (same_name _ _ is)
+names_at true c w ws rest more is e = kept_name (nat_le w.rank c.rank) c w ws (same_text _ _ is)
 names_at false c w ws rest more is e = ap (λ ns. w.sequence.name ∷ ns) e
 
 names-with_candidate : (ws : List Candidate) (c : Candidate) → names_of (with_candidate ws c) ≡ name_added (names_of ws) c.sequence.name
@@ -65,15 +59,11 @@ stays cs c w h below = record {
   last = AllBelow-append h.after c w h.last below;
 }
 
-or_false : (a b : Bool) → a || b ≡ false → (a ≡ false) × (b ≡ false)
-or_false true b e = absurd cc
-or_false false b e = (refl, e)
-
 -- the winners of other names
 all_stay : (cs : List Candidate) (c : Candidate) (ws : List Candidate) → AllByRecursion (Wins cs) ws → list_any (bytes_eq c.sequence.name) (names_of ws) ≡ false → AllByRecursion (Wins (cs ++ c ∷ [])) ws
 all_stay cs c [] h other = tt
 all_stay cs c (w ∷ ws) h other =
-    let apart = or_false (bytes_eq c.sequence.name w.sequence.name) (list_any (bytes_eq c.sequence.name) (names_of ws)) other in
+    let apart = or_parts (bytes_eq c.sequence.name w.sequence.name) (list_any (bytes_eq c.sequence.name) (names_of ws)) other in
     (stays cs c w h.0 (λ e. absurd (true≢false (sym e ∙ apart.0))), all_stay cs c ws h.1 apart.1)
 
 -- none stands above a candidate that no winner of its name stands above
@@ -104,7 +94,7 @@ Covers names (c ∷ cs) = (list_any (bytes_eq c.sequence.name) names ≡ true) �
 NoneAbove-absent : (names : List (List ℕ)) (cs : List Candidate) (c : Candidate) → Covers names cs → list_any (bytes_eq c.sequence.name) names ≡ false → NoneAbove cs c
 NoneAbove-absent names [] c h absent = tt
 NoneAbove-absent names (x ∷ cs) c h absent =
-    let first : bytes_eq x.sequence.name c.sequence.name ≡ true → x.rank ≤ c.rank = λ is. absurd (true≢false (sym (subst (λ n. list_any (bytes_eq n) names ≡ true) (same_name _ _ is) h.0) ∙ absent)) in
+    let first : bytes_eq x.sequence.name c.sequence.name ≡ true → x.rank ≤ c.rank = λ is. absurd (true≢false (sym (subst (λ n. list_any (bytes_eq n) names ≡ true) (same_text _ _ is) h.0) ∙ absent)) in
     (first, NoneAbove-absent names cs c h.1 absent)
 
 -- ---- one more candidate
@@ -115,7 +105,7 @@ Every cs ws = AllByRecursion (Wins cs) ws
 one_more_at : (b : Bool) (cs : List Candidate) (c w : Candidate) (ws rest : List Candidate) → bytes_eq c.sequence.name w.sequence.name ≡ b → Wins cs w → Every cs ws → list_any (bytes_eq w.sequence.name) (names_of ws) ≡ false
     → (b ≡ false → Every (cs ++ c ∷ []) rest) → Every (cs ++ c ∷ []) (cond b (cond (nat_le w.rank c.rank) c w ∷ ws) (w ∷ rest))
 one_more_at true cs c w ws rest is h each apart later =
-    let e = same_name c.sequence.name w.sequence.name is in
+    let e = same_text c.sequence.name w.sequence.name is in
     (wins_of_two (nat_le w.rank c.rank) cs c w refl e h, all_stay cs c ws each (subst (λ n. list_any (bytes_eq n) (names_of ws) ≡ false) (sym e) apart))
 one_more_at false cs c w ws rest is h each apart later = (stays cs c w h (λ e. absurd (true≢false (sym e ∙ is))), later refl)
 
@@ -129,14 +119,14 @@ one_more cs (w ∷ ws) c each apart absent =
 
 added_lacks_at : (b : Bool) (n m k : List ℕ) (ns rest : List (List ℕ)) → bytes_eq n k || list_any (bytes_eq n) ns ≡ false → list_any (bytes_eq n) rest ≡ false → list_any (bytes_eq n) (cond b (k ∷ ns) (k ∷ rest)) ≡ false
 added_lacks_at true n m k ns rest h later = h
-added_lacks_at false n m k ns rest h later = rw ((or_false (bytes_eq n k) (list_any (bytes_eq n) ns) h).0, later) refl
+added_lacks_at false n m k ns rest h later = rw ((or_parts (bytes_eq n k) (list_any (bytes_eq n) ns) h).0, later) refl
 
 added_lacks : (ns : List (List ℕ)) (n m : List ℕ) → list_any (bytes_eq n) ns ≡ false → bytes_eq n m ≡ false → list_any (bytes_eq n) (name_added ns m) ≡ false
 added_lacks [] n m h apart = rw apart refl
-added_lacks (k ∷ ns) n m h apart = added_lacks_at (bytes_eq m k) n m k ns (name_added ns m) h (added_lacks ns n m (or_false (bytes_eq n k) (list_any (bytes_eq n) ns) h).1 apart)
+added_lacks (k ∷ ns) n m h apart = added_lacks_at (bytes_eq m k) n m k ns (name_added ns m) h (added_lacks ns n m (or_parts (bytes_eq n k) (list_any (bytes_eq n) ns) h).1 apart)
 
 apart_sym_at : (b : Bool) (n m : List ℕ) → bytes_eq m n ≡ b → bytes_eq n m ≡ false → b ≡ false
-apart_sym_at true n m is h = absurd (true≢false (sym (subst (λ k. bytes_eq n k ≡ true) (sym (same_name m n is)) (itself n)) ∙ h))
+apart_sym_at true n m is h = absurd (true≢false (sym (subst (λ k. bytes_eq n k ≡ true) (sym (same_text m n is)) (text_itself n)) ∙ h))
 apart_sym_at false n m is h = refl
 
 distinct_added_at : (b : Bool) (n m : List ℕ) (ns : List (List ℕ)) → bytes_eq m n ≡ b → Distinct (n ∷ ns) → Distinct (name_added ns m) → Distinct (cond b (n ∷ ns) (n ∷ name_added ns m))
@@ -166,7 +156,7 @@ added_itself_at true m k ns rest is later = rw is refl
 added_itself_at false m k ns rest is later = rw (is, later) refl
 
 added_itself : (ns : List (List ℕ)) (m : List ℕ) → list_any (bytes_eq m) (name_added ns m) ≡ true
-added_itself [] m = rw (itself m) refl
+added_itself [] m = rw (text_itself m) refl
 added_itself (k ∷ ns) m = added_itself_at (bytes_eq m k) m k ns (name_added ns m) refl (added_itself ns m)
 
 covers_added : (ns : List (List ℕ)) (cs : List Candidate) (c : Candidate) → Covers ns cs → Covers (name_added ns c.sequence.name) (cs ++ c ∷ [])
@@ -200,7 +190,7 @@ effective-with_all cs =
 
 none_same : (name : List ℕ) (ns : List (List ℕ)) → list_any (bytes_eq name) ns ≡ false → AllByRecursion (λ other. bytes_eq name other ≡ false) ns
 none_same name [] h = tt
-none_same name (n ∷ ns) h = let a = or_false (bytes_eq name n) (list_any (bytes_eq name) ns) h in (a.0, none_same name ns a.1)
+none_same name (n ∷ ns) h = let a = or_parts (bytes_eq name n) (list_any (bytes_eq name) ns) h in (a.0, none_same name ns a.1)
 
 distinct_names : (ns : List (List ℕ)) → Distinct ns → IsDistinct bytes_eq ns
 unfolding IsDistinct

@@ -12,6 +12,7 @@ use Rattle.sequence_resolve.specs.Levels.{LevelAt, path_of, deepest}
 use Rattle.sequence_resolve.specs.Effective.{Candidate, NoneAbove, AllBelow, Wins, AreWinners, candidates, entry_of}
 use Rattle.sequence_resolve.specs.Resolving.{IsSetAlong, IsEffectiveSet, HasNone}
 use Rattle.sequence_resolve.proofs.Greatest.{names_of}
+use Rattle.dap_base.proofs.Basics.{first_is}
 
 -- ---- one winner of each name
 
@@ -52,15 +53,12 @@ one_division (c ∷ before) after (d ∷ before') after' v w same is above below
 pub one_winner : (cs : List Candidate) (v w : Candidate) → Wins cs v → Wins cs w → v.sequence.name ≡ w.sequence.name → v ≡ w
 one_winner cs v w p q same = one_division p.before p.after q.before q.after v w same (sym p.candidate ∙ q.candidate) p.greatest p.last q.greatest q.last
 
-name_same : (n m : List ℕ) (ns ms : List (List ℕ)) → n ∷ ns ≡ m ∷ ms → (n ≡ m) × (ns ≡ ms)
-name_same n m ns ms e = (cc, cc)
-
 each_same : (cs vs ws : List Candidate) → names_of vs ≡ names_of ws → AllByRecursion (Wins cs) vs → AllByRecursion (Wins cs) ws → vs ≡ ws
 each_same cs [] [] is p q = refl
 each_same cs [] (w ∷ ws) is p q = absurd cc
 each_same cs (v ∷ vs) [] is p q = absurd cc
 each_same cs (v ∷ vs) (w ∷ ws) is p q =
-    let both = name_same v.sequence.name w.sequence.name (names_of vs) (names_of ws) is in
+    let both = first_is v.sequence.name w.sequence.name (names_of vs) (names_of ws) is in
     let first : v ≡ w = one_winner cs v w p.0 q.0 both.0 in
     let rest : vs ≡ ws = each_same cs vs ws both.1 p.1 q.1 in
     cc
@@ -77,7 +75,7 @@ one_place places x y p q = cc
 one_variant : (found : Option (Option Variant)) (x y : Option Variant) → found ≡ Some x → found ≡ Some y → x ≡ y
 one_variant found x y p q = cc
 
-same_set : (x y : SeqSet) → x.entries ≡ y.entries → x.debugvars ≡ y.debugvars → x ≡ y
+pub same_set : (x y : SeqSet) → x.entries ≡ y.entries → x.debugvars ≡ y.debugvars → x ≡ y
 same_set x y p q =
     let first : x ≡ record y { debugvars = x.debugvars } = ap (λ es. record x { entries = es }) p in
     let second : record y { debugvars = x.debugvars } ≡ y = ap (λ text. record y { debugvars = text }) q in

@@ -1,11 +1,11 @@
 -- A candidate, put among the winners.
 use Rattle.std.proofs.Common.{◌≡◌, ℕ, suc, ◌+◌, ◌<◌, Bool, true, false, cond, nat_le, List, [], ◌∷◌, ◌++◌, map, drop, length, get_or, slice_set, Option, Some, None, option_map, bytes_eq, refl, ap, sym, subst, ◌∙◌, arith, drop-cons, add-one, true≢false}
-use Rattle.std.proofs.lemmas.Slice.Eq.{bytes_eq-Decides}
 use Rattle.sequence_resolve.specs.declared.winners.Winner.{Winner}
 use Rattle.sequence_resolve.specs.declared.levels.LevelRef.{LevelRef}
 use Rattle.sequence_resolve.specs.Effective.{Candidate, candidates_at, candidates}
 use Rattle.sequence_resolve.specs.Winners.{has_name, with_candidate, with_all, place_in}
 use Rattle.sequence_resolve.specs.Views.{level_view, winner_view}
+use Rattle.dap_base.proofs.Basics.{text_itself, same_text}
 
 abbrev pub seen : List Winner → List Candidate
 seen ws = map winner_view ws
@@ -19,7 +19,7 @@ first_at : (b : Bool) (rest : Option ℕ) (i : ℕ) → cond b (Some 0) (option_
 first_at true rest i e is = (let same : 0 ≡ i = cc in sym same)
 first_at false rest i e is = absurd (true≢false (sym is))
 
-later_at : (rest : Option ℕ) (i : ℕ) → option_map (λ j. suc j) rest ≡ Some i → (j : ℕ) × (rest ≡ Some j) × (i ≡ suc j)
+pub later_at : (rest : Option ℕ) (i : ℕ) → option_map (λ j. suc j) rest ≡ Some i → (j : ℕ) × (rest ≡ Some j) × (i ≡ suc j)
 later_at None i e = absurd cc
 later_at (Some j) i e = (j, refl, (let same : suc j ≡ i = cc in sym same))
 
@@ -76,7 +76,7 @@ put_there-with_candidate (w ∷ ws) i c d e =
 abbrev Absent : List ℕ → List Winner → Type 0
 Absent name ws = place_in name (seen ws) ≡ None
 
-not_first : (b : Bool) (rest : Option ℕ) → cond b (Some 0) (option_map (λ j. suc j) rest) ≡ None → (b ≡ false) × (rest ≡ None)
+pub not_first : (b : Bool) (rest : Option ℕ) → cond b (Some 0) (option_map (λ j. suc j) rest) ≡ None → (b ≡ false) × (rest ≡ None)
 not_first true rest e = absurd cc
 not_first false None e = (refl, refl)
 not_first false (Some j) e = absurd cc
@@ -89,12 +89,6 @@ last-with_candidate [] c e = refl
 last-with_candidate (w ∷ ws) c e = let a = absent (name_of c) w ws e in rw a.0 (ap (λ xs. winner_view w ∷ xs) (last-with_candidate ws c a.1))
 
 -- ---- the places afterwards
-
-same_text : (xs ys : List ℕ) → bytes_eq xs ys ≡ true → xs ≡ ys
-same_text xs ys e = (bytes_eq-Decides xs ys).0 e
-
-itself : (xs : List ℕ) → bytes_eq xs xs ≡ true
-itself xs = (bytes_eq-Decides xs xs).1 refl
 
 -- a candidate in the place of a winner of its name changes no place
 moved_at : (w : Winner) (ws : List Winner) (i : ℕ) (c : Winner) (name : List ℕ) (b : Bool) → Holds (name_of c) w ws i b
@@ -125,10 +119,10 @@ abbrev here : Option ℕ
 here = Some 0
 
 last_first : (x name : List ℕ) (b : Bool) → bytes_eq x name ≡ b → cond (bytes_eq name x) here None ≡ cond b here None
-last_first x name true is = rw (← same_text x name is, itself x) refl
+last_first x name true is = rw (← same_text x name is, text_itself x) refl
 last_first x name false is = turned (bytes_eq name x) refl where
   turned : (a : Bool) → bytes_eq name x ≡ a → cond a here None ≡ None
-  turned true h = absurd (true≢false (sym (subst (λ n. bytes_eq n name ≡ true) (same_text name x h) (itself name)) ∙ is))
+  turned true h = absurd (true≢false (sym (subst (λ n. bytes_eq n name ≡ true) (same_text name x h) (text_itself name)) ∙ is))
   turned false h = refl
 
 last_later : (b h : Bool) (n : ℕ) (rest found : Option ℕ) → (b ≡ true → h ≡ false) → found ≡ cond b (Some n) rest

@@ -11,7 +11,7 @@ use Rattle.sequence_rules.specs.Laws.{Adds}
 use Rattle.sequence_rules.specs.Steady.{Steady}
 use Rattle.sequence_rules.proofs.LateLemmas.{grows_same, grows_on}
 
-adds_same : (t : Now) → Adds t t
+pub adds_same : (t : Now) → Adds t t
 adds_same t = record { more = []; calls = sym (append-nil t.calls); lines = grows_same t.written }
 
 adds_on : (a b c : Now) → Adds a b → Adds b c → Adds a c

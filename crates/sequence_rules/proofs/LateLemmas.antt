@@ -31,7 +31,7 @@ append_none (Some xs) = ap Some (sym (append-nil xs))
 pub grows_same : (o : Option (List ℕ)) → Grows o o
 grows_same o = record { part = []; same = append_none o }
 
-append_twice : (o : Option (List ℕ)) (xs ys : List ℕ) → option_map (line_after ys) (option_map (line_after xs) o) ≡ option_map (line_after (xs ++ ys)) o
+pub append_twice : (o : Option (List ℕ)) (xs ys : List ℕ) → option_map (line_after ys) (option_map (line_after xs) o) ≡ option_map (line_after (xs ++ ys)) o
 append_twice None xs ys = refl
 append_twice (Some zs) xs ys = ap Some (append_assoc zs xs ys)
 

@@ -22,3 +22,5 @@ pub mod LocalLemmas
 pub mod Rows
 pub mod Sizes
 pub mod SharedLemmas
+pub mod StartLemmas
+pub mod NowLemmas

@@ -2,6 +2,7 @@
 use Rattle.std.proofs.Common.{◌≡◌, ◌∙◌, ◌+◌, ◌-◌, ◌||◌, ℕ, zero, suc, Bool, true, false, cond, List, [], ◌∷◌, ◌++◌, length, take, bytes_eq, Option, None, Some, refl, sym, ap, arith}
 use Rattle.std.proofs.lemmas.List.{length-append}
 use Rattle.std.specs.Option.{option_or}
+use Rattle.std.proofs.Math.Bool.{or-true, or-false}
 use Rattle.sequence_rules.specs.declared.bindings.Binding.{Binding}
 use Rattle.sequence_rules.specs.Variables.{bound, has_in, newest_in, set_newest}
 use Rattle.sequence_rules.proofs.VariableLemmas.{set_newest_none}
@@ -18,14 +19,6 @@ more_of : (p b c : Bool) → cond p true (b || c) ≡ (cond p true b || c)
 more_of true b c = refl
 more_of false b c = refl
 
-or_true : (b : Bool) → (b || true) ≡ true
-or_true true = refl
-or_true false = refl
-
-or_false : (b : Bool) → (b || false) ≡ b
-or_false true = refl
-or_false false = refl
-
 module _ {V : Type 0} where
   pub has_both : (xs ys : List (Binding V)) (n : List ℕ) → has_in (xs ++ ys) n ≡ (has_in xs n || has_in ys n)
   has_both [] ys n = refl
@@ -41,14 +34,14 @@ module _ {V : Type 0} where
   pub set_later : (xs ys : List (Binding V)) (n : List ℕ) (v : V) → has_in ys n ≡ true → set_newest (xs ++ ys) n v ≡ xs ++ set_newest ys n v
   set_later [] ys n v h = refl
   set_later (x ∷ xs) ys n v h =
-      let there : has_in (xs ++ ys) n ≡ true = has_both xs ys n ∙ ap (λ b. has_in xs n || b) h ∙ or_true (has_in xs n) in
+      let there : has_in (xs ++ ys) n ≡ true = has_both xs ys n ∙ ap (λ b. has_in xs n || b) h ∙ or-true (has_in xs n) in
       rw there (ap (λ zs. x ∷ zs) (set_later xs ys n v h))
 
   -- where none of the later ones has it
   pub set_earlier : (xs ys : List (Binding V)) (n : List ℕ) (v : V) → has_in ys n ≡ false → set_newest (xs ++ ys) n v ≡ set_newest xs n v ++ ys
   set_earlier [] ys n v h = set_newest_none ys n v h
   set_earlier (x ∷ xs) ys n v h =
-      let same : has_in (xs ++ ys) n ≡ has_in xs n = has_both xs ys n ∙ ap (λ b. has_in xs n || b) h ∙ or_false (has_in xs n) in
+      let same : has_in (xs ++ ys) n ≡ has_in xs n = has_both xs ys n ∙ ap (λ b. has_in xs n || b) h ∙ or-false (has_in xs n) in
       rw same (one (has_in xs n) (bytes_eq n x.name) (set_earlier xs ys n v h))
     where
       one : (p q : Bool) → set_newest (xs ++ ys) n v ≡ set_newest xs n v ++ ys
@@ -71,15 +64,15 @@ module _ {V : Type 0} where
       h ∙ sym (newest_both (a ++ b) c n ∙ ap (λ p. option_or p (newest_in (a ++ b) n)) (sym none) ∙ newest_both a b n ∙ ap (λ p. option_or p (newest_in a n)) (sym none_before))
 
   pub has_last : (a b c : List (Binding V)) (n : List ℕ) → has_in c n ≡ true → has_in (a ++ b ++ c) n ≡ true
-  has_last a b c n h = has_both (a ++ b) c n ∙ ap (λ p. has_in (a ++ b) n || p) h ∙ or_true (has_in (a ++ b) n)
+  has_last a b c n h = has_both (a ++ b) c n ∙ ap (λ p. has_in (a ++ b) n || p) h ∙ or-true (has_in (a ++ b) n)
 
   pub has_middle : (a b c : List (Binding V)) (n : List ℕ) → has_in b n ≡ true → has_in (a ++ b ++ c) n ≡ true
-  has_middle a b c n h = has_both (a ++ b) c n ∙ ap (λ p. p || has_in c n) (has_both a b n ∙ ap (λ p. has_in a n || p) h ∙ or_true (has_in a n))
+  has_middle a b c n h = has_both (a ++ b) c n ∙ ap (λ p. p || has_in c n) (has_both a b n ∙ ap (λ p. has_in a n || p) h ∙ or-true (has_in a n))
 
   pub has_first : (a b c : List (Binding V)) (n : List ℕ) → has_in c n ≡ false → has_in b n ≡ false → has_in (a ++ b ++ c) n ≡ has_in a n
   has_first a b c n none none_before =
-      has_both (a ++ b) c n ∙ ap (λ p. has_in (a ++ b) n || p) none ∙ or_false (has_in (a ++ b) n)
-      ∙ has_both a b n ∙ ap (λ p. has_in a n || p) none_before ∙ or_false (has_in a n)
+      has_both (a ++ b) c n ∙ ap (λ p. has_in (a ++ b) n || p) none ∙ or-false (has_in (a ++ b) n)
+      ∙ has_both a b n ∙ ap (λ p. has_in a n || p) none_before ∙ or-false (has_in a n)
 
   pub set_last : (a b c : List (Binding V)) (n : List ℕ) (v : V) → has_in c n ≡ true → a ++ b ++ set_newest c n v ≡ set_newest (a ++ b ++ c) n v
   set_last a b c n v h = sym (set_later (a ++ b) c n v h)

@@ -36,11 +36,11 @@ unfoldable pub turn_count : ℕ → ℕ → ℕ
 turn_count turn_us timeout = max 1 (timeout / turn_us)
 
 module _ {V T : Type 0} (m : Machine V T) where
-  -- a step is counted before it is steps_result, unless it would be number 100,000,001
+  -- a step is counted before it is run, unless it would be number 100,000,001
   unfoldable pub counted : State V T → Out V T (Unit {0})
   counted s = if nat_lt s.steps 100000000 then Ok (tt, step_more s) else halt StepLimit s
 
-  -- a step is counted, and then steps_result
+  -- a step is counted, and then run
   unfoldable pub after_counted : (State V T → Out V T (Unit {0})) → State V T → Out V T (Unit {0})
   after_counted rest s = counted s >>= λ k. rest k.1
 
@@ -111,12 +111,12 @@ module _ {V T : Type 0} (m : Machine V T) (turn_us : ℕ) (sequence : List ℕ �
   controlled cond repeat timeout steps body s = condition cond s >>= λ x. if x.0 then repeat_result repeat timeout steps body x.1 else Ok (tt, x.1)
 
   unfoldable mutual
-    -- a step is steps_result
+    -- a step is run
     pub step : CodeStep → State V T → Out V T (Unit {0})
     step (c.Block code) r = block code r
     step (c.Control cond repeat timeout steps) r = controlled cond repeat timeout steps (λ q. steps_result steps q) r
 
-    -- steps are steps_result in order
+    -- steps are run in order
     pub steps_result : CodeSteps → State V T → Out V T (Unit {0})
     steps_result c.NoSteps r = Ok (tt, r)
     steps_result (c.MoreSteps first more) r = in_order m (step first r) (λ q. steps_result more q)

@@ -26,7 +26,7 @@ not_both kinds.If text at a f = laws.not_both ReadsExpr spans.Text exact_conditi
 not_both kinds.While text at a f = laws.not_both ReadsExpr spans.Text exact_condition text a.0 at a.1 f
 not_both kinds.Control text at a f = absurd a
 
-one_place : (part : Part) (text : List ℕ) (at there : Place) → IsFaulty part text at → IsFaulty part text there → at ≡ there
+pub one_place : (part : Part) (text : List ℕ) (at there : Place) → IsFaulty part text at → IsFaulty part text there → at ≡ there
 one_place kinds.Debugvars text at there f g = laws.one_fault ReadsCode spans.Statement exact_code text at there f g
 one_place kinds.Block text at there f g = laws.one_fault ReadsCode spans.Statement exact_code text at there f g
 one_place kinds.If text at there f g = laws.one_fault ReadsExpr spans.Text exact_condition text at there f g

@@ -12,6 +12,7 @@ use Rattle.std.specs.declared.hash.BuildHasherDefault.{BuildHasherDefault}
 use Rattle.indexmap.specs.IndexMap.{IndexMap, insert_entry}
 use Rattle.indexmap.proofs.CallerLemmas.{insert_entry-new}
 use Rattle.dap_base.specs.declared.text.Place.{Place}
+use Rattle.dap_base.proofs.Basics.{same_text}
 use Rattle.expr_grammar.specs.Tree.{StmtTree}
 use Rattle.sequence_resolve.specs.declared.entry.SeqEntry.{SeqEntry}
 use Rattle.sequence_resolve.specs.declared.entry.SeqSet.{SeqSet}
@@ -72,9 +73,6 @@ added m k v new =
     ap (map entry_view) (insert_entry-new string_eq m k v none) ∙ map-append entry_view m.entries ((k, v) ∷ [])
 
 -- ---- names
-
-same_text : (xs ys : List ℕ) → bytes_eq xs ys ≡ true → xs ≡ ys
-same_text xs ys e = (bytes_eq-Decides xs ys).0 e
 
 flipped : (x y : List ℕ) (b : Bool) → bytes_eq y x ≡ b → bytes_eq x y ≡ false → b ≡ false
 flipped x y false is differs = refl

@@ -49,7 +49,7 @@ read_first : (s : Step) (ss : List Step) (steps : CodeSteps) → Begins (ReadsSt
 read_first (d.Block code atomic) ss steps is = is
 read_first (d.Control cond repeat timeout inner) ss steps is = is
 
-texts_first : (s : Step) (ss : List Step) (n : ℕ) → steps_texts n (steps_view (s ∷ ss)) ≡ under n (step_texts s) ++ steps_texts (suc n) (steps_view ss)
+pub texts_first : (s : Step) (ss : List Step) (n : ℕ) → steps_texts n (steps_view (s ∷ ss)) ≡ under n (step_texts s) ++ steps_texts (suc n) (steps_view ss)
 texts_first (d.Block code atomic) ss n = refl
 texts_first (d.Control cond repeat timeout inner) ss n = refl
 

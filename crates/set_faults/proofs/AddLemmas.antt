@@ -3,11 +3,13 @@ use Rattle.std.proofs.Common.{◌≡◌, ◌∙◌, sym, subst, ◌↔◌, Bool,
 use Rattle.std.specs.Prelude.{Contains}
 use Rattle.std.proofs.lemmas.List.{append-nil}
 use Rattle.std.proofs.lemmas.List.Elements.{Contains-append_left, Contains-append_right, Contains-append_cases}
+use Rattle.std.proofs.lemmas.Bool.{not-true, not_from_false}
 use Rattle.dap_base.specs.declared.text.Place.{Place}
 use Rattle.code_check.specs.declared.fault.FaultKind.{FaultKind}
 use Rattle.code_check.specs.declared.fault.CodeFault.{CodeFault}
 use Rattle.code_check.specs.Order.{is_before}
 use Rattle.code_check.specs.First.{Nowhere, InEither, here, there, FaultWhere, Where}
+use Rattle.code_check.proofs.CallLemmas.{is_so}
 use Rattle.set_faults.specs.Listed.{IsListOf, found_if, Adds}
 use Rattle.set_faults.proofs.ListLemmas.{contains_none, contains_cases, contains_first}
 
@@ -59,16 +61,8 @@ adds_test b d same e = adds_cause b (λ h. sym same ∙ h) (λ h. same ∙ h) e
 pub adds_where : {Cause : Type 0} {place : Place} {kind : FaultKind} {old new : List CodeFault} → Cause → new ≡ old ++ found_if true place kind → Adds (FaultWhere Cause place kind) old new
 adds_where c e = adds_cause true (λ h. c) (λ h. refl) e
 
-not_false : (b : Bool) → not b ≡ true → b ≡ false
-not_false true h = absurd (true≢false (sym h))
-not_false false h = refl
-
-false_not : (b : Bool) → b ≡ false → not b ≡ true
-false_not true h = absurd (true≢false h)
-false_not false h = refl
-
 pub adds_unless : {place : Place} {kind : FaultKind} {old new : List CodeFault} (b : Bool) → new ≡ old ++ found_if (not b) place kind → Adds (FaultWhere (b ≡ false) place kind) old new
-adds_unless b e = adds_cause (not b) (not_false b) (false_not b) e
+adds_unless b e = adds_cause (not b) (not-true b) (not_from_false b) e
 
 -- what a test decides is not so
 unsaid : (b : Bool) (P : Type 0) → (IsTrue b ↔ P) → not b ≡ true → P → ⊥
@@ -81,10 +75,6 @@ said_not false P h e = refl
 
 pub adds_not : {P : Type 0} {place : Place} {kind : FaultKind} {old new : List CodeFault} (b : Bool) → (IsTrue b ↔ P) → new ≡ old ++ found_if (not b) place kind → Adds (FaultWhere (P → ⊥) place kind) old new
 adds_not {P} b h e = adds_cause (not b) (unsaid b P h) (said_not b P h) e
-
-pub is_so : (b : Bool) (P : Type 0) → (IsTrue b ↔ P) → b ≡ true → P
-is_so true P h e = h.0 refl
-is_so false P h e = absurd (true≢false (sym e))
 
 pub is_said : (b : Bool) (P : Type 0) → (IsTrue b ↔ P) → P → b ≡ true
 is_said true P h p = refl

@@ -1,11 +1,10 @@
 -- The faults of calls, one part after another.
-use Rattle.std.proofs.Common.{◌≡◌, ◌∙◌, ◌↔◌, sym, ap, subst, ℕ, suc, ◌+◌, ◌-◌, ◌<◌, Bool, true, false, IsTrue, List, [], ◌∷◌, ◌++◌, map, length, take, get_or, Option, Some, None, refl, true≢false, arith}
-use Rattle.std.proofs.lemmas.List.{length-map, length-take-le, take_more, map-append}
+use Rattle.std.proofs.Common.{◌≡◌, ◌↔◌, sym, subst, ℕ, ◌+◌, ◌-◌, ◌<◌, Bool, true, false, IsTrue, List, [], ◌∷◌, ◌++◌, map, length, take, get_or, Option, Some, None}
 use Rattle.expr_grammar.specs.declared.code.Arg.{Arg}
 use Rattle.expr_grammar.specs.declared.code.Name.{Name}
 use Rattle.expr_grammar.specs.declared.code.TextArg as string
 use Rattle.expr_grammar.specs.declared.code.Stmt.{Stmt}
-use Rattle.expr_grammar.specs.Tree.{ArgTree, ArgTrees, args_of, arg_tree, arg_trees, StmtTree, stmt_tree, code_trees}
+use Rattle.expr_grammar.specs.Tree.{ArgTrees, arg_tree, arg_trees, StmtTree, stmt_tree, code_trees}
 use Rattle.function_table.specs.declared.function.Function.{Function}
 use Rattle.function_table.specs.declared.function.Function.TheVariants as functions
 use Rattle.function_table.specs.Functions.{name_of, Takes, kind_at}
@@ -14,19 +13,13 @@ use Rattle.code_check.specs.declared.fault.CodeFault.{CodeFault}
 use Rattle.code_check.specs.First.{InEither, here, there}
 use Rattle.code_check.specs.ExprFaults.{Scope, ArgFault, ArgsFault, KindFault, KindsFault, arg_count, text_at, OfText, SequenceFault, FormatFault, TextsFault, KnownFault, NamesNone, FunctionFault}
 use Rattle.code_check.specs.BlockFaults.{names_after, names_after_all, seeing, StmtFault, BlockFault}
-use Rattle.code_check.proofs.ArgLemmas.{arg_trees-take}
+use Rattle.code_check.proofs.ArgLemmas.{arg_trees-take, kinds_to, kinds_from, length-taken, args_from, args_to}
+use Rattle.code_check.proofs.CallLemmas.{not_so, is_so, same_function}
+use Rattle.code_check.proofs.BlockLemmas.{code_trees-take}
 use Rattle.set_faults.specs.Listed.{Adds, found_if}
 use Rattle.set_faults.proofs.AddLemmas.{adds_none, adds_same, adds_two, adds_here, adds_there, adds_where, adds_of_where}
 
 -- ---- what stands in the arguments
-
-args_to : (s : Scope) (front : List ArgTree) (a : ArgTree) (f : CodeFault) → InEither (ArgsFault s (args_of front)) (ArgFault s a) f → ArgsFault s (args_of (front ++ a ∷ [])) f
-args_to s [] a f h = elim h [ here p ↦ elim p [ ] | there q ↦ here q ]
-args_to s (x ∷ front) a f h = elim h [ here p ↦ elim p [ here u ↦ here u | there v ↦ there (args_to s front a f (here v)) ] | there q ↦ there (args_to s front a f (there q)) ]
-
-args_from : (s : Scope) (front : List ArgTree) (a : ArgTree) (f : CodeFault) → ArgsFault s (args_of (front ++ a ∷ [])) f → InEither (ArgsFault s (args_of front)) (ArgFault s a) f
-args_from s [] a f h = elim h [ here p ↦ there p | there q ↦ elim q [ ] ]
-args_from s (x ∷ front) a f h = elim h [ here p ↦ here (here p) | there q ↦ elim (args_from s front a f q) [ here u ↦ here (there u) | there v ↦ there v ] ]
 
 pub args_more : (s : Scope) (xs : List Arg) (i : ℕ) (x : Arg) → i < length xs → (old mid new : List CodeFault)
     → Adds (ArgsFault s (arg_trees (take i xs))) old mid → Adds (ArgFault s (arg_tree (get_or xs i x))) mid new → Adds (ArgsFault s (arg_trees (take (i + 1) xs))) old new
@@ -34,21 +27,6 @@ args_more s xs i x h old mid new p q =
     rw (arg_trees-take xs i x h) (adds_same (args_to s (map arg_tree (take i xs)) (arg_tree (get_or xs i x))) (args_from s (map arg_tree (take i xs)) (arg_tree (get_or xs i x))) (adds_two p q))
 
 -- ---- the kinds of the arguments
-
-kinds_to : (fn : Function) (k : ℕ) (front : List ArgTree) (a : ArgTree) (f : CodeFault) → InEither (KindsFault fn k (args_of front)) (KindFault (kind_at fn (k + length front)) a) f → KindsFault fn k (args_of (front ++ a ∷ [])) f
-kinds_to fn k [] a f h = let e : k + 0 ≡ k = omega arith in elim h [ here p ↦ elim p [ ] | there q ↦ here (subst (λ j. KindFault (kind_at fn j) a f) e q) ]
-kinds_to fn k (x ∷ front) a f h =
-    let e : k + suc (length front) ≡ suc k + length front = omega arith in
-    elim h [ here p ↦ elim p [ here u ↦ here u | there v ↦ there (kinds_to fn (suc k) front a f (here v)) ] | there q ↦ there (kinds_to fn (suc k) front a f (there (subst (λ j. KindFault (kind_at fn j) a f) e q))) ]
-
-kinds_from : (fn : Function) (k : ℕ) (front : List ArgTree) (a : ArgTree) (f : CodeFault) → KindsFault fn k (args_of (front ++ a ∷ [])) f → InEither (KindsFault fn k (args_of front)) (KindFault (kind_at fn (k + length front)) a) f
-kinds_from fn k [] a f h = let e : k ≡ k + 0 = omega arith in elim h [ here p ↦ there (subst (λ j. KindFault (kind_at fn j) a f) e p) | there q ↦ elim q [ ] ]
-kinds_from fn k (x ∷ front) a f h =
-    let e : suc k + length front ≡ k + suc (length front) = omega arith in
-    elim h [ here p ↦ here (here p) | there q ↦ elim (kinds_from fn (suc k) front a f q) [ here u ↦ here (there u) | there v ↦ there (subst (λ j. KindFault (kind_at fn j) a f) e v) ] ]
-
-length-taken : (xs : List Arg) (i : ℕ) → i < length xs → 0 + length (map arg_tree (take i xs)) ≡ i
-length-taken xs i h = omega (arith, length-map (take i xs) arg_tree, length-take-le i xs (omega arith))
 
 pub kinds_more : (fn : Function) (xs : List Arg) (i : ℕ) (x : Arg) → i < length xs → (old mid new : List CodeFault)
     → Adds (KindsFault fn 0 (arg_trees (take i xs))) old mid → Adds (KindFault (kind_at fn i) (arg_tree (get_or xs i x))) mid new → Adds (KindsFault fn 0 (arg_trees (take (i + 1) xs))) old new
@@ -74,9 +52,6 @@ block_from s [] st f h = elim h [ here p ↦ there p | there q ↦ elim q [ ] ]
 block_from s (x ∷ code) st f h =
     let s' = seeing s (names_after s.visible x) in
     elim h [ here p ↦ here (here p) | there q ↦ elim (block_from s' code st f q) [ here u ↦ here (there u) | there v ↦ there v ] ]
-
-code_trees-take : (xs : List Stmt) (i : ℕ) (x : Stmt) → i < length xs → code_trees (take (i + 1) xs) ≡ code_trees (take i xs) ++ stmt_tree (get_or xs i x) ∷ []
-code_trees-take xs i x h = ap code_trees (take_more xs i x h) ∙ map-append stmt_tree (take i xs) (get_or xs i x ∷ [])
 
 pub block_more : (s : Scope) (xs : List Stmt) (i : ℕ) (x : Stmt) → i < length xs → (old mid new : List CodeFault)
     → Adds (BlockFault s (code_trees (take i xs))) old mid → Adds (StmtFault (seeing s (names_after_all s.visible (code_trees (take i xs)))) (stmt_tree (get_or xs i x))) mid new
@@ -119,14 +94,6 @@ at_other s fn args old no_sequence no_message =
 
 -- ---- the number of arguments
 
-not_so : (b : Bool) (P : Type 0) → (IsTrue b ↔ P) → b ≡ false → P → ⊥
-not_so true P h e p = true≢false e
-not_so false P h e p = true≢false (sym (h.1 p))
-
-is_so : (b : Bool) (P : Type 0) → (IsTrue b ↔ P) → b ≡ true → P
-is_so true P h e = h.0 refl
-is_so false P h e = absurd (true≢false (sym e))
-
 pub at_wrong_count : (s : Scope) (name : Name) (args : ArgTrees) (fn : Function) (n : ℕ) (b : Bool) (old new : List CodeFault) → n ≡ arg_count args → (IsTrue b ↔ Takes fn n) → b ≡ false
     → new ≡ old ++ found_if true name.at k.ArgumentCount → Adds (KnownFault s name args fn) old new
 at_wrong_count s name args fn n b old new is h e found =
@@ -140,9 +107,6 @@ at_right_count s name args fn n b old mid new is h e kinds texts =
     adds_there (λ f w. w.cause right) (adds_of_where right (adds_two kinds texts))
 
 -- ---- the function
-
-same_function : (o : Option Function) (f g : Function) → o ≡ Some f → o ≡ Some g → g ≡ f
-same_function o f g p q = cc
 
 pub at_function : (s : Scope) (name : Name) (args : ArgTrees) (fn : Function) (o : Option Function) (old new : List CodeFault) → ((f : Function) → (o ≡ Some f) ↔ (name.text ≡ name_of f)) → o ≡ Some fn
     → Adds (KnownFault s name args fn) old new → Adds (FunctionFault s name args) old new

@@ -8,11 +8,14 @@ use Rattle.code_check.specs.declared.fault.FaultKind.{FaultKind}
 use Rattle.code_check.specs.declared.fault.FaultKind.TheVariants as k
 use Rattle.code_check.specs.declared.fault.CodeFault.{CodeFault}
 use Rattle.code_check.specs.First.{InEither, here, there, FaultWhere}
+use Rattle.code_check.proofs.CallLemmas.{is_so}
 use Rattle.seq_check.specs.StepFaults.{StepFault, path_before, part_rank, control_rank, fault_before, is_step_before, no_place, At, TimeoutFault, LoopFault, ControlFault}
+use Rattle.seq_check.proofs.ControlLemmas.{kind_of_loop, kind_of_timeout, kind_of_where, same_rank}
 use Rattle.set_faults.specs.Listed.{IsListOf, found_if}
 use Rattle.set_faults.specs.Controls.{is_too_long, is_unbounded}
-use Rattle.set_faults.proofs.AddLemmas.{is_so, is_said}
+use Rattle.set_faults.proofs.AddLemmas.{is_said}
 use Rattle.set_faults.proofs.ListLemmas.{listed_nothing, listed_one, listed_two, listed_mapped}
+use Rattle.dap_base.proofs.Basics.{lt_itself}
 
 abbrev before : CodeFault → CodeFault → Bool
 before = fault_before parts.Control
@@ -46,18 +49,6 @@ listed_loop (Some e) (Some t) = listed_if (t == 0) (t ≡ 0) k.UnboundedLoop (ze
 
 -- ---- the order of those of the form
 
-kind_of_where : (Cause : Type 0) (kind : FaultKind) (f : CodeFault) → FaultWhere Cause no_place kind f → f.kind ≡ kind
-kind_of_where Cause kind f h = ap (λ x. x.kind) h.is
-
-kind_of_timeout : (timeout : Option ℕ) (f : CodeFault) → TimeoutFault timeout f → f.kind ≡ k.TimeoutTooLong
-kind_of_timeout None f h = elim h [ ]
-kind_of_timeout (Some t) f h = kind_of_where (60000000 < t) k.TimeoutTooLong f h
-
-kind_of_loop : (repeat : Option Tree) (timeout : Option ℕ) (f : CodeFault) → LoopFault repeat timeout f → f.kind ≡ k.UnboundedLoop
-kind_of_loop None timeout f h = elim h [ ]
-kind_of_loop (Some e) None f h = kind_of_where (Unit {0}) k.UnboundedLoop f h
-kind_of_loop (Some e) (Some t) f h = kind_of_where (t ≡ 0) k.UnboundedLoop f h
-
 kind_order : (f g : CodeFault) (a b : FaultKind) → f.kind ≡ a → g.kind ≡ b → nat_lt (control_rank a) (control_rank b) ≡ true → before f g ≡ true
 kind_order f g a b p q lt = rw (p, q, lt) refl
 
@@ -85,14 +76,8 @@ joined a b c none one two three p q r = r ∙ ap (λ l. l ++ c) (q ∙ ap (λ l.
 abbrev pub view_at : Part → CodeFault → StepFault
 view_at part f = record { path = []; part = part; fault = f }
 
-below_itself : (n : ℕ) → nat_lt n n ≡ false
-below_itself n = grind (arith, nat_tests)
-
-same_number : (n : ℕ) → (n == n) ≡ true
-same_number n = grind (arith, nat_tests)
-
 view_order : (part : Part) (f g : CodeFault) → is_step_before (view_at part f) (view_at part g) ≡ fault_before part f g
-view_order part f g = rw (below_itself (part_rank part), same_number (part_rank part)) refl
+view_order part f g = rw (lt_itself (part_rank part), same_rank (part_rank part)) refl
 
 at_from : (part : Part) (P : CodeFault → Type 0) (g : StepFault) → At part P g → (f : CodeFault) × P f × (g ≡ view_at part f)
 at_from part P g h = (g.fault, h.holds, same_view g.path g.part g.fault part h.own h.part_is) where

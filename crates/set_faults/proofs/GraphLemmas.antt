@@ -114,9 +114,6 @@ module _ (P : CallSpot → Type 0) where
 pub not_marked : (marks : List Bool) (node : ℕ) → is_marked marks node ≡ false → is_marked marks node ≡ true → ⊥
 not_marked marks node off on = true≢false (sym on ∙ off)
 
-pub back_within : (graph : List (List ℕ)) (node k : ℕ) → IsInCycle graph (spot_of node k) → k < length (callees_of graph node)
-back_within graph node k h = is_call_of_node graph node k h
-
 pub is_back : (graph : List (List ℕ)) (node k : ℕ) (b : Bool) → k < length (callees_of graph node) → (IsTrue b ↔ Reaches graph (get_or (callees_of graph node) k 0) node) → b ≡ true → IsInCycle graph (spot_of node k)
 is_back graph node k true lt h e = record { callee = get_or (callees_of graph node) k 0; is_call = slice_get-get_or (callees_of graph node) k 0 lt; back = h.0 refl }
 is_back graph node k false lt h e = absurd (true≢false (sym e))
@@ -160,7 +157,7 @@ back_more graph node i callees b old mid new is lt h inv e =
 
 pub back_done : (graph : List (List ℕ)) (node i : ℕ) (callees : List ℕ) (old new : List CallSpot) → callees ≡ callees_of graph node → length callees ≤ i
     → AddsCalls (Ahead (IsInCycle graph) node i) old new → AddsCalls (AtNode (IsInCycle graph) node) old new
-back_done graph node i callees old new is past h = calls_of_node (IsInCycle graph) node i old new (λ k p. (let lt = back_within graph node k p in omega (arith, lt, ap length is, past))) h
+back_done graph node i callees old new is past h = calls_of_node (IsInCycle graph) node i old new (λ k p. (let lt = is_call_of_node graph node k p in omega (arith, lt, ap length is, past))) h
 
 pub into_more : (graph : List (List ℕ)) (marks : List Bool) (node i : ℕ) (callees : List ℕ) (b : Bool) (old mid new : List CallSpot) → callees ≡ callees_of graph node → i < length callees → b ≡ is_marked marks (get_or callees i 0)
     → AddsCalls (Ahead (IsInto graph marks) node i) old mid → new ≡ mid ++ call_if b (spot_of node i) → AddsCalls (Ahead (IsInto graph marks) node (i + 1)) old new

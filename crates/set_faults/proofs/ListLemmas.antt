@@ -5,6 +5,7 @@ use Rattle.std.specs.List.{AllByRecursion}
 use Rattle.std.proofs.lemmas.List.Elements.{Contains-append_left, Contains-append_right, Contains-append_cases}
 use Rattle.code_check.specs.First.{Nowhere, InEither, here, there}
 use Rattle.set_faults.specs.Listed.{Rises, IsListOf}
+use Rattle.dap_base.proofs.Basics.{contains_map}
 
 -- ---- elements
 
@@ -23,13 +24,6 @@ contains_first x xs = (0, omega arith, refl)
 
 pub contains_more : {F : Type 0} (x : F) (xs : List F) (y : F) → Contains xs y → Contains (x ∷ xs) y
 contains_more x xs y h = let lt = h.1 in (suc h.0, omega arith, h.2)
-
-pub contains_map : {F G : Type 0} (m : F → G) (xs : List F) (x : F) → Contains xs x → Contains (map m xs) (m x)
-contains_map m [] x h = absurd (contains_none x h)
-contains_map m (y ∷ ys) x h = elim (contains_cases y ys x h) [
-  | inl e ↦ subst (λ z. Contains (m y ∷ map m ys) (m z)) e (contains_first (m y) (map m ys))
-  | inr more ↦ contains_more (m y) (map m ys) (m x) (contains_map m ys x more)
-]
 
 pub map_contains : {F G : Type 0} (m : F → G) (xs : List F) (z : G) → Contains (map m xs) z → (x : F) × Contains xs x × (z ≡ m x)
 map_contains m [] z h = absurd (contains_none z h)

@@ -14,6 +14,7 @@ use Rattle.seq_check.specs.StepFaults.{StepFault, path_before, part_rank, contro
 use Rattle.seq_check.specs.SetFaults.{SetFault, holder_before, is_set_before, FaultInSet}
 use Rattle.seq_check.specs.Valid as valid
 use Rattle.seq_check.specs.Valid.{IsFirstOf}
+use Rattle.seq_check.proofs.OrderLaws.{one_part}
 use Rattle.set_faults.specs.declared.site.Fault.{Fault}
 use Rattle.set_faults.specs.Listed.{IsListOf}
 use Rattle.set_faults.specs.Rules.{fault_of, AreRuleFaults}
@@ -52,9 +53,6 @@ part_at_rank parts.Control = refl
 part_at_rank parts.Block = refl
 part_at_rank parts.If = refl
 part_at_rank parts.While = refl
-
-one_part : (x y : Part) → part_rank x ≡ part_rank y → x ≡ y
-one_part x y e = sym (part_at_rank x) ∙ ap (λ n. get_or ranked n parts.Debugvars) e ∙ part_at_rank y
 
 -- what comes before by the first test both ways, or by the rest both ways
 either_way : (a b c d : Bool) → (a || not b && c) ≡ true → (b || not a && d) ≡ true → ((a ≡ true) × (b ≡ true)) ⊎ ((c ≡ true) × (d ≡ true))

@@ -1,7 +1,7 @@
 -- The faults of the sequences of a set, one after another.
-use Rattle.std.proofs.Common.{◌≡◌, ◌∙◌, ap, subst, ℕ, zero, suc, ◌+◌, ◌<◌, nat_lt, true, false, List, [], ◌∷◌, ◌++◌, map, length, take, get_or, slice_get, Option, Some, refl, arith}
-use Rattle.std.proofs.lemmas.Bool.Decides.{nat_tests}
+use Rattle.std.proofs.Common.{◌≡◌, ◌∙◌, ap, subst, ℕ, zero, suc, ◌+◌, ◌<◌, true, false, List, [], ◌∷◌, ◌++◌, map, length, take, get_or, slice_get, Option, Some, refl, arith}
 use Rattle.std.proofs.lemmas.List.{take_more, length-take-le}
+use Rattle.std.proofs.lemmas.Bool.{lt-ltb}
 use Rattle.sequence_trees.specs.Trees.{CodeSteps, SetTrees}
 use Rattle.function_table.specs.Variables.{predefined}
 use Rattle.sequence_trees.specs.declared.spot.Part.TheVariants as parts
@@ -19,18 +19,16 @@ use Rattle.set_faults.specs.Sites.{step_fault_at, Appends}
 use Rattle.set_faults.specs.Rules.{fault_of, AreRuleFaults}
 use Rattle.set_faults.proofs.ListLemmas.{listed_mapped}
 use Rattle.set_faults.proofs.StepLemmas.{appends_two, appends_same}
+use Rattle.dap_base.proofs.Basics.{lt_itself}
 
 -- ---- faults of one holder
 
 abbrev held : Holder → StepFault → SetFault
 held holder f = record { holder = holder; fault = f }
 
-below_itself : (n : ℕ) → nat_lt n n ≡ false
-below_itself n = grind (arith, nat_tests)
-
 held_order : (holder : Holder) (f g : StepFault) → is_set_before (held holder f) (held holder g) ≡ is_step_before f g
 held_order holders.Debugvars f g = refl
-held_order (holders.Sequence n) f g = rw (below_itself n) refl
+held_order (holders.Sequence n) f g = rw (lt_itself n) refl
 
 listed_held : (holder : Holder) (P : StepFault → Type 0) (list : List StepFault) → IsListOf is_step_before P list → IsListOf is_set_before (Of holder P) (map (held holder) list)
 listed_held holder P list h =
@@ -67,11 +65,8 @@ below_end s n (x ∷ front) f h = elim h [
   | there q ↦ let r = below_end s (suc n) front f q in record { number = r.number; is = r.is; less = omega (arith, r.less) }
 ]
 
-lower : (k n : ℕ) → k < n → nat_lt k n ≡ true
-lower k n h = grind (arith, nat_tests)
-
 front_order : (s : Scope) (front : List CodeSteps) (P : StepFault → Type 0) (p q : SetFault) → FaultInSequences s 0 front p → Of (holders.Sequence (0 + length front)) P q → is_set_before p q ≡ true
-front_order s front P p q h o = (let r = below_end s 0 front p h in ahead p q (holders.Sequence r.number) (holders.Sequence (0 + length front)) r.is o.holder_is (lower r.number (0 + length front) r.less))
+front_order s front P p q h o = (let r = below_end s 0 front p h in ahead p q (holders.Sequence r.number) (holders.Sequence (0 + length front)) r.is o.holder_is (lt-ltb r.number (0 + length front) r.less))
 
 -- the debug variables are before the sequences
 pub debugvars_order : (s : Scope) (P : StepFault → Type 0) (all : List CodeSteps) (p q : SetFault) → Of holders.Debugvars P p → FaultInSequences s 0 all q → is_set_before p q ≡ true

@@ -1,8 +1,7 @@
 -- The faults of steps, one step after another.
-use Rattle.std.proofs.Common.{◌≡◌, ◌∙◌, sym, ap, subst, ℕ, suc, ◌+◌, ◌<◌, ◌≤◌, ◌==◌, nat_lt, ◌&&◌, ◌||◌, not, Bool, true, false, List, [], ◌∷◌, ◌++◌, map, length, take, get_or, Option, refl, arith, append_assoc, min, ◌⊎◌, inl, inr}
-use Rattle.std.proofs.lemmas.Bool.{cases_lt}
+use Rattle.std.proofs.Common.{◌≡◌, ◌∙◌, sym, ap, subst, ℕ, suc, ◌+◌, ◌<◌, ◌≤◌, ◌==◌, nat_lt, ◌&&◌, ◌||◌, not, Bool, true, List, [], ◌∷◌, ◌++◌, map, length, take, get_or, Option, refl, arith, append_assoc, min, ◌⊎◌, inl, inr}
+use Rattle.std.proofs.lemmas.Bool.{cases_lt, lt-ltb}
 use Rattle.seq_check.proofs.NameLemmas.{take-names_after_steps}
-use Rattle.std.proofs.lemmas.Bool.Decides.{nat_tests}
 use Rattle.std.proofs.lemmas.List.{append-nil, map-append}
 use Rattle.expr_grammar.specs.Tree.{Tree}
 use Rattle.sequence_trees.specs.declared.spot.Part.{Part}
@@ -14,7 +13,7 @@ use Rattle.code_check.specs.First.{InEither, here, there}
 use Rattle.code_check.specs.ExprFaults.{Scope}
 use Rattle.code_check.specs.BlockFaults.{seeing}
 use Rattle.seq_check.specs.StepFaults.{StepFault, path_before, part_rank, fault_before, is_step_before, At, under, Under, OwnFault, FaultInStep, FaultInSteps, names_after_step, names_after_steps}
-use Rattle.seq_check.proofs.StepLemmas.{fronts, fronts-length, steps_tree-take}
+use Rattle.seq_check.proofs.StepLemmas.{fronts, fronts-length, steps_tree-take, own_path, under_order}
 use Rattle.set_faults.specs.declared.site.Fault.{Fault}
 use Rattle.set_faults.specs.Listed.{IsListOf}
 use Rattle.set_faults.specs.Sites.{code_fault_at, step_fault_at, Appends}
@@ -68,9 +67,6 @@ before_by a b x y f g = path_before a b || not (path_before b a) && (nat_lt (par
 inner_path : (a b q : List ℕ) (j : ℕ) (x y : Part) (f g : CodeFault) → a ≡ [] → b ≡ j ∷ q → before_by a b x y f g ≡ true
 inner_path a b q j x y f g ea eb = rw (ea, eb) refl
 
-own_path : (s : Scope) (around : ℕ) (cond repeat : Option Tree) (timeout : Option ℕ) (p : StepFault) → OwnFault s around cond repeat timeout p → p.path ≡ []
-own_path s around cond repeat timeout p h = elim h [ here u ↦ u.own | there v ↦ elim v [ here w ↦ w.own | there w ↦ w.own ] ]
-
 -- a control itself is before the steps inside
 pub inner_order : (s s' : Scope) (around inside : ℕ) (cond repeat : Option Tree) (timeout : Option ℕ) (steps : CodeSteps) (p q : StepFault)
     → OwnFault s around cond repeat timeout p → FaultInSteps s' inside 0 steps q → is_step_before p q ≡ true
@@ -114,9 +110,6 @@ below_end s around n (step ∷ front) f h = elim h [
   | there q ↦ let r = below_end (seeing s (names_after_step s.visible step)) around (suc n) front f q in record { number = r.number; rest = r.rest; parts = r.parts; less = omega (arith, r.less) }
 ]
 
-lower : (k n : ℕ) → k < n → nat_lt k n ≡ true
-lower k n h = grind (arith, nat_tests)
-
 later_path : (a b p q : List ℕ) (k n : ℕ) (x y : Part) (f g : CodeFault) → a ≡ k ∷ p → b ≡ n ∷ q → nat_lt k n ≡ true → before_by a b x y f g ≡ true
 later_path a b p q k n x y f g ea eb h = rw (ea, eb, h) refl
 
@@ -124,16 +117,7 @@ later_path a b p q k n x y f g ea eb h = rw (ea, eb, h) refl
 front_order : (s : Scope) (around : ℕ) (front : List CodeStep) (P : StepFault → Type 0) (p q : StepFault) → FaultInSteps s around 0 (steps_of front) p → Under (0 + length front) P q → is_step_before p q ≡ true
 front_order s around front P p q h u =
     let r = below_end s around 0 front p h in
-    later_path p.path q.path r.rest u.inner.path r.number (0 + length front) p.part q.part p.fault q.fault r.parts (ap (λ x. x.path) u.is) (lower r.number (0 + length front) r.less)
-
-below_itself : (n : ℕ) → nat_lt n n ≡ false
-below_itself n = grind (arith, nat_tests)
-
-same_number : (n : ℕ) → (n == n) ≡ true
-same_number n = grind (arith, nat_tests)
-
-under_order : (n : ℕ) (f g : StepFault) → is_step_before (under n f) (under n g) ≡ is_step_before f g
-under_order n f g = rw (below_itself n, same_number n) refl
+    later_path p.path q.path r.rest u.inner.path r.number (0 + length front) p.part q.part p.fault q.fault r.parts (ap (λ x. x.path) u.is) (lt-ltb r.number (0 + length front) r.less)
 
 listed_under : (n : ℕ) (P : StepFault → Type 0) (list : List StepFault) → IsListOf is_step_before P list → IsListOf is_step_before (Under n P) (map (under n) list)
 listed_under n P list h = listed_mapped is_step_before is_step_before (under n) P (Under n P) list (under_order n) (λ f p. record { inner = f; holds = p; is = refl }) (λ g u. (u.inner, u.holds, u.is)) h

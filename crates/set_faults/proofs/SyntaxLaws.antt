@@ -4,8 +4,8 @@ use Rattle.dap_base.specs.declared.text.Place.{Place}
 use Rattle.sequence_trees.specs.declared.spot.Part.{Part}
 use Rattle.sequence_trees.specs.declared.spot.Spot.{Spot}
 use Rattle.sequence_resolve.specs.declared.entry.SeqSet.{SeqSet}
-use Rattle.sequence_trees.specs.Order.{TextAt, SetStep, IsFaulty, IsFirstFaulty, IsFirstFault, step_of, set_texts}
-use Rattle.sequence_trees.proofs.OrderLaws.{AreFine, fine_not_faulty, not_both, first_after, first_single, one_first}
+use Rattle.sequence_trees.specs.Order.{TextAt, SetStep, IsFirstFaulty, IsFirstFault, step_of, set_texts}
+use Rattle.sequence_trees.proofs.OrderLaws.{AreFine, fine_not_faulty, not_both, first_after, one_place}
 use Rattle.code_check.specs.declared.fault.FaultKind.TheVariants as k
 use Rattle.seq_check.specs.Valid as valid
 use Rattle.seq_check.specs.Valid.{IsFirstFaultOf}
@@ -15,10 +15,6 @@ use Rattle.set_faults.specs.Syntax.{IsFaultOf, syntax_fault, AreFaultsOf, AreSyn
 -- the step of a text that stands alone
 here : SetStep
 here = record { sequence = None; path = [] }
-
-one_place : (part : Part) (text : List ℕ) (a b : Place) → IsFaulty part text a → IsFaulty part text b → a ≡ b
-one_place part text a b h j =
-    (one_first (record { step = here; part = part; text = text } ∷ []) here here part part a b (first_single here part text a h) (first_single here part text b j)).same_place
 
 one_fault : (part : Part) (text : List ℕ) (a b : Option Place) → IsFaultOf part text a → IsFaultOf part text b → a ≡ b
 one_fault part text None None h j = refl

@@ -10,6 +10,7 @@ use Rattle.sequence_trees.specs.declared.spot.Part.{Part}
 use Rattle.sequence_trees.specs.declared.spot.Part.TheVariants as parts
 use Rattle.sequence_trees.specs.Order.{TextAt, StepText, SetStep, moved, under, own, text_if_some, steps_texts, entry_texts, entries_texts, debugvars_texts}
 use Rattle.sequence_trees.specs.Outcomes.{step_texts}
+use Rattle.sequence_trees.proofs.StepLemmas.{texts_first}
 use Rattle.set_faults.specs.declared.site.Fault.{Fault}
 use Rattle.set_faults.specs.Syntax.{IsFaultOf, syntax_fault, AreFaultsOf, AddsFaultsOf, inside}
 
@@ -80,10 +81,6 @@ moved_under step n [] = refl
 moved_under step n (t ∷ texts) =
     ap (λ p. record { step = record { sequence = step.sequence; path = p }; part = t.part; text = t.text } ∷ map (moved (inside (inner_step step n))) texts) (append_assoc step.path (n ∷ []) t.step)
     ∙ ap (λ l. moved (inside step) (moved (λ path. n ∷ path) t) ∷ l) (moved_under step n texts)
-
-texts_first : (s : Step) (ss : List Step) (n : ℕ) → steps_texts n (steps_view (s ∷ ss)) ≡ under n (step_texts s) ++ steps_texts (suc n) (steps_view ss)
-texts_first (d.Block code atomic) ss n = refl
-texts_first (d.Control cond repeat timeout inner) ss n = refl
 
 texts_last : (ss : List Step) (s : Step) (n : ℕ) → steps_texts n (steps_view (ss ++ s ∷ [])) ≡ steps_texts n (steps_view ss) ++ under (n + length ss) (step_texts s)
 texts_last [] s n = let e : n ≡ n + 0 = omega arith in texts_first s [] n ∙ append-nil (under n (step_texts s)) ∙ ap (λ m. under m (step_texts s)) e

@@ -55,7 +55,8 @@ pub fn block_faults(
     in_debugvars: bool,
     code: &[Stmt],
 ) -> Result<CodeFaults, OutOfMemory>
-    ensures list { IfOk result (IsListOf is_before (BlockFault (record { visible = names.old; sequences = sequences.now; in_debugvars = in_debugvars }) (code_trees code.now))) }
+    ensures list { IfOk result (IsListOf is_before
+        (BlockFault (record { visible = names.old; sequences = sequences.now; in_debugvars = in_debugvars }) (code_trees code.now))) }
     ensures names { OnOk result (names.new ≡ names_after_all names.old (code_trees code.now)) }
 {
     let mut found = CodeFaults::new(alloc);

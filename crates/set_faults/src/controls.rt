@@ -111,7 +111,8 @@ pub fn add_own(
     timeout: Option<u64>,
     found: &mut ItemList<Fault>,
 ) -> Result<(), OutOfMemory>
-    ensures { OnOk result (Appends is_step_before (step_fault_at (site_step site.entry)) (OwnFault (scope_view scope.entry) around (option_map tree cond.now) (option_map tree repeat.now) timeout) found.old found.new) }
+    ensures { OnOk result (Appends is_step_before (step_fault_at (site_step site.entry))
+        (OwnFault (scope_view scope.entry) around (option_map tree cond.now) (option_map tree repeat.now) timeout) found.old found.new) }
 {
     let form = form_faults(alloc, around, repeat, timeout)?;
     add_part(alloc, site, Part::Control, form.as_slice(), found)?;

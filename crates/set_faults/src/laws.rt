@@ -18,7 +18,8 @@ pub fn one_answer()
 
 /// The head of its list is the first fault of the set, which `seq_check::check` reports.
 pub fn head_is_first()
-    ensures { (set : SeqSet) (answer : SetFaults) (fault : Fault) (more : List Fault) → AreSetFaults set answer → answer.faults ≡ fault ∷ more → IsFirstFaultOf set fault.kind fault.spot }
+    ensures { (set : SeqSet) (answer : SetFaults) (fault : Fault) (more : List Fault) → AreSetFaults set answer
+        → answer.faults ≡ fault ∷ more → IsFirstFaultOf set fault.kind fault.spot }
 {}
 
 /// The list is empty exactly where the set is valid.

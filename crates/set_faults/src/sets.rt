@@ -46,7 +46,10 @@ fn add_debugvars(
     set: &ReadSet,
     found: &mut ItemList<Fault>,
 ) -> Result<(), OutOfMemory>
-    ensures list { OnOk result (Appends is_set_before (fault_of (set_trees set.now)) (Of holders.Debugvars (At parts.Debugvars (BlockFault (record { visible = names.old; sequences = sequences.now; in_debugvars = true }) (set_trees set.now).debugvars))) found.old found.new) }
+    ensures list { OnOk result (Appends is_set_before (fault_of (set_trees set.now))
+        (Of holders.Debugvars (At parts.Debugvars
+        (BlockFault (record { visible = names.old; sequences = sequences.now; in_debugvars = true })
+        (set_trees set.now).debugvars))) found.old found.new) }
     ensures names { OnOk result (names.new ≡ names_after_all names.old (set_trees set.now).debugvars) }
 {
     let site = Site {
@@ -65,7 +68,9 @@ fn add_sequences(
     set: &ReadSet,
     found: &mut ItemList<Fault>,
 ) -> Result<(), OutOfMemory>
-    ensures { OnOk result (Appends is_set_before (fault_of (set_trees set.now)) (FaultInSequences (record { visible = names.old; sequences = sequences.now; in_debugvars = false }) 0 (map (λ s. s.steps) (set_trees set.now).sequences)) found.old found.new) }
+    ensures { OnOk result (Appends is_set_before (fault_of (set_trees set.now))
+        (FaultInSequences (record { visible = names.old; sequences = sequences.now; in_debugvars = false }) 0
+        (map (λ s. s.steps) (set_trees set.now).sequences)) found.old found.new) }
 {
     for index in 0..set.len() {
         let site = Site {
@@ -89,7 +94,7 @@ pub fn rule_faults(
     ensures { IfOk result (AreRuleFaults (set_trees set.now)) }
 {
     let mut found = ItemList::new(alloc);
-    let mut names = Names::predefined(alloc)?;
+    let mut names = Names::predefined_names(alloc)?;
     add_debugvars(alloc, &mut names, sequences, set, &mut found)?;
     add_sequences(alloc, &mut names, sequences, set, &mut found)?;
     Ok(found)

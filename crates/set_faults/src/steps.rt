@@ -25,7 +25,9 @@ fn add_block(
     code: &[Stmt],
     found: &mut ItemList<Fault>,
 ) -> Result<(), OutOfMemory>
-    ensures list { OnOk result (Appends is_step_before (step_fault_at (site_step site.entry)) (At parts.Block (BlockFault (record { visible = names.old; sequences = sequences.now; in_debugvars = false }) (code_trees code.now))) found.old found.new) }
+    ensures list { OnOk result (Appends is_step_before (step_fault_at (site_step site.entry))
+        (At parts.Block (BlockFault (record { visible = names.old; sequences = sequences.now; in_debugvars = false })
+        (code_trees code.now))) found.old found.new) }
     ensures names { OnOk result (names.new ≡ names_after_all names.old (code_trees code.now)) }
 {
     let faults = block_faults(alloc, names, sequences, false, code)?;
@@ -42,7 +44,9 @@ fn add_step(
     step: &CheckedStep,
     found: &mut ItemList<Fault>,
 ) -> Result<(), OutOfMemory>
-    ensures list { OnOk result (Appends is_step_before (step_fault_at (site_step site.entry)) (FaultInStep (record { visible = names.old; sequences = sequences.now; in_debugvars = false }) around (step_tree step.now)) found.old found.new) }
+    ensures list { OnOk result (Appends is_step_before (step_fault_at (site_step site.entry))
+        (FaultInStep (record { visible = names.old; sequences = sequences.now; in_debugvars = false }) around
+        (step_tree step.now)) found.old found.new) }
     ensures names { OnOk result (names.new ≡ names_after_step names.old (step_tree step.now)) }
 {
     match step {
@@ -86,7 +90,9 @@ pub fn add_inner(
     steps: &[CheckedStep],
     found: &mut ItemList<Fault>,
 ) -> Result<(), OutOfMemory>
-    ensures list { OnOk result (Appends is_step_before (step_fault_at (site_step site.entry)) (FaultInSteps (record { visible = names.old; sequences = sequences.now; in_debugvars = false }) around 0 (steps_tree steps.now)) found.old found.new) }
+    ensures list { OnOk result (Appends is_step_before (step_fault_at (site_step site.entry))
+        (FaultInSteps (record { visible = names.old; sequences = sequences.now; in_debugvars = false }) around 0
+        (steps_tree steps.now)) found.old found.new) }
     ensures names { OnOk result (names.new ≡ names.old) }
 {
     let len = names.len();
@@ -106,7 +112,9 @@ fn add_steps(
     steps: &[CheckedStep],
     found: &mut ItemList<Fault>,
 ) -> Result<(), OutOfMemory>
-    ensures list { OnOk result (Appends is_step_before (step_fault_at (site_step site.entry)) (FaultInSteps (record { visible = names.old; sequences = sequences.now; in_debugvars = false }) around 0 (steps_tree steps.now)) found.old found.new) }
+    ensures list { OnOk result (Appends is_step_before (step_fault_at (site_step site.entry))
+        (FaultInSteps (record { visible = names.old; sequences = sequences.now; in_debugvars = false }) around 0
+        (steps_tree steps.now)) found.old found.new) }
     ensures names { OnOk result (names.new ≡ names_after_steps names.old (steps_tree steps.now)) }
 {
     for (number, step) in steps.iter().enumerate() {

@@ -2,7 +2,7 @@
 use Rattle.std.proofs.Common.{◌≡◌, ◌∙◌, ℕ, zero, suc, ◌+◌, ◌-◌, ◌<◌, ◌≤◌, ◌==◌, nat_le, Bool, true, false, cond, List, [], ◌∷◌, drop, map, Option, Some, None, option_map, find, bytes_eq, refl, ap, sym, arith}
 use Rattle.std.specs.List.{before_first, after_first, slice_get, AllByRecursion, IsDistinct}
 use Rattle.std.specs.Option.{option_and_then}
-use Rattle.std.proofs.lemmas.Bool.{leb-true}
+use Rattle.std.proofs.lemmas.Bool.{leb-true, and_parts}
 use Rattle.std.proofs.lemmas.Option.{same_Some, none-some}
 use Rattle.std.proofs.lemmas.Map.Keys.{IsDistinct-head, IsDistinct-tail}
 use Rattle.std.proofs.lemmas.Slice.Eq.{bytes_eq-Decides}
@@ -14,7 +14,7 @@ use Rattle.sequence_trees.specs.declared.spot.Spot.{Spot}
 use Rattle.set_lines.specs.Lines.{line_after, text_along, text_in, line_of}
 use Rattle.set_lines.specs.Parts.{part_number}
 use Rattle.set_lines.specs.Rests.{rest_after, rest_of, follows, from_named, AreLast}
-use Rattle.set_lines.proofs.SameLemmas.{both, text_equal, same_part}
+use Rattle.set_lines.proofs.SameLemmas.{text_equal, same_part}
 
 pub next_rest : (n : ℕ) (text : List ℕ) → 0 < n → rest_after n text ≡ rest_after (n - 1) (after_first (λ b. b == 10) text)
 next_rest zero text some = absurd (omega arith)
@@ -118,9 +118,9 @@ line_at set spot rest line is first =
 pub rest_later : (set : SeqSet) (before spot : Spot) (passed : ℕ) (old rest : List ℕ) → follows before spot ≡ true → rest_of set before ≡ Some old
     → passed ≡ (spot.place.line - 1) - (before.place.line - 1) → rest ≡ rest_after passed old → rest_of set spot ≡ Some rest
 rest_later set before spot passed old rest same is far new =
-    let a = both (same_text before.sequence spot.sequence) _ same in
-    let b = both (bytes_eq before.path spot.path) _ a.1 in
-    let c = both (part_number before.part == part_number spot.part) (nat_le before.place.line spot.place.line) b.1 in
+    let a = and_parts (same_text before.sequence spot.sequence) _ same in
+    let b = and_parts (bytes_eq before.path spot.path) _ a.1 in
+    let c = and_parts (part_number before.part == part_number spot.part) (nat_le before.place.line spot.place.line) b.1 in
     let le : before.place.line ≤ spot.place.line = leb-true before.place.line spot.place.line c.1 in
     let sum : (before.place.line - 1) + passed ≡ spot.place.line - 1 = omega (arith, le, far) in
     let text : text_in set spot.sequence spot.path spot.part ≡ text_in set before.sequence before.path before.part =

@@ -1,14 +1,10 @@
 -- Parts of one number, and texts that are the same, are equal.
-use Rattle.std.proofs.Common.{◌≡◌, ◌∙◌, ℕ, ◌==◌, Bool, true, false, ◌&&◌, if◌then◌else◌, List, Option, Some, None, refl, ap, sym, true≢false, eqb-true}
+use Rattle.std.proofs.Common.{◌≡◌, ◌∙◌, ℕ, ◌==◌, true, false, if◌then◌else◌, List, Option, Some, None, refl, ap, sym, true≢false, eqb-true}
 use Rattle.std.proofs.lemmas.Slice.Eq.{bytes_eq-Decides}
 use Rattle.device_tree.specs.Same.{same_text}
 use Rattle.sequence_trees.specs.declared.spot.Part.{Part}
 use Rattle.sequence_trees.specs.declared.spot.Part.TheVariants as parts
 use Rattle.set_lines.specs.Parts.{part_number}
-
-pub both : (a b : Bool) → a && b ≡ true → (a ≡ true) × (b ≡ true)
-both true b e = (refl, e)
-both false b e = absurd (true≢false (sym e))
 
 abbrev part_at : ℕ → Part
 part_at n = if n == 0 then parts.Debugvars else if n == 1 then parts.Control else if n == 2 then parts.Block else if n == 3 then parts.If else parts.While

@@ -114,7 +114,7 @@ fn same_path(path: &[u64], other: &[u64]) -> bool
 }
 
 // Whether a place is in the text of the last one, in its line or a later one.
-fn follows(last: &Spot, spot: &Spot) -> bool
+fn is_not_before(last: &Spot, spot: &Spot) -> bool
     ensures { result ≡ follows last.now spot.now }
 {
     same_text(name_of(&last.sequence), name_of(&spot.sequence))
@@ -210,7 +210,7 @@ impl<'a> Lines<'a> {
         ensures { MatchOption result (rest_of self.now.set.now spot.now ≡ None) (IsStart self.now.set.now spot.now) }
     {
         match self.last {
-            Some(last) if follows(last.spot, spot) => Some(start_after(last, spot)),
+            Some(last) if is_not_before(last.spot, spot) => Some(start_after(last, spot)),
             Some(last) => start_of(self.set, last.sequences, spot),
             None => start_of(self.set, self.set.entries.as_slice(), spot),
         }

@@ -1,9 +1,7 @@
 -- The warnings of a whole set.
-use Rattle.std.proofs.Common.{◌≡◌, ◌∙◌, sym, ap, refl, subst, Result, Ok, Err, IfOk, ℕ, suc, ◌+◌, ◌<◌, List, [], ◌∷◌, ◌++◌, length, take, get_or, append_assoc, arith}
-use Rattle.std.proofs.lemmas.List.{take_more, map-append, append-nil, length-take-le}
+use Rattle.std.proofs.Common.{◌≡◌, ◌∙◌, sym, ap, subst, Result, Ok, Err, IfOk, ℕ, suc, ◌+◌, ◌<◌, List, [], ◌∷◌, ◌++◌, length, take, get_or, append_assoc, arith}
+use Rattle.std.proofs.lemmas.List.{take_more, append-nil, length-take-le}
 use Rattle.dap_base.specs.declared.text.OutOfMemory.{OutOfMemory}
-use Rattle.expr_grammar.specs.declared.code.Stmt.{Stmt}
-use Rattle.expr_grammar.specs.Tree.{StmtTree, stmt_tree, code_trees}
 use Rattle.sequence_resolve.specs.declared.entry.SeqEntry.{SeqEntry}
 use Rattle.sequence_resolve.specs.declared.entry.SeqSet.{SeqSet}
 use Rattle.sequence_trees.specs.declared.spot.Spot.{Spot}
@@ -12,24 +10,11 @@ use Rattle.sequence_trees.specs.Order.{IsFirstFault}
 use Rattle.sequence_trees.specs.Reading.{ReadsSet}
 use Rattle.sequence_trees.proofs.SetLaws.{one_set, not_both}
 use Rattle.seq_check.proofs.OneFault.{valid_or_faulty}
-use Rattle.code_check.specs.BlockFaults.{names_after, names_after_all}
 use Rattle.seq_check.specs.Calls.{set_calls}
 use Rattle.seq_check.specs.Valid.{IsSound, IsValid}
 use Rattle.set_warnings.specs.declared.warning.Warning.{Warning}
 use Rattle.set_warnings.specs.Sequences.{is_called, entry_warnings, entries_warnings}
 use Rattle.set_warnings.specs.Answers.{AreSetWarnings, valid, faulty, IsFaulty}
-
--- ---- names
-
-names_after-append : (names : List (List ℕ)) (front : List StmtTree) (s : StmtTree) → names_after_all names (front ++ s ∷ []) ≡ names_after (names_after_all names front) s
-names_after-append names [] s = refl
-names_after-append names (x ∷ front) s = names_after-append (names_after names x) front s
-
-pub names_after_more : (names : List (List ℕ)) (xs : List Stmt) (i : ℕ) (x : Stmt) → i < length xs
-    → names_after_all names (code_trees (take (i + 1) xs)) ≡ names_after (names_after_all names (code_trees (take i xs))) (stmt_tree (get_or xs i x))
-names_after_more names xs i x h =
-    ap (λ ys. names_after_all names (code_trees ys)) (take_more xs i x h) ∙ ap (names_after_all names) (map-append stmt_tree (take i xs) (get_or xs i x ∷ []))
-    ∙ names_after-append names (code_trees (take i xs)) (stmt_tree (get_or xs i x))
 
 -- ---- sequences
 

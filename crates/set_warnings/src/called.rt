@@ -62,7 +62,7 @@ fn mark(calls: &[StepCall], flags: &mut Vec<bool>)
 }
 
 // For each of so many sequences no mark.
-fn unmarked(alloc: Global, count: usize) -> Result<Vec<bool>, OutOfMemory>
+fn no_marks(alloc: Global, count: usize) -> Result<Vec<bool>, OutOfMemory>
     ensures { IfOk result (λ flags. flags.items ≡ replicate count false) }
 {
     vec![in alloc; false; count].map_err(|_| OutOfMemory)
@@ -76,7 +76,7 @@ pub fn called_flags(
 ) -> Result<Vec<bool>, OutOfMemory>
     ensures { IfOk result (λ flags. AreCalledFlags calls.now count flags.items) }
 {
-    let mut flags = unmarked(alloc, count)?;
+    let mut flags = no_marks(alloc, count)?;
     for list in calls {
         mark(list.as_slice(), &mut flags);
     }

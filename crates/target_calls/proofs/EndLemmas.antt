@@ -9,14 +9,15 @@ use Rattle.target_machine.specs.declared.unit.Unit.TheVariants as unit
 use Rattle.target_calls.specs.Asks.{ForgiveNothing, is_forgiving, is_wide_call}
 use Rattle.target_calls.specs.World.{World, done_now, next_world, one_if_skipped, skips, stops_here}
 use Rattle.target_calls.specs.declared.calls.Ask.{Ask}
+use Rattle.dap_base.proofs.Basics.{first_true}
 
-end_skipped : (f g s : Bool) (n : ℕ) (t : TargetState) (large : List ℕ) (actions : List Action) → (ended f g s n t large actions).end ≡ Skipped → g ≡ true
+pub end_skipped : (f g s : Bool) (n : ℕ) (t : TargetState) (large : List ℕ) (actions : List Action) → (ended f g s n t large actions).end ≡ Skipped → g ≡ true
 end_skipped true true s n t large actions h = refl
 end_skipped true false s n t large actions h = absurd cc
 end_skipped false g true n t large actions h = absurd cc
 end_skipped false g false n t large actions h = absurd cc
 
-end_faulted : (f g s : Bool) (n : ℕ) (t : TargetState) (large : List ℕ) (actions : List Action) → (ended f g s n t large actions).end ≡ Faulted → g ≡ false
+pub end_faulted : (f g s : Bool) (n : ℕ) (t : TargetState) (large : List ℕ) (actions : List Action) → (ended f g s n t large actions).end ≡ Faulted → g ≡ false
 end_faulted true true s n t large actions h = absurd cc
 end_faulted true false s n t large actions h = refl
 end_faulted false g true n t large actions h = absurd cc
@@ -36,13 +37,9 @@ pub faulted_forgives_not : (w : World) (ask : Ask) → (done_now w ask).end ≡ 
 unfolding call_done
 faulted_forgives_not w ask h = end_faulted _ (is_forgiving ask) _ _ _ _ _ h
 
-and_left : (a b : Bool) → (a && b) ≡ true → a ≡ true
-and_left true b h = refl
-and_left false b h = absurd cc
-
 small_is_wide : (t : TargetState) (large : List ℕ) (call : Call) → is_small t large call ≡ true → is_wide_call call ≡ true
 small_is_wide t large (Access (unit.Memory size read ap address value)) h =
-    and_left (nat_lt 0xFFFF_FFFF address) (not (contains large ap)) (and_left (nat_lt 0xFFFF_FFFF address && not (contains large ap)) (not (has_large t ap)) h)
+    first_true (nat_lt 0xFFFF_FFFF address) (not (contains large ap)) (first_true (nat_lt 0xFFFF_FFFF address && not (contains large ap)) (not (has_large t ap)) h)
 small_is_wide t large (Access (unit.Ap read ap addr value)) h = absurd cc
 small_is_wide t large (Access (unit.Dp read addr value)) h = absurd cc
 small_is_wide t large (Access (unit.Poll mask value turns)) h = absurd cc

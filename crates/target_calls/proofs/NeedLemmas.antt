@@ -11,7 +11,7 @@ capped_twice needs few more = omega arith
 none_first : (n : ℕ) → n ≡ 0 + n
 none_first n = omega arith
 
-none_last : (n : ℕ) → n ≡ n + 0
+pub none_last : (n : ℕ) → n ≡ n + 0
 none_last n = omega arith
 
 some_more : (n : ℕ) (asks : Asks) → 0 < n → needed_more n asks ≡ record asks { needs = capped_sum asks.needs n; fence = length asks.calls }

@@ -18,7 +18,7 @@ use Rattle.target_machine.specs.declared.ap.ApState.{ApState}
 use Rattle.target_machine.specs.declared.access.Outcome.TheVariants.{Fault}
 use Rattle.target_machine.specs.declared.access.RegAccess.{RegAccess}
 
-word_either : (b : Bool) (x y : ℕ) → IsWord x → IsWord y → IsWord (cond b x y)
+pub word_either : (b : Bool) (x y : ℕ) → IsWord x → IsWord y → IsWord (cond b x y)
 word_either true x y h k = h
 word_either false x y h k = k
 
@@ -30,11 +30,11 @@ state_either : (b : Bool) (x y : TargetState) → IsInRange x → IsInRange y �
 state_either true x y h k = h
 state_either false x y h k = k
 
-either : (b : Bool) (x y : Attempt) → IsAttemptInRange x → IsAttemptInRange y → IsAttemptInRange (cond b x y)
+pub either : (b : Bool) (x y : Attempt) → IsAttemptInRange x → IsAttemptInRange y → IsAttemptInRange (cond b x y)
 either true x y h k = h
 either false x y h k = k
 
-masked : (n mask : ℕ) → IsWord mask → IsWord (bit_and n mask)
+pub masked : (n mask : ℕ) → IsWord mask → IsWord (bit_and n mask)
 masked n mask h = let le = and_le_r n mask in omega arith
 
 masked_word : (n mask : ℕ) → IsWord n → IsWord (bit_and n mask)

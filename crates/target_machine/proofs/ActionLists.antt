@@ -26,7 +26,7 @@ order_fault m (x ∷ xs) e =
     let same : then_acted m x ≡ m = ap (λ (b : Bool). cond b m (acted m.next x)) e in
     ap (λ (y : Attempt). order_from y xs) same ∙ order_fault m xs e
 
-order_next : (m : Attempt) (a : Action) (ys : List Action) → is_fault m.outcome ≡ false → order_from m (a ∷ ys) ≡ order_from (acted m.next a) ys
+pub order_next : (m : Attempt) (a : Action) (ys : List Action) → is_fault m.outcome ≡ false → order_from m (a ∷ ys) ≡ order_from (acted m.next a) ys
 order_next m a ys good = ap (λ (b : Bool). order_from (cond b m (acted m.next a)) ys) good
 
 -- the actions in order are those that follow ones that pass

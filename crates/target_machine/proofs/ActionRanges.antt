@@ -1,7 +1,7 @@
 -- Actions that write values of 32 bits give values of 32 bits, and leave targets in range.
 use Rattle.std.proofs.Common.{ℕ, zero, suc, ◌+◌, Bool, true, false, cond, eqb, List, [], ◌∷◌, arith, bit_and, fold}
 use Rattle.std.specs.List.{AllByRecursion}
-use Rattle.target_machine.proofs.AccessRanges.{attempt_in_range}
+use Rattle.target_machine.proofs.AccessRanges.{attempt_in_range, either}
 use Rattle.target_machine.proofs.StartRanges.{pins_in_range, line_in_range, clock_in_range, delay_in_range}
 use Rattle.target_machine.specs.Attempt.{Attempt, attempt, done}
 use Rattle.target_machine.specs.InRange.{IsWord, IsInRange, IsAttemptInRange, IsCommandInRange, IsActionInRange}
@@ -55,10 +55,6 @@ pub acted_in_range : (t : TargetState) (x : Action) → IsInRange t → IsAction
 acted_in_range t (Makes a) h v = attempt_in_range t h a v
 acted_in_range t (Polls mask requested turns) h v = let p = poll_in_range turns mask requested t h in record { value = p.value; next = p.next }
 acted_in_range t (Commands c) h v = commanded_in_range t c h v
-
-either : (b : Bool) (x y : Attempt) → IsAttemptInRange x → IsAttemptInRange y → IsAttemptInRange (cond b x y)
-either true x y h k = h
-either false x y h k = k
 
 order_in_range : (xs : List Action) (m : Attempt) → IsAttemptInRange m → AllByRecursion IsActionInRange xs → IsAttemptInRange (fold then_acted m xs)
 order_in_range [] m h v = h

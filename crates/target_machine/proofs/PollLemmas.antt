@@ -1,7 +1,7 @@
 -- Polls of CTRL/STAT: reads that all show the same, and none of which matches, are counted.
 use Rattle.std.proofs.Common.{◌≡◌, ◌∙◌, ◌⊎◌, inl, inr, ℕ, zero, suc, ◌+◌, ◌-◌, ◌^◌, ◌<◌, ◌≤◌, ◌&&◌, not, Bool, true, false, cond, eqb, leb, refl, sym, ap, arith, bit_and, eq-eqb, ne_eqb, ltb}
 use Rattle.std.specs.Prelude.{min}
-use Rattle.std.proofs.lemmas.Bool.{le-leb, lt-leb, leb-true, leb-false, ltb-true, lt-ltb}
+use Rattle.std.proofs.lemmas.Bool.{le-leb, lt-leb, leb-true, leb-false, ltb-true, lt-ltb, and_parts}
 use Rattle.std.specs.Int.Bits.{and_zero_l}
 use Rattle.dap_base.specs.Bits.{has_bit}
 use Rattle.target_machine.specs.Attempt.{Attempt, answers, attempt, bank, ctrl_stat, dp_read, is_free, with_bit}
@@ -124,17 +124,13 @@ module _ (mask requested : ℕ) where
 
 -- ---- the poll, by what is counted
 
-both : (x y : Bool) → (x && y) ≡ true → (x ≡ true) × (y ≡ true)
-both true y e = (refl, e)
-both false y e = absurd (cc)
-
 second : (x y : Bool) → (x && y) ≡ false → x ≡ true → y ≡ false
 second true y e h = e
 second false y e h = absurd (cc)
 
 module _ (t : TargetState) (mask requested : ℕ) where
   hits : (n : ℕ) → is_match t mask requested n ≡ true → (0 < n) × (eqb (bit_and (ctrl_stat t) mask) requested ≡ true)
-  hits n e = let h = both (ltb 0 n) (eqb (bit_and (ctrl_stat t) mask) requested) e in (ltb-true 0 n h.0, h.1)
+  hits n e = let h = and_parts (ltb 0 n) (eqb (bit_and (ctrl_stat t) mask) requested) e in (ltb-true 0 n h.0, h.1)
 
   misses : (n : ℕ) → is_match t mask requested n ≡ false → Misses t mask requested n
   misses n e = λ some. second (ltb 0 n) (eqb (bit_and (ctrl_stat t) mask) requested) e (lt-ltb 0 n some)

@@ -20,6 +20,7 @@ use Rattle.target_machine.specs.declared.job.RegionJob.{RegionJob}
 use Rattle.target_machine.specs.declared.job.ScriptJob.{ScriptJob}
 use Rattle.target_machine.specs.declared.job.WordJob.{WordJob}
 use Rattle.target_machine.specs.declared.job.TargetJob.{TargetJob}
+use Rattle.target_machine.proofs.AccessRanges.{word_either, masked}
 
 -- ---- memory
 
@@ -60,19 +61,12 @@ region_entries (r ∷ regions) =
 
 -- ---- the start of a job
 
-masked : (n mask : ℕ) → IsWord mask → IsWord (bit_and n mask)
-masked n mask h = let le = and_le_r n mask in omega arith
-
 port_entries : (aps : List ApJob) → All (λ a. IsWord a.idr × IsWord a.base) aps → AllByRecursion (λ e. IsPortInRange e.1) (map ap_entry aps)
 port_entries [] h = tt
 port_entries (a ∷ aps) h = (
   record { csw = masked a.csw csw_stored (omega arith); tar = omega arith; high = omega arith; idr = (h 0 a (omega arith)).0; base = (h 0 a (omega arith)).1 },
   port_entries aps (λ k d lt. h (suc k) d (omega arith)),
 )
-
-word_either : (b : Bool) (x y : ℕ) → IsWord x → IsWord y → IsWord (cond b x y)
-word_either true x y h k = h
-word_either false x y h k = k
 
 -- the target at the start of a job
 pub start_in_range : (job : TargetJob) → IsTargetJob job → IsJobInRange job → IsInRange (start job)

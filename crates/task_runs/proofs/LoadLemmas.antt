@@ -27,7 +27,7 @@ use Rattle.image_load.proofs.SequelLemmas.{comes_stopped, comes_whole}
 use Rattle.task_runs.specs.Following.{CameToEnd, FollowsAs, LeftOff, Shares, StopsAt}
 use Rattle.task_runs.specs.declared.following.Unclosed.TheVariants as unclosed
 
-no_end : {A : Type 0} (x : A) (o : Option A) → o ≡ None → o ≡ Some x → ⊥
+pub no_end : {A : Type 0} (x : A) (o : Option A) → o ≡ None → o ≡ Some x → ⊥
 no_end x o none some = (let bad : None ≡ Some x = sym none ∙ some in cc)
 
 module _ (w : World) (ap' : ℕ) (image : Bytes) (old : List Ask) where

@@ -28,7 +28,7 @@ use Rattle.rom_scan.specs.Listing.{lines_of}
 use Rattle.rom_scan.specs.Meets.{Finished, StopsAfter, StopsIn}
 use Rattle.rom_scan.specs.Scans.{Scans}
 use Rattle.rom_scan.specs.Walk.{Walked, scanned}
-use Rattle.rom_scan.specs.Written.{AppendsComponents, WritesComponents}
+use Rattle.rom_scan.specs.Written.{AppendsComponents}
 use Rattle.rom_scan.specs.declared.component.Component.{Component}
 use Rattle.rom_scan.specs.declared.component.Known.{Known}
 use Rattle.rom_scan.specs.declared.scan_end.ScanEnd.{ScanEnd}
@@ -69,9 +69,6 @@ closed_comes {X = X} u s f = after_comes u s (λ x. Ends (f x)) ∙ by_end (come
     by_end : (end : Option X) → rest_by u (comes u s).calls (comes u s).written end (λ x. Ends (f x)) ≡ record { calls = (comes u s).calls; written = (comes u s).written; end = option_map f end }
     by_end None = refl
     by_end (Some x) = rw (append-nil (comes u s).calls, append-nil (comes u s).written) refl
-
-no_end : {A : Type 0} (x : A) (o : Option A) → o ≡ None → o ≡ Some x → ⊥
-no_end x o none some = (let bad : None ≡ Some x = sym none ∙ some in cc)
 
 module _ (w : World) (n : ℕ) (old : List Ask) where
   abbrev s : Sequel Walked
@@ -178,6 +175,3 @@ left_here c old written = record {
 -- the same end under another name
 pub scans_at : (w : World) (lines n : ℕ) (x y : ScanEnd) (old new : List Ask) (before now : Option (List ℕ)) → x ≡ y → Scans w lines n (Err x) old new before now → Scans w lines n (Err y) old new before now
 scans_at w lines n x y old new before now is h = subst (λ (k : ScanEnd). Scans w lines n (Err k) old new before now) is h
-
-pub wrote_at : (x y : ScanEnd) (a b : Option (List ℕ)) → x ≡ y → WritesComponents (Err x) a b → WritesComponents (Err y) a b
-wrote_at x y a b is h = subst (λ (k : ScanEnd). WritesComponents (Err k) a b) is h

@@ -3,7 +3,11 @@ use Rattle.std.specs.Prelude.{◌≡◌, ◌⊎◌, ℕ, ◌+◌, ◌≤◌, Lis
 use Rattle.std.specs.Io.KnownBytes.{Appends}
 use Rattle.target_calls.specs.Asks.{settled_last}
 use Rattle.target_calls.specs.declared.calls.Ask.{Ask}
+use Rattle.probe_core.specs.Bench.{BenchState}
+use Rattle.access_calls.specs.Asking.{EndsBy}
 use Rattle.access_calls.specs.Endings.{ending_of}
+use Rattle.access_calls.specs.Keeps.{Keeps}
+use Rattle.access_calls.specs.Reported.{AccessView}
 use Rattle.access_calls.specs.declared.ended.Ending.{Ending}
 use Rattle.access_calls.specs.declared.ended.Ending.TheVariants as ending
 use Rattle.access_calls.specs.declared.stop.Stop.{Stop}
@@ -76,10 +80,7 @@ ending_by (unclosed.Stopped s) = ending_of s
 abbrev pub EndIs : {A : Type 0} → Result A Unclosed → Option Stop → Type 0
 EndIs (Ok x) end = end ≡ None
 EndIs (Err unclosed.WriteFault) end = end ≡ None
-EndIs (Err (unclosed.Stopped (Cut r))) end = end ≡ Some (Cut r)
-EndIs (Err (unclosed.Stopped (BenchFault issued confirmed))) end = end ≡ Some (BenchFault issued confirmed)
-EndIs (Err (unclosed.Stopped ReplyBad)) end = end ≡ Some ReplyBad
-EndIs (Err (unclosed.Stopped OutOfMemory)) end = end ≡ None
+EndIs (Err (unclosed.Stopped s)) end = EndsBy s end
 
 -- the sink's count of faults rose where it failed, and else it is the same
 abbrev pub HasSinkCause : {A : Type 0} → Result A Unclosed → ℕ → ℕ → Type 0
@@ -98,6 +99,16 @@ abbrev pub HasLines : {A : Type 0} → Result A Unclosed → Option (List ℕ) �
 HasLines (Ok x) old new = AppendsLines old new
 HasLines (Err unclosed.WriteFault) old new = Unit {0}
 HasLines (Err (unclosed.Stopped s)) old new = AppendsLines old new
+
+-- How what follows a run ends: the access has the end that is answered, and else none; whole lines are written, except perhaps where the
+-- sink failed; its count of faults rose where the answer says that it failed, and else it is the same; and what each call of an access
+-- keeps is kept.
+pub record EndsFollowing {S T K : Type 0} (begun : S → BenchState → Type 0) (reported : S → AccessView) (identity : S → ℕ)
+    (written : K → Option (List ℕ)) (faults : K → ℕ) (result : Result T Unclosed) (old new : S) (sink_old sink_new : K) : Type 0 where
+  pub end : EndIs result (reported new).end
+  pub lines : HasLines result (written sink_old) (written sink_new)
+  pub cause : HasSinkCause result (faults sink_old) (faults sink_new)
+  pub keeps : Keeps begun reported identity old new
 
 -- ---- the answer
 

@@ -1,13 +1,13 @@
 //! What follows a run that is done, over an access.
-ghost use Rattle.std.specs.Prelude.{◌≡◌, ◌+◌, ◌≤◌, ℕ, List, Option, Some, None, IfOk, length};
-ghost use Rattle.probe_core.specs.Bench.{BenchState};
-ghost use Rattle.target_calls.specs.World.{stop, world_after};
-ghost use Rattle.access_calls.specs.Left.{IsLeft};
-ghost use Rattle.access_calls.specs.Reported.{world_from};
+ghost use Rattle.std.specs.Prelude.{◌≡◌, ◌+◌, ◌≤◌, Some, IfOk, length};
+ghost use Rattle.target_calls.specs.World.{world_after};
+ghost use Rattle.access_calls.specs.Asking.{MayAsk};
 ghost use Rattle.access_calls.specs.Keeps.{Keeps};
+ghost use Rattle.function_calls.specs.Frame.{IsReady};
 ghost use Rattle.image_load.specs.LoadSequel.{loaded};
+ghost use Rattle.rom_scan.specs.Frame.{GivesAsking, GivesWriting};
 ghost use Rattle.sequels.specs.Sequel.{Sequel, comes};
-ghost use Rattle.task_runs.specs.Following.{EndIs, FollowsAs, HasLines, HasSinkCause, NoWriteFault};
+ghost use Rattle.task_runs.specs.Following.{EndIs, EndsFollowing, FollowsAs, NoWriteFault};
 ghost use Rattle.task_runs.specs.Tasks.{ClosesAs, ClosesLoad, ClosesScan, scanning, sequel_of};
 
 use crate::followed::Followed;
@@ -42,12 +42,9 @@ fn load_after<A: Access>(
     image: &Image,
     access: &mut A,
 ) -> Result<Closed, Unclosed>
-    requires few { length (A.reported access.old).asks.calls ≤ 1000000 }
-    requires open { (A.reported access.old).end ≡ None }
-    ensures gives { (m : BenchState) (answered : Option ℕ) (written : Option (List ℕ)) → A.begun access.old m → IsLeft (A.reported access.new) answered
-        → stop (world_from m answered) (A.reported access.old).asks.calls ≡ None
-        → FollowsAs (A.reported access.new).lines (comes (world_after (world_from m answered) (A.reported access.old).asks.calls) (loaded ap image.now))
-        result (A.reported access.old).asks.calls (A.reported access.new).asks.calls written written }
+    requires may { MayAsk 1000000 (A.reported access.old) }
+    ensures gives { GivesAsking A.begun A.reported access.old access.new
+        (λ w lines. FollowsAs lines (comes (world_after w (A.reported access.old).asks.calls) (loaded ap image.now)) result) }
     ensures asked { IfOk result (λ x. length (A.reported access.new).asks.calls ≡ length (A.reported access.old).asks.calls + x.units) }
     ensures few { IfOk result (λ x. x.units ≤ 8000000) }
     ensures closes { IfOk result (λ x. ClosesLoad image.now x.close) }
@@ -91,19 +88,13 @@ fn scan_after<A: Access, K: Sink>(
     access: &mut A,
     sink: &mut K,
 ) -> Result<Closed, Unclosed>
-    requires few { length (A.reported access.old).asks.calls ≤ 1000000 }
-    requires open { (A.reported access.old).end ≡ None }
-    ensures gives { (m : BenchState) (answered : Option ℕ) → A.begun access.old m → IsLeft (A.reported access.new) answered
-        → stop (world_from m answered) (A.reported access.old).asks.calls ≡ None
-        → FollowsAs (A.reported access.new).lines (comes (world_after (world_from m answered) (A.reported access.old).asks.calls) (scanning ap))
-        result (A.reported access.old).asks.calls (A.reported access.new).asks.calls (K.written sink.old) (K.written sink.new) }
+    requires may { MayAsk 1000000 (A.reported access.old) }
+    ensures gives { GivesWriting A.begun A.reported K.written access.old access.new sink.old sink.new
+        (λ w lines. FollowsAs lines (comes (world_after w (A.reported access.old).asks.calls) (scanning ap)) result) }
     ensures asked { IfOk result (λ x. length (A.reported access.new).asks.calls ≡ length (A.reported access.old).asks.calls + x.units) }
     ensures few { IfOk result (λ x. x.units ≤ 8000000) }
     ensures closes { IfOk result (λ x. ClosesScan x.close) }
-    ensures end { EndIs result (A.reported access.new).end }
-    ensures lines { HasLines result (K.written sink.old) (K.written sink.new) }
-    ensures cause { HasSinkCause result (K.faults sink.old) (K.faults sink.new) }
-    ensures keeps { Keeps A.begun A.reported A.identity access.old access.new }
+    ensures ends { EndsFollowing A.begun A.reported A.identity K.written K.faults result access.old access.new sink.old sink.new }
 {
     let mut units = 0;
     match scan_counting(alloc, ap, access, sink, &mut units) {
@@ -128,19 +119,14 @@ pub(crate) fn follow<A: Access, K: Sink>(
     access: &mut A,
     sink: &mut K,
 ) -> Result<Closed, Unclosed>
-    requires counted { units ≡ length (A.reported access.old).asks.calls }
-    requires open { (A.reported access.old).end ≡ None }
-    ensures gives { (m : BenchState) (answered : Option ℕ) (s : Sequel Close) → A.begun access.old m → IsLeft (A.reported access.new) answered
-        → stop (world_from m answered) (A.reported access.old).asks.calls ≡ None → sequel_of followed.now ≡ Some s
-        → FollowsAs (A.reported access.new).lines (comes (world_after (world_from m answered) (A.reported access.old).asks.calls) s)
-        result (A.reported access.old).asks.calls (A.reported access.new).asks.calls (K.written sink.old) (K.written sink.new) }
+    requires ready { IsReady units (A.reported access.old) }
+    ensures gives { (s : Sequel Close) → sequel_of followed.now ≡ Some s
+        → GivesWriting A.begun A.reported K.written access.old access.new sink.old sink.new
+        (λ w lines. FollowsAs lines (comes (world_after w (A.reported access.old).asks.calls) s) result) }
     ensures asked { IfOk result (λ x. length (A.reported access.new).asks.calls ≡ units + x.units) }
     ensures few { IfOk result (λ x. units + x.units ≤ 9000000) }
     ensures closes { IfOk result (λ x. ClosesAs followed.now x.close) }
-    ensures end { EndIs result (A.reported access.new).end }
-    ensures lines { HasLines result (K.written sink.old) (K.written sink.new) }
-    ensures cause { HasSinkCause result (K.faults sink.old) (K.faults sink.new) }
-    ensures keeps { Keeps A.begun A.reported A.identity access.old access.new }
+    ensures ends { EndsFollowing A.begun A.reported A.identity K.written K.faults result access.old access.new sink.old sink.new }
 {
     if units > 1_000_000 {
         return Err(Unclosed::Stopped(Stop::OutOfMemory));

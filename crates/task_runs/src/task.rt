@@ -113,13 +113,16 @@ pub fn run_task<A: Access, K: Sink>(
         (ran result.ended (A.reported access.new).asks (known_part known (K.written sink.new))) }
     // Where it is neither done nor halted, what is written comes first in the lines of each world that is left. All calls before a line
     // had come when it was written.
-    ensures part { (m : BenchState) (answered : Option ℕ) (known : Bool) → A.begun access.old m → IsLeft (A.reported access.new) answered → Knows known (K.written sink.old)
+    ensures part { (m : BenchState) (answered : Option ℕ) (known : Bool) → A.begun access.old m → IsLeft (A.reported access.new) answered
+        → Knows known (K.written sink.old)
         → (ComesToEnd result.ended.ending → ⊥)
-        → IsPart (outcome_in (world_from m answered) (task_of (program_of (checked_trees checked.now) start.now settings.now) followed.now) (known_part known (K.written sink.old)))
+        → IsPart (outcome_in (world_from m answered)
+        (task_of (program_of (checked_trees checked.now) start.now settings.now) followed.now) (known_part known (K.written sink.old)))
         (ran result.ended (A.reported access.new).asks (known_part known (K.written sink.new))) }
     // So is how what follows came to its end.
     ensures close { (m : BenchState) (known : Bool) → A.begun access.old m → Knows known (K.written sink.old) → result.ended.ending ≡ ends.Done
-        → result.close ≡ close_in (world_from m (answered_by (A.reported access.new))) (task_of (program_of (checked_trees checked.now) start.now settings.now) followed.now)
+        → result.close ≡ close_in (world_from m (answered_by (A.reported access.new)))
+        (task_of (program_of (checked_trees checked.now) start.now settings.now) followed.now)
         (known_part known (K.written sink.old)) }
     // Over any bench it closes as what follows may.
     ensures closes { result.ended.ending ≡ ends.Done → ClosesAs followed.now result.close }

@@ -101,7 +101,7 @@ impl Plans {
     // `made UNIT`: the plan of a unit was made.
     fn made(&mut self, words: &mut RowWords<'_>) -> Result<&'static str, RowError> {
         let unit = sound_unit_of(words)?;
-        self.managed.made(&unit);
+        self.managed.note_made(&unit);
         Ok("noted")
     }
 
@@ -118,7 +118,7 @@ impl Plans {
             text.push_str("settling first: ")?;
         }
         put_plan(text, &self.managed.plan(&unit))?;
-        self.managed.made(&unit);
+        self.managed.note_made(&unit);
         Ok(())
     }
 
@@ -140,7 +140,7 @@ impl Plans {
         if self.managed.needs_settle(&OF_A_PORT) {
             return Err(RowError::Unreadable);
         }
-        self.managed.selected(select);
+        self.managed.note_select(select);
         Ok("noted")
     }
 
@@ -156,7 +156,7 @@ impl Plans {
 
     // `settled`: the settling was made.
     fn settled(&mut self) -> &'static str {
-        self.managed.settled();
+        self.managed.note_settled();
         "noted"
     }
 

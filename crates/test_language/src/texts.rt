@@ -19,7 +19,7 @@ fn fault_of(
     in_debugvars: bool,
     code: &[Stmt],
 ) -> Result<Option<CodeFault>, OutOfMemory> {
-    let mut names = Names::predefined(alloc)?;
+    let mut names = Names::predefined_names(alloc)?;
     let sequences = main_alone(alloc)?;
     block_fault(alloc, &mut names, &sequences, in_debugvars, code)
 }

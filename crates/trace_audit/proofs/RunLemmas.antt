@@ -15,7 +15,9 @@ use Rattle.std.specs.Cmp.Lexicographic.{bytes_decides}
 use Rattle.std.proofs.lemmas.Bool.{both_ways}
 use Rattle.probe_core.specs.declared.probe.ProbeRefusal.{ProbeRefusal}
 use Rattle.std.proofs.lemmas.List.{take_more, map_push, map-append, take-append-drop, drop_more, length-map, length-take-le}
+use Rattle.std.proofs.lemmas.Option.{same_Some}
 use Rattle.trace_audit.specs.Audits.{Accepts, Audits, Comes, IsFault, IsFirstWrong, IsWrong, IsWrongEntry, entry_of, entries_of, fault_at}
+use Rattle.dap_base.proofs.Basics.{some_none}
 
 -- a run with a further entry
 pub run_push : (p q r : ProbeState) (es : List Entry) (e : Entry) → IsRun p es q → CanCome e.is_reply q e.bytes → r ≡ after e.is_reply q e.bytes → IsRun p (es ++ e ∷ []) r
@@ -28,12 +30,6 @@ pub one_end : (first p q : ProbeState) (es : List Entry) → IsRun first es p �
 one_end first p q [] run other = sym run ∙ other
 one_end first p q (e ∷ es) run other = one_end (after e.is_reply first e.bytes) p q es run.1 other.1
 
-some_none : {A : Type 0} (x : A) → Some x ≡ None → ⊥
-some_none x e = cc
-
-some_is : {A : Type 0} (x y : A) → Some x ≡ Some y → x ≡ y
-some_is x y e = cc
-
 nil_some : (xs : List (List ℕ)) (x : List ℕ) → xs ≡ [] → slice_get xs 0 ≡ Some x → ⊥
 nil_some [] x e at = absurd (some_none x (sym at))
 nil_some (y ∷ xs) x e at = absurd cc
@@ -45,11 +41,11 @@ not_both false p bytes wrongs.NoReply can is = is
 not_both false p bytes wrongs.OtherReply can is = is
 not_both true p bytes (wrongs.Refused refusal) can is = is
 not_both true p bytes wrongs.NoReply can is = nil_some p.waiting bytes is can
-not_both true p bytes wrongs.OtherReply can is = is.2 (some_is is.0 bytes (sym is.1 ∙ can))
+not_both true p bytes wrongs.OtherReply can is = is.2 (same_Some is.0 bytes (sym is.1 ∙ can))
 
 -- an entry cannot come for one reason
 one_wrong : (is_reply : Bool) (p : ProbeState) (bytes : List ℕ) (x y : Wrong) → IsWrongEntry is_reply p bytes x → IsWrongEntry is_reply p bytes y → x ≡ y
-one_wrong false p bytes (wrongs.Refused x) (wrongs.Refused y) a b = ap wrongs.Refused (some_is x y (sym a ∙ b))
+one_wrong false p bytes (wrongs.Refused x) (wrongs.Refused y) a b = ap wrongs.Refused (same_Some x y (sym a ∙ b))
 one_wrong false p bytes (wrongs.Refused x) wrongs.NoReply a b = absurd b
 one_wrong false p bytes (wrongs.Refused x) wrongs.OtherReply a b = absurd b
 one_wrong false p bytes wrongs.NoReply y a b = absurd a

@@ -1,6 +1,6 @@
 -- Texts of entries.
 use Rattle.std.proofs.Common.{◌≡◌, ◌∙◌, ℕ, ◌≤◌, ◌<◌, ◌+◌, ◌%◌, ◌==◌, ◌&&◌, ◌||◌, nat_le, Bool, true, false, List, [], ◌∷◌, ◌++◌, length, take, get_or, Option, None, Some, Ok, refl, sym, ap, ap₂, subst, arith, suc, map, not, cond, count_by}
-use Rattle.std.proofs.lemmas.Bool.{leb-true}
+use Rattle.std.proofs.lemmas.Bool.{leb-true, and_parts}
 use Rattle.std.proofs.lemmas.Bool.Decides.{nat_tests}
 use Rattle.std.proofs.lemmas.List.Sums.{AllPass-from_list_all, list_all-from_AllPass, sum_by-cons}
 use Rattle.std.proofs.lemmas.List.{map_push, take_more}
@@ -15,11 +15,7 @@ use Rattle.trace_audit.specs.Texts.{AreEntriesOf, IsEntry, IsEntryText, IsMarked
 
 -- ---- tests
 
-both : (a b : Bool) → a && b ≡ true → (a ≡ true) × (b ≡ true)
-both true b e = (refl, e)
-both false b e = absurd cc
-
-is_equal : (x y : ℕ) → (x == y) ≡ true → x ≡ y
+pub is_equal : (x y : ℕ) → (x == y) ≡ true → x ≡ y
 is_equal x y e = grind (arith, nat_tests)
 
 -- ---- the text of one entry
@@ -32,8 +28,8 @@ record HasBytes (digits : List ℕ) : Type 0 where
 
 bytes_of : (digits : List ℕ) → are_digits digits ≡ true → HasBytes digits
 bytes_of digits e =
-    let a = both (nat_le (length digits) 2048 && (length digits % 2 == 0)) (list_all is_hex_digit digits) e in
-    let b = both (nat_le (length digits) 2048) (length digits % 2 == 0) a.0 in
+    let a = and_parts (nat_le (length digits) 2048 && (length digits % 2 == 0)) (list_all is_hex_digit digits) e in
+    let b = and_parts (nat_le (length digits) 2048) (length digits % 2 == 0) a.0 in
     let found = decode_of-digits digits (is_equal _ 0 b.1) (AllPass-from_list_all is_hex_digit digits a.1) in
     record { few = leb-true _ _ b.0; bytes = found.0; are = found.1 }
 
@@ -49,7 +45,7 @@ entry_by is_reply text digits parts e =
 -- the marks as numbers
 mark_of : (mark space : ℕ) (digits : List ℕ) → (mark == 60 || mark == 62) && (space == 32) ≡ true → IsMarked (mark ∷ space ∷ digits)
 mark_of mark space digits e =
-    let a = both (mark == 60 || mark == 62) (space == 32) e in
+    let a = and_parts (mark == 60 || mark == 62) (space == 32) e in
     by_mark (mark == 60) refl a.0 (is_equal space 32 a.1)
   where
     by_mark : (b : Bool) → (mark == 60) ≡ b → b || mark == 62 ≡ true → space ≡ 32 → IsMarked (mark ∷ space ∷ digits)
@@ -57,7 +53,7 @@ mark_of mark space digits e =
     by_mark false first either blank = record { is_reply = false; digits = digits; parts = let m = is_equal mark 62 either in rw (m, blank) refl }
 
 split_mark : (mark space : ℕ) (digits : List ℕ) → is_entry_text (mark ∷ space ∷ digits) ≡ true → IsMarked (mark ∷ space ∷ digits) × (are_digits digits ≡ true)
-split_mark mark space digits e = let a = both ((mark == 60 || mark == 62) && (space == 32)) (are_digits digits) e in (mark_of mark space digits a.0, a.1)
+split_mark mark space digits e = let a = and_parts ((mark == 60 || mark == 62) && (space == 32)) (are_digits digits) e in (mark_of mark space digits a.0, a.1)
 
 -- a text that passes the test begins with a mark, and digits are after it
 pub entry_of_test : (text : List ℕ) → is_entry_text text ≡ true → IsEntry text

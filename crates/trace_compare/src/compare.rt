@@ -56,7 +56,8 @@ fn put_difference<S: Source, A: Source, K: Sink>(
     against: &mut A,
     sink: &mut K,
 ) -> Result<bool, CompareEnd>
-    ensures text { IfOk result (PutsDifference traces.old traces.new (S.left source.old) (S.left source.new) (A.left against.old) (A.left against.new) (K.written sink.old) (K.written sink.new)) }
+    ensures text { IfOk result (PutsDifference traces.old traces.new (S.left source.old) (S.left source.new) (A.left against.old)
+        (A.left against.new) (K.written sink.old) (K.written sink.new)) }
     ensures part { (a b : List ℕ) → S.left source.old ≡ Some a → A.left against.old ≡ Some b
         → OnErr result (AppendsPrefix (K.written sink.old) (K.written sink.new) (compared_left 0 traces.old a b).text) }
     ensures source { NamesFault CompareEnd.ReadFault (S.faults source.old) (S.faults source.new) result }

@@ -66,7 +66,12 @@ impl Counter {
             return Ok(());
         };
         let reply = slice_of(reply);
-        let accesses = exchange_accesses(alloc, self.teller.known(), packet.as_slice(), reply)?;
+        let accesses = exchange_accesses(
+            alloc,
+            self.teller.known_registers(),
+            packet.as_slice(),
+            reply,
+        )?;
         self.counts.add_all(accesses.as_slice());
         Ok(())
     }

@@ -17,7 +17,7 @@ fn alike_text(alloc: Global, number: u64) -> Result<Bytes, OutOfMemory>
 {
     let line = Line::begin(alloc, "exchanges alike: ")?;
     let line = line.decimal(number)?.text("\n")?;
-    Bytes::copied(alloc, line.as_bytes())
+    Bytes::copy_of(alloc, line.as_bytes())
 }
 
 // A line with the number of an exchange, and its words.
@@ -27,7 +27,7 @@ fn text_of(alloc: Global, exchange: &Exchange, what: &str) -> Result<Bytes, OutO
 {
     let line = Line::begin(alloc, "exchange ")?;
     let line = line.decimal(exchange.number)?.text(what)?;
-    let mut text = Bytes::copied(alloc, line.as_bytes())?;
+    let mut text = Bytes::copy_of(alloc, line.as_bytes())?;
     text.push(exchange.words.as_slice())?;
     Ok(text)
 }

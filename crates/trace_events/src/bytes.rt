@@ -44,7 +44,7 @@ impl Bytes {
     }
 
     /// A copy of these bytes. `OutOfMemory` where memory is refused.
-    pub fn copied(alloc: Global, bytes: &[u8]) -> Result<Bytes, OutOfMemory>
+    pub fn copy_of(alloc: Global, bytes: &[u8]) -> Result<Bytes, OutOfMemory>
         ensures { IfOk result (λ copy. copy ≡ bytes.now) }
     {
         match Vec::from_slice(alloc, bytes) {

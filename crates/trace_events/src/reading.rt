@@ -37,7 +37,7 @@ impl Model for Reading {
 }
 
 // A line that is neither a packet nor a reply, with the bytes that ended it.
-fn other(line: Bytes, ended: &[u8]) -> Result<Option<Event>, OutOfMemory>
+fn other_event(line: Bytes, ended: &[u8]) -> Result<Option<Event>, OutOfMemory>
     ensures { IfOk result (λ event. event ≡ Some (Event.Other (line ++ ended.now))) }
 {
     let mut line = line;
@@ -116,11 +116,11 @@ impl Reading {
         let line = self.take_line(alloc);
         if self.is_long {
             self.is_long = false;
-            return other(line, ended);
+            return other_event(line, ended);
         }
         match entry_in(alloc, line.as_slice())? {
             Some(entry) => self.entry(entry),
-            None => other(line, ended),
+            None => other_event(line, ended),
         }
     }
 

@@ -1,10 +1,10 @@
 -- What was reported and put so far.
-use Rattle.std.proofs.Common.{◌≡◌, ◌∙◌, ℕ, Bool, List, [], ◌∷◌, ◌++◌, Option, None, Some, Result, Ok, Err, length, take, refl, sym, ap, subst, append_assoc, append-nil}
+use Rattle.std.proofs.Common.{◌≡◌, ◌∙◌, ℕ, Bool, List, [], ◌∷◌, ◌++◌, Option, None, Some, Result, Ok, Err, take, refl, sym, ap, subst, append_assoc, append-nil}
 use Rattle.std.specs.Prelude.{OnErr}
-use Rattle.std.proofs.Math.Seq.{take-length}
 use Rattle.std.proofs.KnownBytes.{Appends-nil, Appends-trans}
 use Rattle.std.specs.Io.KnownBytes.{Appends}
 use Rattle.dap_base.specs.Streams.{AppendsPrefix, PutAppends}
+use Rattle.dap_base.proofs.Known.{whole_put}
 use Rattle.text_lines.proofs.PutLemmas.{prefix_first, put_after}
 use Rattle.trace_events.specs.declared.event.Event.{Event}
 use Rattle.trace_events.proofs.EventLemmas.{event_given, event_over}
@@ -59,16 +59,12 @@ pub at_error : {T E : Type 0} (r : Result T E) (P : Type 0) → P → OnErr r P
 at_error (Ok x) P p = tt
 at_error (Err e) P p = p
 
--- a whole text is a part of it
-whole_part : (a b : Option (List ℕ)) (text : List ℕ) → Appends a b text → AppendsPrefix a b text
-whole_part a b text put = (length text, subst (λ (l : List ℕ). Appends a b l) (sym (take-length text)) put)
-
 -- what was put so far is a part of the words
 pub going_part : (first now old new : Option (List ℕ)) (place : Place) (t : Telling) (bytes : List ℕ) → Going first now old new place t → first ≡ Some bytes → AppendsPrefix old new (words bytes)
 going_part first now old new place t bytes h is =
     let before = h.ahead bytes is in
     subst (λ (text : List ℕ). AppendsPrefix old new text) (ap (λ (x : Spoken). x.text) before.2)
-    (prefix_first old new h.so_far (told t (events_left place before.0)).text (whole_part old new h.so_far h.put))
+    (prefix_first old new h.so_far (told t (events_left place before.0)).text (whole_put old new h.so_far h.put))
 
 abbrev cut : Result (Unit {0}) TraceEnd
 cut = Err ends.OutOfMemory

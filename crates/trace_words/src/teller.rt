@@ -52,7 +52,7 @@ fn stray_line(alloc: Global, reply: &[u8]) -> Result<Bytes, OutOfMemory>
     let line = Line::begin(alloc, "< ")?
         .text(digits.as_str())?
         .text("\nno packet for this reply\n")?;
-    Bytes::copied(alloc, line.as_bytes())
+    Bytes::copy_of(alloc, line.as_bytes())
 }
 
 impl Teller {
@@ -75,7 +75,7 @@ impl Teller {
     }
 
     /// What is known of the registers.
-    pub fn known(&self) -> &Known
+    pub fn known_registers(&self) -> &Known
         ensures { result.now ≡ self.now.known }
     {
         &self.known
@@ -108,7 +108,7 @@ impl Teller {
         self.number = self.number.saturating_add(1);
         let said = exchange_words(alloc, &mut self.known, self.number, packet, reply)?;
         self.is_good = self.is_good && said.is_good;
-        Bytes::copied(alloc, said.line.as_bytes())
+        Bytes::copy_of(alloc, said.line.as_bytes())
     }
 
     /// The words of an event, after those before it. `OutOfMemory` where memory is refused; what is kept is then of no use.
@@ -123,7 +123,7 @@ impl Teller {
                 self.is_good = false;
                 stray_line(alloc, reply.as_slice())
             }
-            Event::Other(bytes) => Bytes::copied(alloc, bytes.as_slice()),
+            Event::Other(bytes) => Bytes::copy_of(alloc, bytes.as_slice()),
         }
     }
 }

@@ -6,7 +6,7 @@ ghost use Rattle.target_machine.specs.Sound.{IsSound};
 ghost use Rattle.access_regs.specs.Plan.{learned, learned_cfg, made, settled};
 
 use super::Managed;
-use crate::values::{increment_off, planned_csw, predicted, select_value};
+use crate::values::{increment_off, planned_csw, predict_tar, select_value};
 use crate::{Known, Unsettled};
 use target_calls::accesses::{high_of, low_of};
 use target_machine::Unit;
@@ -16,7 +16,7 @@ impl Managed {
     /// The plan of this unit was made. A memory unit leaves its access port unsettled, with TAR
     /// predicted as its address and size. Of the port of an AP unit CSW, TAR and its upper word are
     /// no longer known. Of a write of SELECT the value is noted as it was written.
-    pub fn made(&mut self, unit: &Unit)
+    pub fn note_made(&mut self, unit: &Unit)
         requires sound { IsSound unit.now }
         ensures { self.new ≡ made self.old unit.now }
     {
@@ -27,7 +27,7 @@ impl Managed {
                 address,
                 ..
             } => {
-                let known = self.known(ap);
+                let known = self.known_port(ap);
                 let low = low_of(address);
                 let high = if known.large {
                     Some(high_of(address))
@@ -36,7 +36,7 @@ impl Managed {
                 };
                 let after = Known {
                     csw: Some(planned_csw(known.csw.unwrap_or(0), size)),
-                    tar: predicted(low, size),
+                    tar: predict_tar(low, size),
                     high,
                     large: known.large,
                 };
@@ -58,11 +58,11 @@ impl Managed {
     }
 
     /// The settling was made, where there was one: no access port is unsettled now.
-    pub fn settled(&mut self)
+    pub fn note_settled(&mut self)
         ensures { self.new ≡ settled self.old }
     {
         if let Some(unsettled) = self.unsettled {
-            let known = self.known(unsettled.ap);
+            let known = self.known_port(unsettled.ap);
             let after = Known {
                 csw: Some(increment_off(known.csw.unwrap_or(0))),
                 tar: Some(unsettled.tar),
@@ -78,7 +78,7 @@ impl Managed {
     pub fn learn(&mut self, ap: u8, csw: u32)
         ensures { self.new ≡ learned self.old ap csw }
     {
-        let known = self.known(ap);
+        let known = self.known_port(ap);
         let after = Known {
             csw: Some(csw),
             tar: known.tar,
@@ -96,7 +96,7 @@ impl Managed {
         ensures large { result ≡ has_bit cfg cfg_la }
     {
         let large = cfg & CFG_LA != 0;
-        let known = self.known(ap);
+        let known = self.known_port(ap);
         let after = Known {
             csw: known.csw,
             tar: known.tar,

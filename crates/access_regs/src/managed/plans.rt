@@ -36,17 +36,17 @@ impl Managed {
                 value,
             } => {
                 let select = select_value(ap, addr / 16);
-                Plan::empty()
+                Plan::new()
                     .with_unless(self.is_selected(select), write_select(select))
                     .with(access_ap(read, addr % 16, value))
             }
-            Unit::Dp { read, addr, value } => Plan::empty().with(RegAccess {
+            Unit::Dp { read, addr, value } => Plan::new().with(RegAccess {
                 ap: false,
                 read,
                 addr,
                 value: if read { 0 } else { value },
             }),
-            Unit::Poll { .. } => Plan::empty().with(RegAccess {
+            Unit::Poll { .. } => Plan::new().with(RegAccess {
                 ap: false,
                 read: true,
                 addr: CTRL_STAT,
@@ -61,13 +61,13 @@ impl Managed {
         requires sound { IsSoundMemory size read address value }
         ensures { accesses_of result ≡ plan self.now (Memory size read ap address value) }
     {
-        let known = self.known(ap);
+        let known = self.known_port(ap);
         let select = select_value(ap, 0);
         let csw = planned_csw(known.csw.unwrap_or(0), size);
         let high = high_of(address);
         let low = low_of(address);
         let no_high = !known.large || is_known(known.high, high);
-        Plan::empty()
+        Plan::new()
             .with_unless(self.is_selected(select), write_select(select))
             .with_unless(is_known(known.csw, csw), access_ap(false, CSW, csw))
             .with_unless(no_high, access_ap(false, TAR_HIGH, high))
@@ -82,7 +82,7 @@ impl Managed {
         ensures { accesses_of result ≡ first_plan self.now (port_of unit.now) }
     {
         let select = select_value(port_of(unit), 0);
-        Plan::empty()
+        Plan::new()
             .with_unless(self.is_selected(select), write_select(select))
             .with(access_ap(true, CSW, 0))
     }
@@ -94,7 +94,7 @@ impl Managed {
         ensures { accesses_of result ≡ cfg_plan self.now (port_of unit.now) }
     {
         let select = select_value(port_of(unit), CFG / 16);
-        Plan::empty()
+        Plan::new()
             .with_unless(self.is_selected(select), write_select(select))
             .with(access_ap(true, CFG % 16, 0))
     }
@@ -106,12 +106,12 @@ impl Managed {
     {
         match self.unsettled {
             Some(unsettled) => {
-                let csw = self.known(unsettled.ap).csw.unwrap_or(0);
-                Plan::empty()
+                let csw = self.known_port(unsettled.ap).csw.unwrap_or(0);
+                Plan::new()
                     .with(access_ap(false, CSW, increment_off(csw)))
                     .with(access_ap(false, TAR, unsettled.tar))
             }
-            None => Plan::empty(),
+            None => Plan::new(),
         }
     }
 }

@@ -1,17 +1,14 @@
 //! Polls and commands of the probe, each in packets of its own.
-ghost use Rattle.std.specs.Prelude.{◌≡◌, ◌≤◌, [], ◌∷◌, true, false, length, None, Some, IfSome, MatchResult};
-ghost use Rattle.target_machine.specs.Attempt.{bank};
+ghost use Rattle.std.specs.Prelude.{◌≡◌, [], true, false, None, Some, IfSome, MatchResult};
 ghost use Rattle.target_machine.specs.InRange.{IsInRange};
-ghost use Rattle.dap_messages.specs.Commands.{IsCommand, command_bytes, command_value, packet_bytes};
-ghost use Rattle.probe_core.specs.Bench.{StepsTo, counted};
+ghost use Rattle.dap_messages.specs.Commands.{command_bytes, command_value, packet_bytes};
 ghost use Rattle.probe_core.specs.Probe.{target_of};
-ghost use Rattle.probe_core.specs.Runs.{KeepsRuns};
-ghost use Rattle.batch_packer.specs.Commands.{DoneBy, end_in, is_single, number_read};
-ghost use Rattle.batch_packer.specs.Exchanges.{GoesOn, IsOpen};
-ghost use Rattle.batch_packer.specs.FlightEnds.{HasEndCause, got_replies};
-ghost use Rattle.batch_packer.specs.FlightStates.{items_kept};
+ghost use Rattle.batch_packer.specs.Commands.{DoneBy, IsSingle, end_in, number_read};
+ghost use Rattle.batch_packer.specs.Exchanges.{GoesOnOver, HasAsked, IsOpen, StepsWhere};
+ghost use Rattle.batch_packer.specs.FlightEnds.{EndsOver, HasEndCause, got_replies};
+ghost use Rattle.batch_packer.specs.FlightStates.{MaySend, items_kept};
 ghost use Rattle.batch_packer.specs.Flying.{CanFly};
-ghost use Rattle.batch_packer.specs.Polling.{PolledBy, matched_read, packet_of};
+ghost use Rattle.batch_packer.specs.Polling.{AreTurns, PollsBy, matched_read, packet_of};
 
 use super::Flight;
 use crate::ends::FlightEnd;
@@ -27,16 +24,14 @@ impl Flight {
         bench: &mut B,
         command: &Command<'_>,
     ) -> Result<u32, FlightEnd>
-        requires usable { self.old.end ≡ None }
-        requires open { IsOpen (B.reported bench.old) }
-        requires command { IsCommand (command_value command.now) }
-        requires single { is_single (command_value command.now) ≡ true }
-        ensures done { StepsTo (λ m n. IsInRange (target_of m.probe) → DoneBy (command_value command.now) result m n) (B.state bench.old) (B.state bench.new) }
-        ensures read { got_replies (end_in result) ≡ true → result ≡ number_read (command_value command.now) (B.reported bench.new).last.replies }
-        ensures packet { got_replies (end_in result) ≡ true → (B.reported bench.new).last.packets ≡ command_bytes (command_value command.now) ∷ [] }
-        ensures replied { got_replies (end_in result) ≡ true → length (B.reported bench.new).last.replies ≡ 1 }
-        ensures exchanges { got_replies (end_in result) ≡ true → (B.reported bench.new).exchanges ≡ counted (B.reported bench.old).exchanges }
-        ensures open { got_replies (end_in result) ≡ true → IsOpen (B.reported bench.new) }
+        requires free { MaySend self.old (B.reported bench.old) }
+        requires command { IsSingle (command_value command.now) }
+        ensures done { StepsWhere (λ m. IsInRange (target_of m.probe)) (DoneBy (command_value command.now) result)
+            (B.state bench.old) (B.state bench.new) }
+        ensures read { got_replies (end_in result) ≡ true
+            → result ≡ number_read (command_value command.now) (B.reported bench.new).last.replies }
+        ensures asked { got_replies (end_in result) ≡ true
+            → HasAsked (command_bytes (command_value command.now)) (B.reported bench.old) (B.reported bench.new) }
         ensures flight { self.new ≡ record self.old {
           end = end_in result;
           resumable = false;
@@ -44,10 +39,7 @@ impl Flight {
           replies = items_kept (end_in result) (B.reported bench.new).last.replies;
           at = 0;
         } }
-        ensures keeps { GoesOn (B.reported bench.old) (B.reported bench.new) }
-        ensures runs { KeepsRuns (B.state bench.old) (B.state bench.new) }
-        ensures identity { B.identity bench.new ≡ B.identity bench.old }
-        ensures cause { HasEndCause (B.reported bench.old).faults (B.reported bench.new).faults (end_in result) }
+        ensures keeps { EndsOver B.reported B.state B.identity (end_in result) bench.old bench.new }
     {
         self.begin();
         let result = send_single(
@@ -79,8 +71,7 @@ impl Flight {
     ) -> Result<u32, FlightEnd>
         requires open { self.old.end ≡ None → IsOpen (B.reported bench.old) }
         requires empty { self.old.end ≡ None → self.old.accesses ≡ [] }
-        requires command { IsCommand (command_value command.now) }
-        requires single { is_single (command_value command.now) ≡ true }
+        requires command { IsSingle (command_value command.now) }
         // The answer is a number, or the end of the flight.
         ensures answer { MatchResult result (λ _. self.new.end ≡ None) (λ end. self.new.end ≡ Some end) }
         // A flight that has ended stays as it is, with its end, and so does the bench.
@@ -88,18 +79,13 @@ impl Flight {
         ensures again_reported { IfSome self.old.end (λ _. B.reported bench.new ≡ B.reported bench.old) }
         ensures again_state { IfSome self.old.end (λ _. B.state bench.new ≡ B.state bench.old) }
         // What was done, and the number, where the bench is observable.
-        ensures done { self.old.end ≡ None → StepsTo (λ m n. IsInRange (target_of m.probe)
-            → DoneBy (command_value command.now) result m n) (B.state bench.old) (B.state bench.new) }
+        ensures done { self.old.end ≡ None → StepsWhere (λ m. IsInRange (target_of m.probe)) (DoneBy (command_value command.now) result)
+            (B.state bench.old) (B.state bench.new) }
         // Unless the bench failed, the answer is what the reply to this call says.
         ensures read { self.old.end ≡ None → got_replies self.new.end ≡ true
             → result ≡ number_read (command_value command.now) (B.reported bench.new).last.replies }
-        ensures packet { self.old.end ≡ None → got_replies self.new.end ≡ true
-            → (B.reported bench.new).last.packets ≡ command_bytes (command_value command.now) ∷ [] }
-        // One reply came.
-        ensures replied { self.old.end ≡ None → got_replies self.new.end ≡ true → length (B.reported bench.new).last.replies ≡ 1 }
-        ensures exchanges { self.old.end ≡ None → got_replies self.new.end ≡ true
-            → (B.reported bench.new).exchanges ≡ counted (B.reported bench.old).exchanges }
-        ensures open { self.old.end ≡ None → got_replies self.new.end ≡ true → IsOpen (B.reported bench.new) }
+        ensures asked { self.old.end ≡ None → got_replies self.new.end ≡ true
+            → HasAsked (command_bytes (command_value command.now)) (B.reported bench.old) (B.reported bench.new) }
         // At a bad reply its packet and the reply are kept.
         ensures packets { self.old.end ≡ None → self.new.packets ≡ items_kept self.new.end (B.reported bench.new).last.packets }
         ensures replies { self.old.end ≡ None → self.new.replies ≡ items_kept self.new.end (B.reported bench.new).last.replies }
@@ -107,9 +93,7 @@ impl Flight {
         ensures empty { self.old.end ≡ None → self.new.accesses ≡ [] }
         ensures limits { self.new.limits ≡ self.old.limits }
         ensures resumable { self.old.end ≡ None → self.new.resumable ≡ false }
-        ensures keeps { GoesOn (B.reported bench.old) (B.reported bench.new) }
-        ensures runs { KeepsRuns (B.state bench.old) (B.state bench.new) }
-        ensures identity { B.identity bench.new ≡ B.identity bench.old }
+        ensures keeps { GoesOnOver B.reported B.state B.identity bench.old bench.new }
         // A fault of the bench comes only where its count rose.
         ensures cause { self.old.end ≡ None → HasEndCause (B.reported bench.old).faults (B.reported bench.new).faults self.new.end }
     {
@@ -126,16 +110,13 @@ impl Flight {
         config: Config,
         ask: PollAsk,
     ) -> Result<bool, FlightEnd>
-        requires usable { self.old.end ≡ None }
-        requires open { IsOpen (B.reported bench.old) }
-        requires low { 1 ≤ ask.turns }
-        requires high { ask.turns ≤ 65536 }
-        ensures polled { StepsTo (λ m n. CanFly m → bank (target_of m.probe) ≡ 0 → PolledBy config ask result m n) (B.state bench.old) (B.state bench.new) }
+        requires free { MaySend self.old (B.reported bench.old) }
+        requires turns { AreTurns ask.turns }
+        ensures polled { StepsWhere CanFly (PollsBy config ask result)
+            (B.state bench.old) (B.state bench.new) }
         ensures read { got_replies (end_in result) ≡ true → result ≡ matched_read config ask (B.reported bench.new).last.replies }
-        ensures packet { got_replies (end_in result) ≡ true → (B.reported bench.new).last.packets ≡ packet_bytes (packet_of config ask) ∷ [] }
-        ensures replied { got_replies (end_in result) ≡ true → length (B.reported bench.new).last.replies ≡ 1 }
-        ensures exchanges { got_replies (end_in result) ≡ true → (B.reported bench.new).exchanges ≡ counted (B.reported bench.old).exchanges }
-        ensures open { got_replies (end_in result) ≡ true → IsOpen (B.reported bench.new) }
+        ensures asked { got_replies (end_in result) ≡ true
+            → HasAsked (packet_bytes (packet_of config ask)) (B.reported bench.old) (B.reported bench.new) }
         ensures flight { self.new ≡ record self.old {
           end = end_in result;
           resumable = false;
@@ -143,10 +124,7 @@ impl Flight {
           replies = items_kept (end_in result) (B.reported bench.new).last.replies;
           at = 0;
         } }
-        ensures keeps { GoesOn (B.reported bench.old) (B.reported bench.new) }
-        ensures runs { KeepsRuns (B.state bench.old) (B.state bench.new) }
-        ensures identity { B.identity bench.new ≡ B.identity bench.old }
-        ensures cause { HasEndCause (B.reported bench.old).faults (B.reported bench.new).faults (end_in result) }
+        ensures keeps { EndsOver B.reported B.state B.identity (end_in result) bench.old bench.new }
     {
         self.begin();
         let result = send_poll(
@@ -181,8 +159,7 @@ impl Flight {
     ) -> Result<bool, FlightEnd>
         requires open { self.old.end ≡ None → IsOpen (B.reported bench.old) }
         requires empty { self.old.end ≡ None → self.old.accesses ≡ [] }
-        requires low { 1 ≤ ask.turns }
-        requires high { ask.turns ≤ 65536 }
+        requires turns { AreTurns ask.turns }
         // The answer is whether the register matched, or the end of the flight.
         ensures answer { MatchResult result (λ _. self.new.end ≡ None) (λ end. self.new.end ≡ Some end) }
         // A flight that has ended stays as it is, with its end, and so does the bench.
@@ -190,18 +167,13 @@ impl Flight {
         ensures again_reported { IfSome self.old.end (λ _. B.reported bench.new ≡ B.reported bench.old) }
         ensures again_state { IfSome self.old.end (λ _. B.state bench.new ≡ B.state bench.old) }
         // What was done, where the bench is observable and DPBANKSEL is 0: the reads one at a time.
-        ensures polled { self.old.end ≡ None → StepsTo (λ m n. CanFly m → bank (target_of m.probe) ≡ 0
-            → PolledBy config ask result m n) (B.state bench.old) (B.state bench.new) }
+        ensures polled { self.old.end ≡ None
+            → StepsWhere CanFly (PollsBy config ask result) (B.state bench.old) (B.state bench.new) }
         // Unless the bench failed, the answer is what the reply to this call says.
         ensures read { self.old.end ≡ None → got_replies self.new.end ≡ true
             → result ≡ matched_read config ask (B.reported bench.new).last.replies }
-        ensures packet { self.old.end ≡ None → got_replies self.new.end ≡ true
-            → (B.reported bench.new).last.packets ≡ packet_bytes (packet_of config ask) ∷ [] }
-        // One reply came.
-        ensures replied { self.old.end ≡ None → got_replies self.new.end ≡ true → length (B.reported bench.new).last.replies ≡ 1 }
-        ensures exchanges { self.old.end ≡ None → got_replies self.new.end ≡ true
-            → (B.reported bench.new).exchanges ≡ counted (B.reported bench.old).exchanges }
-        ensures open { self.old.end ≡ None → got_replies self.new.end ≡ true → IsOpen (B.reported bench.new) }
+        ensures asked { self.old.end ≡ None → got_replies self.new.end ≡ true
+            → HasAsked (packet_bytes (packet_of config ask)) (B.reported bench.old) (B.reported bench.new) }
         // At a cut or a bad reply the packet and the reply are kept.
         ensures packets { self.old.end ≡ None → self.new.packets ≡ items_kept self.new.end (B.reported bench.new).last.packets }
         ensures replies { self.old.end ≡ None → self.new.replies ≡ items_kept self.new.end (B.reported bench.new).last.replies }
@@ -209,9 +181,7 @@ impl Flight {
         ensures empty { self.old.end ≡ None → self.new.accesses ≡ [] }
         ensures limits { self.new.limits ≡ self.old.limits }
         ensures resumable { self.old.end ≡ None → self.new.resumable ≡ false }
-        ensures keeps { GoesOn (B.reported bench.old) (B.reported bench.new) }
-        ensures runs { KeepsRuns (B.state bench.old) (B.state bench.new) }
-        ensures identity { B.identity bench.new ≡ B.identity bench.old }
+        ensures keeps { GoesOnOver B.reported B.state B.identity bench.old bench.new }
         // A fault of the bench comes only where its count rose.
         ensures cause { self.old.end ≡ None → HasEndCause (B.reported bench.old).faults (B.reported bench.new).faults self.new.end }
     {

@@ -18,8 +18,8 @@ impl Target {
         ensures { self.new ≡ aimed_target self.old number port size address }
     {
         let csw = port.register(CSW);
-        let sized = port.written(CSW, plain_csw(csw, size));
-        ap::replace_ap(&mut self.aps, number, sized.written(TAR, address));
+        let sized = port.with_register(CSW, plain_csw(csw, size));
+        ap::replace_ap(&mut self.aps, number, sized.with_register(TAR, address));
         self.select = number * 0x100_0000;
         self.rdbuff = csw;
     }

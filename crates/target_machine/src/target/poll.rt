@@ -32,7 +32,7 @@ impl Target {
     }
 
     // How many reads of CTRL/STAT come before the first that acknowledges a power-up.
-    fn waits(&self) -> u32
+    fn reads_until_power(&self) -> u32
         ensures value { result ≡ waits self.now }
         ensures power_reads { self.now.power_reads < 2 ^ 32 }
         ensures reads { self.now.reads < 2 ^ 32 }
@@ -79,7 +79,7 @@ impl Target {
         if self.bank() != 0 {
             return self.poll_elsewhere(mask, requested, turns);
         }
-        let before = turns.min(self.waits());
+        let before = turns.min(self.reads_until_power());
         if self.is_match(mask, requested, before) {
             self.count_reads(1);
             return PollEnd {

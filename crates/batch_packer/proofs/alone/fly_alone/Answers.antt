@@ -16,7 +16,7 @@ use Rattle.batch_packer.proofs.alone.fly_alone.Goals as goal
 
 pub put_requests-count-requires : goal.put_requests-count-requires
 put_requests-count-requires g c =
-    subst (λ (n : ℕ). length (requests_for false c.args.accesses.now) ≤ n) (sym c.requires.requests) (few_requests c.args.is_block _ c.args.accesses.now c.requires.block c.requires.fits)
+    subst (λ (n : ℕ). length (requests_for false c.args.accesses.now) ≤ n) (sym c.requires.room.buffers.for_requests) (few_requests c.args.is_block _ c.args.accesses.now c.requires.block c.requires.fits)
 
 pub read_reply-requires-clause-normal : goal.read_reply-requires-clause-normal
 read_reply-requires-clause-normal g c =
@@ -25,65 +25,65 @@ read_reply-requires-clause-normal g c =
 pub returns-in-Err-clause-failed : goal.returns-in-Err-clause-failed
 returns-in-Err-clause-failed g c =
     let packet : c.get.result.now ≡ command_bytes (one_command c.args.is_block c.args.accesses.now) =
-    first_kept c.args.packets.now.items c.push.new.self.items (take c.write_one-size.result c.write_one-size.new.bytes) c.get.result.now c.requires.packets.none
-    (ap (λ (p : Packets). p.items) c.push.ensures) c.get.ensures.value ∙ c.write_one-size.ensures.front in
+    first_kept c.args.packets.now.items c.push.new.self.items (take c.write_one-size.result c.write_one-size.new.bytes) c.get.result.now c.requires.room.for_packets.none
+    (ap (λ (p : Packets). p.items) c.push.ensures) c.get.ensures.value ∙ c.write_one-size.ensures.front.first in
     may_have_flown c.args.is_block (g.B.Bench.reported c.args.bench.now).limits c.args.accesses.now c.get.result.now (g.B.Bench.state c.args.bench.now) (g.B.Bench.state c.exchange.new.bench)
-    c.requires.limits c.requires.block c.requires.taken c.requires.words c.requires.fits packet c.in-Err.ensures.failed
+    c.requires.bench.limits c.requires.block c.requires.accesses.taken c.requires.accesses.words c.requires.fits packet c.in-Err.ensures.failed
 
 pub returns-in-Ok-clause-flown : goal.returns-in-Ok-clause-flown
 returns-in-Ok-clause-flown g c =
     let limits = (g.B.Bench.reported c.args.bench.now).limits in
     let size : ℕ = limits.packet_size in
-    let in_range = c.requires.limits in
+    let in_range = c.requires.bench.limits in
     let old : List (List ℕ) = c.args.packets.now.items in
     let new : List (List ℕ) = c.push.new.self.items in
     let bytes : List ℕ = take c.write_one-size.result c.write_one-size.new.bytes in
     let kept : new ≡ old ++ bytes ∷ [] = ap (λ (p : Packets). p.items) c.push.ensures in
     let packet : c.get.result.now ≡ command_bytes (one_command c.args.is_block c.args.accesses.now) =
-    first_kept old new bytes c.get.result.now c.requires.packets.none kept c.get.ensures.value ∙ c.write_one-size.ensures.front in
+    first_kept old new bytes c.get.result.now c.requires.room.for_packets.none kept c.get.ensures.value ∙ c.write_one-size.ensures.front.first in
     let again : c.get-in-Ok.result.now ≡ command_bytes (one_command c.args.is_block c.args.accesses.now) =
-    first_kept old new bytes c.get-in-Ok.result.now c.requires.packets.none kept c.get-in-Ok.ensures.value ∙ c.write_one-size.ensures.front in
+    first_kept old new bytes c.get-in-Ok.result.now c.requires.room.for_packets.none kept c.get-in-Ok.ensures.value ∙ c.write_one-size.ensures.front.first in
     let reply : c.get-in-Ok-2.result.now ≡ take c.in-Ok.len c.exchange.new.out =
-    first_kept c.args.replies.now.items c.push-in-Ok.new.self.items (take c.in-Ok.len c.exchange.new.out) c.get-in-Ok-2.result.now c.requires.replies.none (ap (λ (p : Packets). p.items) c.push-in-Ok.ensures) c.get-in-Ok-2.ensures.value in
+    first_kept c.args.replies.now.items c.push-in-Ok.new.self.items (take c.in-Ok.len c.exchange.new.out) c.get-in-Ok-2.result.now c.requires.room.for_replies.none (ap (λ (p : Packets). p.items) c.push-in-Ok.ensures) c.get-in-Ok-2.ensures.value in
     let rs : List Request = take c.put_requests-count.result c.put_requests-count.new.requests in
     flew_alone c.args.is_block limits c.args.accesses.now c.get.result.now c.get-in-Ok-2.result.now c.read_reply.result c.read_reply.new.slots.values
     (g.B.Bench.state c.args.bench.now) (g.B.Bench.state c.exchange.new.bench)
-    c.requires.limits c.requires.block c.requires.taken c.requires.words c.requires.fits packet
+    c.requires.bench.limits c.requires.block c.requires.accesses.taken c.requires.accesses.words c.requires.fits packet
     (shown_alone c.args.is_block size c.args.accesses.now c.get-in-Ok.result.now c.get-in-Ok-2.result.now rs c.read_reply.result c.args.slots.now.values c.read_reply.new.slots.values in_range.size_high c.requires.fits again c.put_requests-count.ensures.front
-    c.read_reply.ensures.shown c.requires.slots)
+    c.read_reply.ensures.shown c.requires.room.no_value)
     (subst (λ (xs : List ℕ). StepsTo (λ m o. IsIdle m → HasAnswered c.get.result.now xs m o) (g.B.Bench.state c.args.bench.now) (g.B.Bench.state c.exchange.new.bench)) (sym reply) c.in-Ok.ensures.state)
 
 pub returns-in-Ok-clause-read : goal.returns-in-Ok-clause-read
 returns-in-Ok-clause-read g c =
     let limits = (g.B.Bench.reported c.args.bench.now).limits in
     let size : ℕ = limits.packet_size in
-    let in_range = c.requires.limits in
+    let in_range = c.requires.bench.limits in
     let old : List (List ℕ) = c.args.packets.now.items in
     let new : List (List ℕ) = c.push.new.self.items in
     let bytes : List ℕ = take c.write_one-size.result c.write_one-size.new.bytes in
     let kept : new ≡ old ++ bytes ∷ [] = ap (λ (p : Packets). p.items) c.push.ensures in
     let again : c.get-in-Ok.result.now ≡ command_bytes (one_command c.args.is_block c.args.accesses.now) =
-    first_kept old new bytes c.get-in-Ok.result.now c.requires.packets.none kept c.get-in-Ok.ensures.value ∙ c.write_one-size.ensures.front in
+    first_kept old new bytes c.get-in-Ok.result.now c.requires.room.for_packets.none kept c.get-in-Ok.ensures.value ∙ c.write_one-size.ensures.front.first in
     let reply : List ℕ = take c.in-Ok.len c.exchange.new.out in
     let pushed : c.push-in-Ok.new.self.items ≡ c.args.replies.now.items ++ reply ∷ [] = ap (λ (p : Packets). p.items) c.push-in-Ok.ensures in
-    let got : c.get-in-Ok-2.result.now ≡ reply = first_kept c.args.replies.now.items c.push-in-Ok.new.self.items reply c.get-in-Ok-2.result.now c.requires.replies.none pushed c.get-in-Ok-2.ensures.value in
+    let got : c.get-in-Ok-2.result.now ≡ reply = first_kept c.args.replies.now.items c.push-in-Ok.new.self.items reply c.get-in-Ok-2.result.now c.requires.room.for_replies.none pushed c.get-in-Ok-2.ensures.value in
     let rs : List Request = take c.put_requests-count.result c.put_requests-count.new.requests in
     read_alone c.args.is_block c.args.accesses.now c.get-in-Ok-2.result.now c.push-in-Ok.new.self.items c.read_reply.result c.read_reply.new.slots.values
-    (one_kept c.args.replies.now.items c.push-in-Ok.new.self.items reply c.requires.replies.none pushed ∙ ap (λ (x : List ℕ). x ∷ []) (sym got))
+    (one_kept c.args.replies.now.items c.push-in-Ok.new.self.items reply c.requires.room.for_replies.none pushed ∙ ap (λ (x : List ℕ). x ∷ []) (sym got))
     (shown_alone c.args.is_block size c.args.accesses.now c.get-in-Ok.result.now c.get-in-Ok-2.result.now rs c.read_reply.result c.args.slots.now.values c.read_reply.new.slots.values in_range.size_high c.requires.fits again c.put_requests-count.ensures.front
-    c.read_reply.ensures.shown c.requires.slots)
+    c.read_reply.ensures.shown c.requires.room.no_value)
 
 pub returns-in-Ok-clause-short : goal.returns-in-Ok-clause-short
 returns-in-Ok-clause-short g c =
-    let in_range = c.requires.limits in
+    let in_range = c.requires.bench.limits in
     let accesses = c.args.accesses.now in
     let again : c.get-in-Ok.result.now ≡ command_bytes (one_command c.args.is_block accesses) =
-    first_kept c.args.packets.now.items c.push.new.self.items (take c.write_one-size.result c.write_one-size.new.bytes) c.get-in-Ok.result.now c.requires.packets.none (ap (λ (p : Packets). p.items) c.push.ensures) c.get-in-Ok.ensures.value
-    ∙ c.write_one-size.ensures.front in
+    first_kept c.args.packets.now.items c.push.new.self.items (take c.write_one-size.result c.write_one-size.new.bytes) c.get-in-Ok.result.now c.requires.room.for_packets.none (ap (λ (p : Packets). p.items) c.push.ensures) c.get-in-Ok.ensures.value
+    ∙ c.write_one-size.ensures.front.first in
     let rs : List Request = take c.put_requests-count.result c.put_requests-count.new.requests in
     let from = c.read_reply.ensures.from Plain (one_command c.args.is_block accesses)
     (fits_packet Plain (one_command c.args.is_block accesses) c.get-in-Ok.result.now (g.B.Bench.reported c.args.bench.now).limits.packet_size in_range.size_high c.requires.fits
     (again ∙ sym (append-nil (command_bytes (one_command c.args.is_block accesses))))) in
-    alone_short c.args.is_block accesses c.get-in-Ok-2.result.now c.read_reply.result c.read_reply.new.slots.values c.requires.block c.requires.taken
-    (subst (λ (xs : List (Option ℕ)). IfSome c.read_reply.result (IsReadFrom (one_command c.args.is_block accesses) 0 (requests_for false accesses) c.get-in-Ok-2.result.now xs c.read_reply.new.slots.values)) c.requires.slots
+    alone_short c.args.is_block accesses c.get-in-Ok-2.result.now c.read_reply.result c.read_reply.new.slots.values c.requires.block c.requires.accesses.taken
+    (subst (λ (xs : List (Option ℕ)). IfSome c.read_reply.result (IsReadFrom (one_command c.args.is_block accesses) 0 (requests_for false accesses) c.get-in-Ok-2.result.now xs c.read_reply.new.slots.values)) c.requires.room.no_value
     (subst (λ (ys : List Request). IfSome c.read_reply.result (IsReadFrom (one_command c.args.is_block accesses) 0 ys c.get-in-Ok-2.result.now c.args.slots.now.values c.read_reply.new.slots.values)) c.put_requests-count.ensures.front from))

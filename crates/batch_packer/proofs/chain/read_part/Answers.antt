@@ -11,10 +11,10 @@ read_reply-requires-clause-normal c =
 pub returns-clause-shown : goal.returns-clause-shown
 returns-clause-shown c =
     part_shown c.args.accesses.now c.args.packet.now c.args.reply.now c.put_guarded_requests-count.new.requests c.put_guarded_requests-count.result c.read_reply.result c.args.slots.now.values c.read_reply.new.slots.values
-    c.requires.packet c.put_guarded_requests-count.ensures.front c.put_guarded_requests-count.ensures.count c.if-reply-lt2.false (search rules) c.read_reply.ensures.shown
+    c.requires.part.is_packet c.put_guarded_requests-count.ensures.front c.put_guarded_requests-count.ensures.count c.if-reply-lt2.false (search rules) c.read_reply.ensures.shown
 
 pub returns-clause-short : goal.returns-clause-short
 returns-clause-short c =
-    let is = c.requires.packet in
-    guarded_short c.args.accesses.now c.args.reply.now _ c.read_reply.result c.args.slots.now.values c.read_reply.new.slots.values c.requires.taken c.requires.some c.if-reply-lt2.false (search rules)
+    let is = c.requires.part.is_packet in
+    guarded_short c.args.accesses.now c.args.reply.now _ c.read_reply.result c.args.slots.now.values c.read_reply.new.slots.values c.requires.part.taken c.requires.part.some c.if-reply-lt2.false (search rules)
     (c.read_reply.ensures.from is.0 (guarded_command c.args.accesses.now) is.1)

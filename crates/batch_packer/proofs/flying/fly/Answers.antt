@@ -14,7 +14,7 @@ returns-in-Ok-clause-flown g c =
 pub returns-in-Ok-clause-read : goal.returns-in-Ok-clause-read
 returns-in-Ok-clause-read g c =
     ends_so c.args.form c.args.limits.packet_size c.args.accesses.now c.fly_in.new.packets.items c.fly_in.new.replies.items (g.B.Bench.reported c.fly_in.new.bench).last c.in-Ok.progress c.end_of.result c.fly_in.new.slots.values
-    c.in-Ok.ensures.last c.end_of.ensures c.in-Ok.ensures.read
+    c.in-Ok.ensures.exchanged.last c.end_of.ensures c.in-Ok.ensures.read
 
 pub returns-in-Ok-clause-short : goal.returns-in-Ok-clause-short
 returns-in-Ok-clause-short g c = ends_short (length c.args.accesses.now) c.in-Ok.progress c.end_of.result c.fly_in.new.slots.values c.end_of.ensures c.in-Ok.ensures.short

@@ -25,7 +25,7 @@ loop-start-preserved c =
     let made = part_made size start len xs inv.within within part in
     let packet : List ℕ = take c.write_part-size.result c.write_part-size.new.bytes in
     let front : packet ≡ bytes_of_kind (last_kind is_last) (guarded_command (take len rest) ∷ []) =
-    subst (λ (ys : List RegAccess). packet ≡ bytes_of_kind (last_kind (eqb len (length ys))) (guarded_command (take len ys) ∷ [])) same c.write_part-size.ensures.front in
+    subst (λ (ys : List RegAccess). packet ≡ bytes_of_kind (last_kind (eqb len (length ys))) (guarded_command (take len ys) ∷ [])) same c.write_part-size.ensures.front.first in
     let pushed : c.push.new.self.items ≡ c.loop-start.packets.items ++ packet ∷ [] = ap (λ (p : Packets). p.items) c.push.ensures in
     let fits = fits_left 1024 (take len rest) (parts_of size rest) left made.parts inv.fits in
     record {

@@ -18,7 +18,7 @@ confirmed_is : (c : goal.After-cut) → c.saturating_sub-confirmed.result ≡ le
 confirmed_is c =
     c.saturating_sub-confirmed.ensures
     ∙ (λ i. counted c.args.executed.now c.args.view.now.words c.args.slots.now.values c.put_values-reads.new.slots.values c.len-before.result c.len.result
-    c.requires.normal c.len-before.ensures (ap (λ (s : SlotList). s.values) c.put_values-reads.ensures.values) c.len.ensures i - c.doubted.ensures i)
+    c.requires.normal c.len-before.ensures (ap (λ (s : SlotList). s.values) c.put_values-reads.ensures.values) c.len.ensures i - c.count_doubted.ensures i)
     ∙ ap (λ (y : Bool × ℕ). length (accesses_in c.args.executed.now) - one_if (not (is_good c.args.response) && (y.0 || nat_lt (length c.args.view.now.words) y.1)))
     (λ i. (c.put_values-reads.ensures.write i, c.put_values-reads.ensures.reads i))
 

@@ -23,7 +23,7 @@ exchange-requires-clause-fits g c =
     let packet : c.get.result.now ≡ packet_bytes (packet_of c.args.config c.args.ask) =
     first_kept c.args.packets.now.items c.push.new.self.items (take c.write_poll-size.result c.write_poll-size.new.bytes) c.get.result.now c.requires.packets.none (ap (λ (p : Packets). p.items) c.push.ensures) c.get.ensures.value
     ∙ c.write_poll-size.ensures.front in
-    let limits = c.requires.limits in
+    let limits = c.requires.bench.limits in
     let low = limits.size_low in
     let l = poll_size c.args.config c.args.ask c.get.result.now packet in
     omega arith
@@ -36,10 +36,10 @@ exchange-requires-clause-plain g c =
 
 pub returns-in-Err-clause-polled : goal.returns-in-Err-clause-polled
 returns-in-Err-clause-polled g c =
-    let poll : IsPoll c.args.config c.args.ask = record { idle = omega arith; retry = omega arith; mask = omega arith; value = omega arith; low = c.requires.low; high = c.requires.high } in
+    let poll : IsPoll c.args.config c.args.ask = record { idle = omega arith; retry = omega arith; mask = omega arith; value = omega arith; low = c.requires.turns.low; high = c.requires.turns.high } in
     may_have_polled (g.B.Bench.reported c.args.bench.now).limits c.args.config c.args.ask c.get.result.now (g.B.Bench.state c.args.bench.now) (g.B.Bench.state c.exchange.new.bench)
     (record {
-      limits = c.requires.limits;
+      limits = c.requires.bench.limits;
       poll = poll;
       bytes = first_kept c.args.packets.now.items c.push.new.self.items (take c.write_poll-size.result c.write_poll-size.new.bytes) c.get.result.now c.requires.packets.none (ap (λ (p : Packets). p.items) c.push.ensures) c.get.ensures.value
           ∙ c.write_poll-size.ensures.front;
@@ -48,9 +48,9 @@ returns-in-Err-clause-polled g c =
 
 pub returns-in-Ok-clause-polled : goal.returns-in-Ok-clause-polled
 returns-in-Ok-clause-polled g c =
-    let poll : IsPoll c.args.config c.args.ask = record { idle = omega arith; retry = omega arith; mask = omega arith; value = omega arith; low = c.requires.low; high = c.requires.high } in
+    let poll : IsPoll c.args.config c.args.ask = record { idle = omega arith; retry = omega arith; mask = omega arith; value = omega arith; low = c.requires.turns.low; high = c.requires.turns.high } in
     let limits = (g.B.Bench.reported c.args.bench.now).limits in
-    let in_range = c.requires.limits in
+    let in_range = c.requires.bench.limits in
     let old : List (List ℕ) = c.args.packets.now.items in
     let new : List (List ℕ) = c.push.new.self.items in
     let bytes : List ℕ = take c.write_poll-size.result c.write_poll-size.new.bytes in
@@ -66,9 +66,9 @@ returns-in-Ok-clause-polled g c =
 
 pub returns-in-Ok-clause-read : goal.returns-in-Ok-clause-read
 returns-in-Ok-clause-read g c = λ _.
-    (let poll : IsPoll c.args.config c.args.ask = record { idle = omega arith; retry = omega arith; mask = omega arith; value = omega arith; low = c.requires.low; high = c.requires.high } in
+    (let poll : IsPoll c.args.config c.args.ask = record { idle = omega arith; retry = omega arith; mask = omega arith; value = omega arith; low = c.requires.turns.low; high = c.requires.turns.high } in
     let limits = (g.B.Bench.reported c.args.bench.now).limits in
-    let in_range = c.requires.limits in
+    let in_range = c.requires.bench.limits in
     let old : List (List ℕ) = c.args.packets.now.items in
     let new : List (List ℕ) = c.push.new.self.items in
     let bytes : List ℕ = take c.write_poll-size.result c.write_poll-size.new.bytes in
@@ -81,6 +81,8 @@ returns-in-Ok-clause-read g c = λ _.
     (c.read_poll.ensures.read Execute c.args.config c.args.ask (poll_is_packet c.args.config c.args.ask c.get-in-Ok.result.now poll again))
     (one_kept c.args.replies.now.items c.push-in-Ok.new.self.items reply c.requires.replies.none pushed ∙ ap (λ (x : List ℕ). x ∷ []) (sym got)))
 
-pub returns-in-Ok-clause-cause : goal.returns-in-Ok-clause-cause
-returns-in-Ok-clause-cause g c =
-    cause_got (g.B.Bench.reported c.args.bench.now).faults (g.B.Bench.reported c.exchange.new.bench).faults (end_in c.read_poll.result) c.read_poll.ensures.got c.exchange.ensures.cause.later c.in-Ok.ensures.cause.ok
+pub returns-in-Ok-clause-keeps : goal.returns-in-Ok-clause-keeps
+returns-in-Ok-clause-keeps g c = record {
+  on = c.exchange.ensures.keeps.on;
+  cause = cause_got (g.B.Bench.reported c.args.bench.now).faults (g.B.Bench.reported c.exchange.new.bench).faults (end_in c.read_poll.result) c.read_poll.ensures.got c.exchange.ensures.keeps.cause.later c.in-Ok.ensures.keeps.cause.ok;
+}

@@ -1,4 +1,4 @@
-use Rattle.std.proofs.Common.{◌≡◌, ◌+◌, ◌<◌, length, ap, ◌∙◌, true, cond, arith}
+use Rattle.std.proofs.Common.{◌≡◌, ◌+◌, ◌<◌, length, ap, ◌∙◌, true, cond, arith, rules}
 use Rattle.probe_core.specs.Bench.{Reported}
 use Rattle.probe_core.specs.Probe.{is_queued}
 use Rattle.batch_packer.proofs.GoingOn.{goes_broken, goes_counted, sent_count}
@@ -15,11 +15,27 @@ pub returns-in-Err-clause-keeps : goal.returns-in-Err-clause-keeps
 returns-in-Err-clause-keeps g c =
     let inv = c.loop-i.invariant in
     let within : c.loop-i.i < length c.args.packets.now.items = omega (arith, c.loop-i-test.true, c.len-i-end.ensures) in
-    goes_broken c.loop-i.i c.get.result.now (g.B.Bench.reported c.args.bench.now) (g.B.Bench.reported c.loop-i.bench) (g.B.Bench.reported c.send.new.self) (g.B.Bench.state c.loop-i.bench) (g.B.Bench.state c.send.new.self)
-    inv.limits (inv.held within) inv.exchanges c.in-Err.ensures.failed
+    record {
+      on = record {
+        goes = goes_broken c.loop-i.i c.get.result.now (g.B.Bench.reported c.args.bench.now) (g.B.Bench.reported c.loop-i.bench) (g.B.Bench.reported c.send.new.self) (g.B.Bench.state c.loop-i.bench) (g.B.Bench.state c.send.new.self)
+            inv.limits (inv.held within) inv.exchanges c.in-Err.ensures.failed;
+        runs = runs_then (g.B.Bench.state c.args.bench.now) (g.B.Bench.state c.loop-i.bench) (g.B.Bench.state c.send.new.self) inv.runs c.send.ensures.runs;
+        same_bench = c.send.ensures.identity ∙ inv.identity;
+      };
+      cause = search rules;
+    }
 
 pub returns-clause-keeps : goal.returns-clause-keeps
-returns-clause-keeps g c = let inv = c.loop-i.invariant in goes_counted c.loop-i.i (g.B.Bench.reported c.args.bench.now) (g.B.Bench.reported c.loop-i.bench) inv.limits inv.exchanges
+returns-clause-keeps g c =
+    let inv = c.loop-i.invariant in
+    record {
+      on = record {
+        goes = goes_counted c.loop-i.i (g.B.Bench.reported c.args.bench.now) (g.B.Bench.reported c.loop-i.bench) inv.limits inv.exchanges;
+        runs = inv.runs;
+        same_bench = inv.identity;
+      };
+      cause = search rules;
+    }
 
 pub loop-i-preserved : goal.loop-i-preserved
 loop-i-preserved g c =

@@ -1,6 +1,7 @@
 use Rattle.std.proofs.Common.{subst, refl, arith}
-use Rattle.call_graph.proofs.Search.{Searching, turn_over, turn_on, turn_on-less, never_reached, no_items}
+use Rattle.call_graph.proofs.Search.{Searching, turn_over, turn_on, turn_on-less, never_reached}
 use Rattle.call_graph.proofs.cycle.reaches.Goals as goal
+use Rattle.dap_base.proofs.Basics.{no_items}
 
 pub loop-node-smaller-in-Continue-branch-2 : goal.loop-node-smaller-in-Continue-branch-2
 loop-node-smaller-in-Continue-branch-2 c =

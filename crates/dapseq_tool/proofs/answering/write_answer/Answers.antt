@@ -10,58 +10,66 @@ use Rattle.dapseq_tool.proofs.answering.write_answer.Goals as goal
 pub write_audited-requires : goal.write_audited-requires
 write_audited-requires g c = audit_sound c.args.answer.now c.in-Audited.audit c.in-Audited.is c.requires
 
-pub returns-in-Usage-clause-text : goal.returns-in-Usage-clause-text
-returns-in-Usage-clause-text g c = puts_answer c.args.answer.now answers.Usage usage_line _ _ c.write_usage.result c.in-Usage.is of_usage c.write_usage.ensures.text
+pub returns-in-Usage : goal.returns-in-Usage
+returns-in-Usage g c = record {
+  puts = record {
+    text = puts_answer c.args.answer.now answers.Usage usage_line _ _ c.write_usage.result c.in-Usage.is of_usage c.write_usage.ensures.puts.text;
+    sink = c.write_usage.ensures.puts.sink;
+  };
+}
 
-pub returns-in-Usage-clause-sink : goal.returns-in-Usage-clause-sink
-returns-in-Usage-clause-sink g c = c.write_usage.ensures.sink
+pub returns-in-TooLong : goal.returns-in-TooLong
+returns-in-TooLong g c = record {
+  puts = record {
+    text = puts_answer c.args.answer.now answers.TooLong too_long_line _ _ c.write_too_long.result c.in-TooLong.is of_too_long c.write_too_long.ensures.puts.text;
+    sink = c.write_too_long.ensures.puts.sink;
+  };
+}
 
-pub returns-in-TooLong-clause-text : goal.returns-in-TooLong-clause-text
-returns-in-TooLong-clause-text g c = puts_answer c.args.answer.now answers.TooLong too_long_line _ _ c.write_too_long.result c.in-TooLong.is of_too_long c.write_too_long.ensures.text
+pub returns-in-NoSequence : goal.returns-in-NoSequence
+returns-in-NoSequence g c = record {
+  puts = record {
+    text = puts_answer c.args.answer.now answers.NoSequence no_sequence_line _ _ c.write_no_sequence.result c.in-NoSequence.is of_no_sequence c.write_no_sequence.ensures.puts.text;
+    sink = c.write_no_sequence.ensures.puts.sink;
+  };
+}
 
-pub returns-in-TooLong-clause-sink : goal.returns-in-TooLong-clause-sink
-returns-in-TooLong-clause-sink g c = c.write_too_long.ensures.sink
+pub returns-in-Refused : goal.returns-in-Refused
+returns-in-Refused g c = record {
+  puts = record {
+    text = puts_answer c.args.answer.now (answers.Refused c.in-Refused.refusal) (refusal_line c.in-Refused.refusal) _ _ c.write_refusal.result c.in-Refused.is (of_refused c.in-Refused.refusal) c.write_refusal.ensures.puts.text;
+    sink = c.write_refusal.ensures.puts.sink;
+  };
+}
 
-pub returns-in-NoSequence-clause-text : goal.returns-in-NoSequence-clause-text
-returns-in-NoSequence-clause-text g c =
-    puts_answer c.args.answer.now answers.NoSequence no_sequence_line _ _ c.write_no_sequence.result c.in-NoSequence.is of_no_sequence c.write_no_sequence.ensures.text
+pub returns-in-CheckOk : goal.returns-in-CheckOk
+returns-in-CheckOk g c = record {
+  puts = record {
+    text = puts_answer c.args.answer.now (answers.CheckOk c.in-CheckOk.set) (check_text c.in-CheckOk.set) _ _ c.write_check.result c.in-CheckOk.is (of_check_ok c.in-CheckOk.set) c.write_check.ensures.puts.text;
+    sink = c.write_check.ensures.puts.sink;
+  };
+}
 
-pub returns-in-NoSequence-clause-sink : goal.returns-in-NoSequence-clause-sink
-returns-in-NoSequence-clause-sink g c = c.write_no_sequence.ensures.sink
+pub returns-in-Audited : goal.returns-in-Audited
+returns-in-Audited g c = record {
+  puts = record {
+    text = puts_answer c.args.answer.now (answers.Audited c.in-Audited.audit) (audited_lines c.in-Audited.audit.audited c.in-Audited.audit.job) _ _ c.write_audited.result c.in-Audited.is (of_audited c.in-Audited.audit) c.write_audited.ensures.puts.text;
+    sink = c.write_audited.ensures.puts.sink;
+  };
+}
 
-pub returns-in-Refused-clause-text : goal.returns-in-Refused-clause-text
-returns-in-Refused-clause-text g c =
-    puts_answer c.args.answer.now (answers.Refused c.in-Refused.refusal) (refusal_line c.in-Refused.refusal) _ _ c.write_refusal.result c.in-Refused.is (of_refused c.in-Refused.refusal)
-    c.write_refusal.ensures.text
+pub returns-in-AuditRefused : goal.returns-in-AuditRefused
+returns-in-AuditRefused g c = record {
+  puts = record {
+    text = puts_answer c.args.answer.now (answers.AuditRefused c.in-AuditRefused.fault) (audit_fault_line c.in-AuditRefused.fault) _ _ c.write_audit_fault.result c.in-AuditRefused.is (of_audit_refused c.in-AuditRefused.fault) c.write_audit_fault.ensures.puts.text;
+    sink = c.write_audit_fault.ensures.puts.sink;
+  };
+}
 
-pub returns-in-Refused-clause-sink : goal.returns-in-Refused-clause-sink
-returns-in-Refused-clause-sink g c = c.write_refusal.ensures.sink
-
-pub returns-in-CheckOk-clause-text : goal.returns-in-CheckOk-clause-text
-returns-in-CheckOk-clause-text g c =
-    puts_answer c.args.answer.now (answers.CheckOk c.in-CheckOk.set) (check_text c.in-CheckOk.set) _ _ c.write_check.result c.in-CheckOk.is (of_check_ok c.in-CheckOk.set) c.write_check.ensures.text
-
-pub returns-in-CheckOk-clause-sink : goal.returns-in-CheckOk-clause-sink
-returns-in-CheckOk-clause-sink g c = c.write_check.ensures.sink
-
-pub returns-in-Audited-clause-text : goal.returns-in-Audited-clause-text
-returns-in-Audited-clause-text g c =
-    puts_answer c.args.answer.now (answers.Audited c.in-Audited.audit) (audited_lines c.in-Audited.audit.audited c.in-Audited.audit.job) _ _ c.write_audited.result c.in-Audited.is
-    (of_audited c.in-Audited.audit) c.write_audited.ensures.text
-
-pub returns-in-Audited-clause-sink : goal.returns-in-Audited-clause-sink
-returns-in-Audited-clause-sink g c = c.write_audited.ensures.sink
-
-pub returns-in-AuditRefused-clause-text : goal.returns-in-AuditRefused-clause-text
-returns-in-AuditRefused-clause-text g c =
-    puts_answer c.args.answer.now (answers.AuditRefused c.in-AuditRefused.fault) (audit_fault_line c.in-AuditRefused.fault) _ _ c.write_audit_fault.result c.in-AuditRefused.is
-    (of_audit_refused c.in-AuditRefused.fault) c.write_audit_fault.ensures.text
-
-pub returns-in-AuditRefused-clause-sink : goal.returns-in-AuditRefused-clause-sink
-returns-in-AuditRefused-clause-sink g c = c.write_audit_fault.ensures.sink
-
-pub returns-in-NoTrace-clause-text : goal.returns-in-NoTrace-clause-text
-returns-in-NoTrace-clause-text g c = puts_answer c.args.answer.now answers.NoTrace no_trace_line _ _ c.put_text.result c.in-NoTrace.is of_no_trace c.put_text.ensures.text
-
-pub returns-in-NoTrace-clause-sink : goal.returns-in-NoTrace-clause-sink
-returns-in-NoTrace-clause-sink g c = c.put_text.ensures.sink
+pub returns-in-NoTrace : goal.returns-in-NoTrace
+returns-in-NoTrace g c = record {
+  puts = record {
+    text = puts_answer c.args.answer.now answers.NoTrace no_trace_line _ _ c.put_text.result c.in-NoTrace.is of_no_trace c.put_text.ensures.puts.text;
+    sink = c.put_text.ensures.puts.sink;
+  };
+}

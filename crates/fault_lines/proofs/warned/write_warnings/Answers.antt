@@ -1,19 +1,27 @@
 use Rattle.std.proofs.Common.{◌∙◌}
 use Rattle.fault_lines.specs.WarningText.{warning_text}
+use Rattle.text_lines.proofs.PutLemmas.{names_on}
 use Rattle.text_lines.proofs.RowLemmas.{item_at, row_more, row_cut}
 use Rattle.fault_lines.proofs.warned.write_warnings.Goals as goal
 
-pub returns-in-Err-clause-text : goal.returns-in-Err-clause-text
-returns-in-Err-clause-text g c =
+pub returns-in-Err : goal.returns-in-Err
+returns-in-Err g c =
     let x = c.warning-item.result in
-    row_cut _ _ _ (warning_text c.args.sets.now) c.args.warnings.now c.loop-warning.warning-index x (item_at c.args.warnings.now c.loop-warning.warning-index x c.loop-warning-test.true c.warning-item.is) c.loop-warning.invariant.text
-    (c.in-Err.ensures.text (warning_text c.args.sets.now x) c.text_of.ensures)
+    let puts = c.in-Err.ensures.puts (warning_text c.args.sets.now x) c.text_of.ensures in
+    record {
+      puts = record {
+        text = row_cut _ _ _ (warning_text c.args.sets.now) c.args.warnings.now c.loop-warning.warning-index x (item_at c.args.warnings.now c.loop-warning.warning-index x c.loop-warning-test.true c.warning-item.is) c.loop-warning.invariant.text
+            puts.text;
+        sink = names_on _ _ _ _ _ c.loop-warning.invariant.sink puts.sink;
+      };
+    }
 
 pub loop-warning-preserved : goal.loop-warning-preserved
 loop-warning-preserved g c =
     let x = c.warning-item.result in
+    let puts = c.in-Ok.ensures.puts (warning_text c.args.sets.now x) c.text_of.ensures in
     record {
       text = row_more _ _ _ (warning_text c.args.sets.now) c.args.warnings.now c.loop-warning.warning-index x (item_at c.args.warnings.now c.loop-warning.warning-index x c.loop-warning-test.true c.warning-item.is) c.loop-warning.invariant.text
-          (c.in-Ok.ensures.text (warning_text c.args.sets.now x) c.text_of.ensures);
-      sink = c.in-Ok.ensures.sink.else ∙ c.loop-warning.invariant.sink;
+          puts.text;
+      sink = puts.sink.else ∙ c.loop-warning.invariant.sink;
     }

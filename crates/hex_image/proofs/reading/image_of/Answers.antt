@@ -77,22 +77,22 @@ returns c =
     let t : List ℕ = c.as_bytes-bytes.result.now in
     let inv = c.loop-end.invariant in
     let low = inv.0 in
-    subst (λ (x : List ℕ). IsImage c.ended.result (image x)) c.as_bytes-bytes.ensures.value
+    subst (λ (x : List ℕ). IsImage c.end_reading.result (image x)) c.as_bytes-bytes.ensures.value
     (elim c.if-start-bytes.branch [
       | then-start-bytes+in-Ok-read_line w ↦
           let line = last_open t c.loop-end.start c.loop-end.end c.loop-end-test.false c.loop-end.auto.end-end w.if-start-bytes.true in
           let all = open_ok t c.loop-end.reader w.read_line-then-start-bytes.new.self c.loop-end.lines (take (length t - c.loop-end.start) (drop c.loop-end.start t)) (inv.2 ∙ ap (read_on c.loop-end.reader c.loop-end.lines) line) w.in-Ok-read_line.ensures in
-          no_more t c.if-start-bytes.reader c.if-start-bytes.lines c.ended.result (rw (w.reader-is, w.lines-is) all) c.ended.ensures
+          no_more t c.if-start-bytes.reader c.if-start-bytes.lines c.end_reading.result (rw (w.reader-is, w.lines-is) all) c.end_reading.ensures
       | else-start-bytes w ↦
           let high = c.loop-end.auto.end-end in
           let past = w.if-start-bytes.false in
           let le : c.loop-end.end ≤ c.loop-end.start = omega (arith, high, past) in
           let none = last_none t c.loop-end.start c.loop-end.end c.loop-end-test.false le in
-          no_more t c.if-start-bytes.reader c.if-start-bytes.lines c.ended.result (rw (w.reader-is, w.lines-is) (inv.2 ∙ ap (read_on c.loop-end.reader c.loop-end.lines) none)) c.ended.ensures
+          no_more t c.if-start-bytes.reader c.if-start-bytes.lines c.end_reading.result (rw (w.reader-is, w.lines-is) (inv.2 ∙ ap (read_on c.loop-end.reader c.loop-end.lines) none)) c.end_reading.ensures
     ])
 
-pub ended-requires : goal.ended-requires
-ended-requires c = λ ended.
+pub end_reading-requires : goal.end_reading-requires
+end_reading-requires c = λ ended.
     let t : List ℕ = c.as_bytes-bytes.result.now in
     let inv = c.loop-end.invariant in
     elim c.if-start-bytes.branch [

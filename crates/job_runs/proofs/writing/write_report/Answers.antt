@@ -10,14 +10,14 @@ use Rattle.job_runs.proofs.writing.write_report.Goals as goal
 pub returns-in-Ok-clause-text : goal.returns-in-Ok-clause-text
 returns-in-Ok-clause-text g c =
     then_put _ _ _ _ _ _ (λ m. report c.args.ran.now.ended c.args.ran.now.sent c.args.ran.now.got c.args.job.now (target_of m.probe))
-    (λ m. trace_part (c.args.is_traced && shows_target c.args.ran.now.ended.ending) m.log) c.report_text.ensures.keeps.same.state
-    (rw (c.as_slice-sent.ensures, c.as_slice-got.ensures) at c.in-Ok.ensures.text) (rw c.shows_trace-is_shown.ensures at c.write_trace.ensures.text)
+    (λ m. trace_part (c.args.is_traced && shows_target c.args.ran.now.ended.ending) m.log) c.report_text.ensures.puts.keeps.same.state
+    (rw (c.as_slice-sent.ensures, c.as_slice-got.ensures) at c.in-Ok.ensures.puts.text) (rw c.shows_trace-is_shown.ensures at c.write_trace.ensures.text)
 
 pub returns-in-Err-clause-text : goal.returns-in-Err-clause-text
 returns-in-Err-clause-text g c =
     first_part _ _ _ (λ m. report c.args.ran.now.ended c.args.ran.now.sent c.args.ran.now.got c.args.job.now (target_of m.probe))
     (λ m. trace_part (c.args.is_traced && shows_target c.args.ran.now.ended.ending) m.log)
-    (rw (c.as_slice-sent.ensures, c.as_slice-got.ensures) at c.in-Err.ensures.text)
+    (rw (c.as_slice-sent.ensures, c.as_slice-got.ensures) at c.in-Err.ensures.puts.text)
 
 pub returns-in-Ok-clause-front : goal.returns-in-Ok-clause-front
 returns-in-Ok-clause-front g c =
@@ -25,7 +25,7 @@ returns-in-Ok-clause-front g c =
     (rw (c.as_slice-sent.ensures, c.as_slice-got.ensures) at c.in-Ok.ensures.front) c.write_trace.ensures.ends.some
 
 pub returns-in-Ok-clause-ends : goal.returns-in-Ok-clause-ends
-returns-in-Ok-clause-ends g c = shows_on g.K.Sink.written g.K.Sink.faults tt c.write_trace.result _ _ _ _ _ _ c.in-Ok.ensures.ends c.write_trace.ensures.ends
+returns-in-Ok-clause-ends g c = shows_on g.K.Sink.written g.K.Sink.faults tt c.write_trace.result _ _ _ _ _ _ c.in-Ok.ensures.puts.ends c.write_trace.ensures.ends
 
 pub returns-in-Err-clause-front : goal.returns-in-Err-clause-front
 returns-in-Err-clause-front g c = rw (c.as_slice-sent.ensures, c.as_slice-got.ensures) at c.in-Err.ensures.front

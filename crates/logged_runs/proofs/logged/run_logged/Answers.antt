@@ -10,10 +10,10 @@ use Rattle.sequence_rules.specs.Direct.{direct}
 use Rattle.sequence_rules.specs.Runs.{program_of, variables_of}
 use Rattle.sequence_rules.specs.Steps as m
 use Rattle.sequence_rules.specs.Variables.{with_all_new}
+use Rattle.sequence_rules.proofs.StartLemmas.{start_is}
 use Rattle.logged_calls.specs.Held.{Means, Unless}
 use Rattle.logged_runs.specs.Seen.{Notes}
 use Rattle.logged_runs.specs.Walk.{now, seen}
-use Rattle.logged_runs.proofs.StartLemmas.{start_is}
 use Rattle.logged_runs.proofs.logged.run_logged.Goals as goal
 
 pub returns-clause-answer : goal.returns-clause-answer

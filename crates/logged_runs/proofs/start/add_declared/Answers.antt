@@ -1,5 +1,5 @@
-use Rattle.logged_runs.proofs.StartLemmas.{declared_more, declared_over}
 use Rattle.logged_runs.proofs.start.add_declared.Goals as goal
+use Rattle.sequence_rules.proofs.StartLemmas.{declared_over, declared_more}
 
 pub loop-one-preserved : goal.loop-one-preserved
 loop-one-preserved c = declared_more c.args.code.now c.loop-one.one-index _ c.one-item.result _ _ _ c.loop-one-test.true c.one-item.is c.loop-one.invariant c.in-Ok.ensures

@@ -1,8 +1,8 @@
 use Rattle.std.proofs.Common.{◌≡◌}
 use Rattle.pack_faults.specs.Steps.{noted}
-use Rattle.pack_faults.proofs.MergeLemmas.{on_ok}
 use Rattle.pack_faults.proofs.KeyLemmas.{noted_same}
 use Rattle.pack_faults.proofs.merging.note_at.Goals as goal
+use Rattle.pack_faults.proofs.AddedLemmas.{on_ok}
 
 pub returns : goal.returns
 returns c =

@@ -4,9 +4,9 @@ use Rattle.std.specs.BTreeMap.{get}
 use Rattle.pack_warnings.specs.declared.answer.FoundWarning.{FoundWarning}
 use Rattle.pack_warnings.specs.declared.answer.PackWarning.{PackWarning}
 use Rattle.pack_warnings.specs.Keys.{key_cmp, Knows}
-use Rattle.pack_faults.proofs.MergeLemmas.{on_ok}
 use Rattle.pack_warnings.proofs.KeyLemmas.{there_known, found_last, knows_more}
 use Rattle.pack_warnings.proofs.merging.add_first.Goals as goal
+use Rattle.pack_faults.proofs.AddedLemmas.{on_ok}
 
 pub returns-clause-list : goal.returns-clause-list
 returns-clause-list c =

@@ -2,9 +2,9 @@ use Rattle.std.proofs.Common.{◌≡◌, ◌∙◌, [], List, Some, option_map, 
 use Rattle.pack_warnings.specs.declared.answer.FoundWarning.{FoundWarning}
 use Rattle.pack_warnings.specs.declared.answer.PackWarning.{PackWarning}
 use Rattle.pack_warnings.specs.Keys.{found_view, noted_at, Knows}
-use Rattle.pack_faults.proofs.MergeLemmas.{on_ok}
 use Rattle.pack_warnings.proofs.KeyLemmas.{there_known, place_within, found_there, knows_noted}
 use Rattle.pack_warnings.proofs.merging.add_found.Goals as goal
+use Rattle.pack_faults.proofs.AddedLemmas.{on_ok}
 
 pub note_at-requires : goal.note_at-requires
 note_at-requires c =

@@ -1,6 +1,6 @@
 use Rattle.std.proofs.Common.{◌≡◌}
 use Rattle.pack_faults.specs.Steps.{noted}
-use Rattle.pack_faults.proofs.MergeLemmas.{on_ok}
+use Rattle.pack_faults.proofs.AddedLemmas.{on_ok}
 use Rattle.pack_warnings.proofs.KeyLemmas.{noted_same}
 use Rattle.pack_warnings.proofs.merging.note_at.Goals as goal
 

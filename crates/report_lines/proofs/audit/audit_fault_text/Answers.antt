@@ -1,4 +1,4 @@
 use Rattle.report_lines.proofs.audit.audit_fault_text.Goals as goal
 
-pub returns-in-WrongReply-clause-text : goal.returns-in-WrongReply-clause-text
-returns-in-WrongReply-clause-text g c = rw c.in-WrongReply.is c.write_refused-in-WrongReply.ensures.text
+pub returns-in-WrongReply : goal.returns-in-WrongReply
+returns-in-WrongReply g c = record { puts = rw c.in-WrongReply.is c.write_refused-in-WrongReply.ensures.puts }

@@ -1,13 +1,9 @@
 use Rattle.report_lines.specs.Endings.{attempted_part, stop_line}
-use Rattle.text_lines.proofs.PutLemmas.{prefix_first, put_after}
-use Rattle.report_lines.proofs.FrameLemmas.{puts_on}
+use Rattle.report_lines.proofs.FrameLemmas.{lines_after, lines_first}
 use Rattle.report_lines.proofs.head.write_cut.Goals as goal
 
-pub returns-in-Ok-clause-text : goal.returns-in-Ok-clause-text
-returns-in-Ok-clause-text g c = put_after _ _ _ _ (stop_line c.args.report.now) (attempted_part c.args.report.now c.args.skipped) (c.in-Ok.ensures.text _ c.stop_line_text-line.ensures) c.write_attempted.ensures.text
+pub returns-in-Ok : goal.returns-in-Ok
+returns-in-Ok g c = record { puts = lines_after _ _ _ _ _ _ (stop_line c.args.report.now) (attempted_part c.args.report.now c.args.skipped) (c.in-Ok.ensures.puts _ c.stop_line_text-line.ensures) c.write_attempted.ensures.puts }
 
-pub returns-in-Err-clause-text : goal.returns-in-Err-clause-text
-returns-in-Err-clause-text g c = prefix_first _ _ (stop_line c.args.report.now) (attempted_part c.args.report.now c.args.skipped) (c.in-Err.ensures.text _ c.stop_line_text-line.ensures)
-
-pub returns-in-Ok-clause-ends : goal.returns-in-Ok-clause-ends
-returns-in-Ok-clause-ends g c = puts_on g.K.Sink.written g.K.Sink.faults tt c.write_attempted.result _ _ _ c.in-Ok.ensures.ends c.write_attempted.ensures.ends
+pub returns-in-Err : goal.returns-in-Err
+returns-in-Err g c = record { puts = lines_first _ _ _ _ _ (stop_line c.args.report.now) (attempted_part c.args.report.now c.args.skipped) (c.in-Err.ensures.puts _ c.stop_line_text-line.ensures) }

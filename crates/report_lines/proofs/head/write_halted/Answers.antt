@@ -1,13 +1,9 @@
 use Rattle.report_lines.specs.Endings.{count_lines, halted_line}
-use Rattle.text_lines.proofs.PutLemmas.{prefix_first, put_after}
-use Rattle.report_lines.proofs.FrameLemmas.{puts_on}
+use Rattle.report_lines.proofs.FrameLemmas.{lines_after, lines_first}
 use Rattle.report_lines.proofs.head.write_halted.Goals as goal
 
-pub returns-in-Ok-clause-text : goal.returns-in-Ok-clause-text
-returns-in-Ok-clause-text g c = put_after _ _ _ _ (halted_line c.args.cause) (count_lines c.args.ended.now) (c.in-Ok.ensures.text _ c.halted_text-line.ensures) c.write_counts.ensures.text
+pub returns-in-Ok : goal.returns-in-Ok
+returns-in-Ok g c = record { puts = lines_after _ _ _ _ _ _ (halted_line c.args.cause) (count_lines c.args.ended.now) (c.in-Ok.ensures.puts _ c.halted_text-line.ensures) c.write_counts.ensures.puts }
 
-pub returns-in-Err-clause-text : goal.returns-in-Err-clause-text
-returns-in-Err-clause-text g c = prefix_first _ _ (halted_line c.args.cause) (count_lines c.args.ended.now) (c.in-Err.ensures.text _ c.halted_text-line.ensures)
-
-pub returns-in-Ok-clause-ends : goal.returns-in-Ok-clause-ends
-returns-in-Ok-clause-ends g c = puts_on g.K.Sink.written g.K.Sink.faults tt c.write_counts.result _ _ _ c.in-Ok.ensures.ends c.write_counts.ensures.ends
+pub returns-in-Err : goal.returns-in-Err
+returns-in-Err g c = record { puts = lines_first _ _ _ _ _ (halted_line c.args.cause) (count_lines c.args.ended.now) (c.in-Err.ensures.puts _ c.halted_text-line.ensures) }

@@ -6,20 +6,21 @@ use Rattle.report_lines.proofs.RowLemmas.{began_same, rows_cut, rows_more, wrote
 use Rattle.text_lines.proofs.RowLemmas.{slice_get-in}
 use Rattle.report_lines.proofs.target.write_watch.Goals as goal
 
-pub returns-in-Err-clause-text : goal.returns-in-Err-clause-text
-returns-in-Err-clause-text g c =
-    let item : WatchItem = get_or c.args.watch.now c.loop-item.item-index (record { address = 0; words = 0 }) in
-    rows_cut (g.S.ShowsTarget.known c.args.shower.now).target _ _ _ (λ t item. word_lines t item.address item.words) c.args.watch.now c.loop-item.item-index item (slice_get-in c.args.watch.now c.loop-item.item-index _ c.loop-item-test.true) c.loop-item.invariant.text
-    (began_same _ _ (λ t. word_lines t item.address item.words) _ _ c.loop-item.invariant.shows.keeps.target c.in-Err.ensures.text)
-
 pub loop-item-preserved : goal.loop-item-preserved
 loop-item-preserved g c =
     let item : WatchItem = get_or c.args.watch.now c.loop-item.item-index (record { address = 0; words = 0 }) in record {
       text = rows_more (g.S.ShowsTarget.known c.args.shower.now).target _ _ _ (λ t item. word_lines t item.address item.words) c.args.watch.now c.loop-item.item-index item (slice_get-in c.args.watch.now c.loop-item.item-index _ c.loop-item-test.true) c.loop-item.invariant.text
-          (wrote_same _ _ (λ t. word_lines t item.address item.words) _ _ c.loop-item.invariant.shows.keeps.target c.in-Ok.ensures.text);
-      shows = views_on g.S.ShowsTarget.known g.K.Sink.written g.K.Sink.faults tt (Ok tt) _ _ _ _ _ _ c.loop-item.invariant.shows c.in-Ok.ensures.shows;
+          (wrote_same _ _ (λ t. word_lines t item.address item.words) _ _ c.loop-item.invariant.shows.keeps.target c.in-Ok.ensures.puts.text);
+      shows = views_on g.S.ShowsTarget.known g.K.Sink.written g.K.Sink.faults tt (Ok tt) _ _ _ _ _ _ c.loop-item.invariant.shows c.in-Ok.ensures.puts.shows;
     }
 
-pub returns-in-Err-clause-shows : goal.returns-in-Err-clause-shows
-returns-in-Err-clause-shows g c =
-    views_on g.S.ShowsTarget.known g.K.Sink.written g.K.Sink.faults tt (Err c.in-Err.end) _ _ _ _ _ _ c.loop-item.invariant.shows c.in-Err.ensures.shows
+pub returns-in-Err : goal.returns-in-Err
+returns-in-Err g c =
+    let item : WatchItem = get_or c.args.watch.now c.loop-item.item-index (record { address = 0; words = 0 }) in
+    record {
+      puts = record {
+        text = rows_cut (g.S.ShowsTarget.known c.args.shower.now).target _ _ _ (λ t item. word_lines t item.address item.words) c.args.watch.now c.loop-item.item-index item (slice_get-in c.args.watch.now c.loop-item.item-index _ c.loop-item-test.true) c.loop-item.invariant.text
+            (began_same _ _ (λ t. word_lines t item.address item.words) _ _ c.loop-item.invariant.shows.keeps.target c.in-Err.ensures.puts.text);
+        shows = views_on g.S.ShowsTarget.known g.K.Sink.written g.K.Sink.faults tt (Err c.in-Err.end) _ _ _ _ _ _ c.loop-item.invariant.shows c.in-Err.ensures.puts.shows;
+      };
+    }

@@ -7,8 +7,8 @@ use Rattle.rom_scan.proofs.asking.ask_now.Goals as goal
 
 pub returns-in-Err-clause-gives : goal.returns-in-Err-clause-gives
 returns-in-Err-clause-gives g c = λ m answered written b l whole.
-    stops_asking Asked (world_from m answered) (g.A.Access.reported c.args.access.now) (g.A.Access.reported c.ask.new.self) (unit_ask c.args.unit true) written c.in-Err.stop c.requires.open
-    c.in-Err.ensures.calls (c.in-Err.ensures.stops m answered b l c.requires.open) whole
+    stops_asking Asked (world_from m answered) (g.A.Access.reported c.args.access.now) (g.A.Access.reported c.ask.new.self) (unit_ask c.args.unit true) written c.in-Err.stop c.requires.may.no_end
+    c.in-Err.ensures.calls (c.in-Err.ensures.stops m answered b l c.requires.may.no_end) whole
 
 pub returns-in-Err-flush-clause-gives : goal.returns-in-Err-flush-clause-gives
 returns-in-Err-flush-clause-gives g c = λ m answered written b l whole.

@@ -13,7 +13,7 @@ loop-i-init g c = record {
   so_far = λ m answered written b l whole. words_start (world_from m answered) c.args.ap c.args.count c.args.address c.new-read.result.items (g.A.Access.reported c.args.access.now).asks.calls written c.new-read.ensures;
   items = ap (λ (x : List ℕ). length x) c.new-read.ensures;
   calls = omega arith;
-  ended = c.requires.open;
+  ended = c.requires.may.no_end;
   keeps = keeps_same _ _ _ _;
 }
 
@@ -27,7 +27,7 @@ loop-i-preserved g c =
     record {
       so_far = λ m answered written b l whole.
           let w = world_from m answered in
-          let r = inv.so_far m answered written b (e.keeps.goes.left answered l) whole in
+          let r = inv.so_far m answered written b (e.ends.keeps.goes.left answered l) whole in
           subst (λ (x : List ℕ). Reaches w (words c.args.ap c.args.count c.args.address []) old new written written (words c.args.ap (c.args.count - (c.loop-i.i + 1)) (c.args.address + 4 * (c.loop-i.i + 1)) x)) (sym c.push.ensures.items)
           (next_word w c.args.ap c.args.count c.loop-i.i c.args.address c.loop-i.read.items _ old mid new written c.loop-i-test.true c.word_unit.ensures.asks whole r c.in-Ok.word
           (e.gives m answered written (inv.keeps.on m b) l (whole_after w (words c.args.ap c.args.count c.args.address []) _ old mid written written whole r)));
@@ -37,8 +37,8 @@ loop-i-preserved g c =
           let d = inv.items in
           omega (arith, a, b, d);
       calls = (let a = e.count in let b = inv.calls in omega (arith, a, b));
-      ended = e.end;
-      keeps = keeps_on _ _ _ _ _ _ inv.keeps e.keeps;
+      ended = e.ends.end;
+      keeps = keeps_on _ _ _ _ _ _ inv.keeps e.ends.keeps;
     }
 
 pub returns-in-Err-clause-gives : goal.returns-in-Err-clause-gives
@@ -46,7 +46,7 @@ returns-in-Err-clause-gives g c = λ m answered written b l whole.
     let inv = c.loop-i.invariant in
     let w = world_from m answered in
     let e = c.in-Err.ensures in
-    let r = inv.so_far m answered written b (e.keeps.goes.left answered l) whole in
+    let r = inv.so_far m answered written b (e.ends.keeps.goes.left answered l) whole in
     stops_word w c.args.ap c.args.count c.loop-i.i c.args.address c.loop-i.read.items _ (g.A.Access.reported c.args.access.now).asks.calls (g.A.Access.reported c.loop-i.access).asks.calls (g.A.Access.reported c.ask_now.new.access).asks.calls written
     c.loop-i-test.true c.word_unit.ensures.asks whole r (g.A.Access.reported c.ask_now.new.access).lines c.in-Err.stop
     (e.gives m answered written (inv.keeps.on m b) l (whole_after w (words c.args.ap c.args.count c.args.address []) _ _ _ written written whole r))

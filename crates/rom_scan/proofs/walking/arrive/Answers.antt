@@ -1,10 +1,11 @@
-use Rattle.std.proofs.Common.{◌+◌, ◌<◌, ℕ, length, subst, arith, ap, Err}
+use Rattle.std.proofs.Common.{◌+◌, ◌<◌, ℕ, length, subst, arith, rules, ap, Err}
 use Rattle.access_calls.specs.Reported.{world_from}
 use Rattle.sequels.specs.Meeting.{Gave}
 use Rattle.rom_scan.specs.Components.{component_at}
 use Rattle.rom_scan.specs.Meets.{StopsIn}
 use Rattle.rom_scan.proofs.ArriveLemmas.{arrive_done, arrive_left, arrive_stops, arrive_unlined, full_here, left_whole, opened_less, opened_sound}
-use Rattle.rom_scan.proofs.WrittenLemmas.{none_written, one_written, unwritten}
+use Rattle.rom_scan.proofs.EndLemmas.{ends_full, ends_stop}
+use Rattle.rom_scan.proofs.WrittenLemmas.{one_written, unwritten}
 use Rattle.rom_scan.proofs.walking.arrive.Goals as goal
 
 pub returns-then-len-ge1024-clause-gives : goal.returns-then-len-ge1024-clause-gives
@@ -31,7 +32,7 @@ returns-in-Err-Failed-clause-gives g c = λ m answered b l whole.
     let room : length c.args.listed.now < 1024 = (let few = c.if-len-ge1024.false in let is = c.len.ensures in omega (arith, few, is)) in
     arrive_left w c.args.ap c.args.tables.now c.args.address c.args.listed.now old before c.requires.deep room new c.in-Ok.component (g.K.Sink.written c.write_component.new.sink) whole
     (subst (λ (d : ℕ). Gave w (component_at c.args.ap c.args.address (1 + d)) old new before before c.in-Ok.component) c.len-2.ensures (c.in-Ok.ensures.gives m answered before b l whole))
-    c.in-Err-Failed.ensures.text
+    c.in-Err-Failed.ensures.puts.text
 
 pub returns-in-Err-OutOfMemory-clause-gives : goal.returns-in-Err-OutOfMemory-clause-gives
 returns-in-Err-OutOfMemory-clause-gives g c = λ m answered b l whole.
@@ -42,7 +43,7 @@ returns-in-Err-OutOfMemory-clause-gives g c = λ m answered b l whole.
     let room : length c.args.listed.now < 1024 = (let few = c.if-len-ge1024.false in let is = c.len.ensures in omega (arith, few, is)) in
     arrive_unlined w c.args.ap c.args.tables.now c.args.address c.args.listed.now old before c.requires.deep room (g.A.Access.reported c.read_component.new.access).lines new c.in-Ok.component (g.K.Sink.written c.write_component.new.sink) whole
     (subst (λ (d : ℕ). Gave w (component_at c.args.ap c.args.address (1 + d)) old new before before c.in-Ok.component) c.len-2.ensures (c.in-Ok.ensures.gives m answered before b l whole))
-    c.in-Err-OutOfMemory.ensures.text
+    c.in-Err-OutOfMemory.ensures.puts.text
 
 pub returns-in-Err-push-clause-gives : goal.returns-in-Err-push-clause-gives
 returns-in-Err-push-clause-gives g c = λ m answered b l whole.
@@ -54,7 +55,7 @@ returns-in-Err-push-clause-gives g c = λ m answered b l whole.
     record {
       left = left_whole w c.args.ap c.args.tables.now c.args.address c.args.listed.now old before c.requires.deep room new c.in-Ok.component (g.K.Sink.written c.write_component.new.sink) whole
           (subst (λ (d : ℕ). Gave w (component_at c.args.ap c.args.address (1 + d)) old new before before c.in-Ok.component) c.len-2.ensures (c.in-Ok.ensures.gives m answered before b l whole))
-          c.in-Ok-write_component.ensures.text;
+          c.in-Ok-write_component.ensures.puts.text;
       cut = tt;
     }
 
@@ -67,7 +68,7 @@ returns-clause-gives g c = λ m answered b l whole.
     let room : length c.args.listed.now < 1024 = (let few = c.if-len-ge1024.false in let is = c.len.ensures in omega (arith, few, is)) in
     arrive_done w c.args.ap c.args.tables.now c.args.address c.args.listed.now old before c.requires.deep room new c.in-Ok.component (g.K.Sink.written c.write_component.new.sink) c.open_table.new.tables c.push.new.self whole
     (subst (λ (d : ℕ). Gave w (component_at c.args.ap c.args.address (1 + d)) old new before before c.in-Ok.component) c.len-2.ensures (c.in-Ok.ensures.gives m answered before b l whole))
-    c.in-Ok-write_component.ensures.text c.open_table.ensures c.in-Ok-push.ensures.ok
+    c.in-Ok-write_component.ensures.puts.text c.open_table.ensures c.in-Ok-push.ensures.ok
 
 pub returns-clause-open : goal.returns-clause-open
 returns-clause-open g c = opened_sound c.args.tables.now c.open_table.new.tables c.in-Ok.component c.open_table.ensures (rw c.in-Ok.ensures.address c.requires.page)
@@ -77,17 +78,28 @@ returns-clause-less g c =
     let room : length c.args.listed.now < 1024 = (let few = c.if-len-ge1024.false in let is = c.len.ensures in omega (arith, few, is)) in
     opened_less c.args.tables.now c.open_table.new.tables c.args.listed.now c.push.new.self c.in-Ok.component c.open_table.ensures c.in-Ok-push.ensures.ok room
 
-pub returns-then-len-ge1024-clause-lines : goal.returns-then-len-ge1024-clause-lines
-returns-then-len-ge1024-clause-lines g c = none_written _
+pub returns-then-len-ge1024-clause-ends : goal.returns-then-len-ge1024-clause-ends
+returns-then-len-ge1024-clause-ends g c = ends_full g.A.Access.begun g.A.Access.reported g.A.Access.identity g.K.Sink.written g.K.Sink.faults _ _ c.requires.may.no_end
 
-pub returns-in-Err-clause-lines : goal.returns-in-Err-clause-lines
-returns-in-Err-clause-lines g c = none_written _
+pub returns-in-Err-clause-ends : goal.returns-in-Err-clause-ends
+returns-in-Err-clause-ends g c = ends_stop g.A.Access.begun g.A.Access.reported g.A.Access.identity g.K.Sink.written g.K.Sink.faults c.in-Err.stop _ _ _ c.in-Err.ensures.ends
 
-pub returns-in-Err-OutOfMemory-clause-lines : goal.returns-in-Err-OutOfMemory-clause-lines
-returns-in-Err-OutOfMemory-clause-lines g c = unwritten _ _ (c.in-Err-OutOfMemory.ensures.unwritten (ap Err c.in-Err-OutOfMemory.field-0-is))
+pub returns-in-Err-OutOfMemory-clause-ends : goal.returns-in-Err-OutOfMemory-clause-ends
+returns-in-Err-OutOfMemory-clause-ends g c =
+    let e = c.in-Ok.ensures.ends in
+    record {
+      end = e.end;
+      lines = unwritten _ _ (c.in-Err-OutOfMemory.ensures.unwritten (ap Err c.in-Err-OutOfMemory.field-0-is));
+      cause = search rules;
+      keeps = e.keeps;
+    }
 
-pub returns-in-Err-push-clause-lines : goal.returns-in-Err-push-clause-lines
-returns-in-Err-push-clause-lines g c = one_written _ _ c.in-Ok.component c.in-Ok-write_component.ensures.text
+pub returns-in-Err-push-clause-ends : goal.returns-in-Err-push-clause-ends
+returns-in-Err-push-clause-ends g c =
+    let e = c.in-Ok.ensures.ends in
+    record { end = e.end; lines = one_written _ _ c.in-Ok.component c.in-Ok-write_component.ensures.puts.text; cause = search rules; keeps = e.keeps }
 
-pub returns-clause-lines : goal.returns-clause-lines
-returns-clause-lines g c = one_written _ _ c.in-Ok.component c.in-Ok-write_component.ensures.text
+pub returns-clause-ends : goal.returns-clause-ends
+returns-clause-ends g c =
+    let e = c.in-Ok.ensures.ends in
+    record { end = e.end; lines = one_written _ _ c.in-Ok.component c.in-Ok-write_component.ensures.puts.text; cause = search rules; keeps = e.keeps }

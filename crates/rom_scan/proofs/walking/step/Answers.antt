@@ -1,10 +1,10 @@
-use Rattle.std.proofs.Common.{◌∙◌, ◌∷◌, true, Ok, Err, refl, sym}
+use Rattle.std.proofs.Common.{◌∙◌, ◌+◌, ◌∷◌, true, Ok, Err, refl, sym}
 use Rattle.access_calls.specs.Reported.{world_from}
 use Rattle.target_calls.specs.Asks.{unit_ask}
 use Rattle.sequels.proofs.MeetingLemmas.{whole_after}
 use Rattle.rom_scan.specs.Tables.{reached, unwound}
 use Rattle.rom_scan.proofs.StepLemmas.{step_ends, step_knows, step_passes, step_stops, step_visits, walks_on}
-use Rattle.rom_scan.proofs.WrittenLemmas.{none_written}
+use Rattle.rom_scan.proofs.EndLemmas.{ends_as, ends_asked, ends_on, ends_stop}
 use Rattle.rom_scan.proofs.walking.step.Goals as goal
 
 pub returns-in-Err-clause-gives : goal.returns-in-Err-clause-gives
@@ -34,13 +34,13 @@ returns-in-Ok-arrive-clause-gives g c = λ m answered b l whole.
     let old = (g.A.Access.reported c.args.access.now).asks.calls in
     let mid = (g.A.Access.reported c.ask_now.new.access).asks.calls in
     let before = g.K.Sink.written c.args.sink.now in
-    let l2 = c.in-Ok-arrive.ensures.keeps.goes.left answered l in
+    let l2 = c.in-Ok-arrive.ensures.ends.keeps.goes.left answered l in
     let r = step_visits w c.args.ap c.args.table c.args.tables.now c.args.listed.now old before (unit_ask c.word_unit.result true) c.requires.some c.word_unit.ensures.asks
     mid c.in-Ok.entry (c.in-Ok.ensures.gives m answered before b l2 whole) c.push.new.self c.named_by-address.result c.push.ensures c.named_by-address.ensures.named c.if-entry-eq0.false c.if-entry-eq0-2.false
     (rw (← c.named_by-address.ensures.named) (rw (← c.as_slice.ensures) (sym c.is_listed.ensures ∙ c.if-is_listed.false))) in
     walks_on w (g.A.Access.reported c.arrive.new.access).lines c.args.ap (unwound 1024 c.args.ap (c.args.table ∷ c.args.tables.now) c.args.listed.now) (reached 1024 c.args.ap c.push.new.self c.named_by-address.result c.args.listed.now) (Ok c.in-Ok-arrive.words)
     c.arrive.new.tables c.arrive.new.listed old mid (g.A.Access.reported c.arrive.new.access).asks.calls before before (g.K.Sink.written c.arrive.new.sink) whole r
-    (c.in-Ok-arrive.ensures.gives m answered (c.in-Ok.ensures.keeps.on m b) l
+    (c.in-Ok-arrive.ensures.gives m answered (c.in-Ok.ensures.ends.keeps.on m b) l
     (whole_after w (unwound 1024 c.args.ap (c.args.table ∷ c.args.tables.now) c.args.listed.now) (reached 1024 c.args.ap c.push.new.self c.named_by-address.result c.args.listed.now) old mid before before whole r))
 
 pub returns-in-Err-arrive-clause-gives : goal.returns-in-Err-arrive-clause-gives
@@ -49,23 +49,32 @@ returns-in-Err-arrive-clause-gives g c = λ m answered b l whole.
     let old = (g.A.Access.reported c.args.access.now).asks.calls in
     let mid = (g.A.Access.reported c.ask_now.new.access).asks.calls in
     let before = g.K.Sink.written c.args.sink.now in
-    let l2 = c.in-Err-arrive.ensures.keeps.goes.left answered l in
+    let l2 = c.in-Err-arrive.ensures.ends.keeps.goes.left answered l in
     let r = step_visits w c.args.ap c.args.table c.args.tables.now c.args.listed.now old before (unit_ask c.word_unit.result true) c.requires.some c.word_unit.ensures.asks
     mid c.in-Ok.entry (c.in-Ok.ensures.gives m answered before b l2 whole) c.push.new.self c.named_by-address.result c.push.ensures c.named_by-address.ensures.named c.if-entry-eq0.false c.if-entry-eq0-2.false
     (rw (← c.named_by-address.ensures.named) (rw (← c.as_slice.ensures) (sym c.is_listed.ensures ∙ c.if-is_listed.false))) in
     walks_on w (g.A.Access.reported c.arrive.new.access).lines c.args.ap (unwound 1024 c.args.ap (c.args.table ∷ c.args.tables.now) c.args.listed.now) (reached 1024 c.args.ap c.push.new.self c.named_by-address.result c.args.listed.now) (Err c.in-Err-arrive.end)
     c.arrive.new.tables c.arrive.new.listed old mid (g.A.Access.reported c.arrive.new.access).asks.calls before before (g.K.Sink.written c.arrive.new.sink) whole r
-    (c.in-Err-arrive.ensures.gives m answered (c.in-Ok.ensures.keeps.on m b) l
+    (c.in-Err-arrive.ensures.gives m answered (c.in-Ok.ensures.ends.keeps.on m b) l
     (whole_after w (unwound 1024 c.args.ap (c.args.table ∷ c.args.tables.now) c.args.listed.now) (reached 1024 c.args.ap c.push.new.self c.named_by-address.result c.args.listed.now) old mid before before whole r))
 
-pub returns-in-Err-clause-lines : goal.returns-in-Err-clause-lines
-returns-in-Err-clause-lines g c = none_written _
+pub returns-in-Err-clause-ends : goal.returns-in-Err-clause-ends
+returns-in-Err-clause-ends g c = ends_stop g.A.Access.begun g.A.Access.reported g.A.Access.identity g.K.Sink.written g.K.Sink.faults c.in-Err.stop _ _ _ c.in-Err.ensures.ends
 
-pub returns-then-entry-eq0-clause-lines : goal.returns-then-entry-eq0-clause-lines
-returns-then-entry-eq0-clause-lines g c = none_written _
+pub returns-then-entry-eq0-clause-ends : goal.returns-then-entry-eq0-clause-ends
+returns-then-entry-eq0-clause-ends g c = ends_asked g.A.Access.begun g.A.Access.reported g.A.Access.identity g.K.Sink.written g.K.Sink.faults c.in-Ok.entry 1 _ _ _ c.in-Ok.ensures.ends
 
-pub returns-then-entry-eq0-2-clause-lines : goal.returns-then-entry-eq0-2-clause-lines
-returns-then-entry-eq0-2-clause-lines g c = none_written _
+pub returns-then-entry-eq0-2-clause-ends : goal.returns-then-entry-eq0-2-clause-ends
+returns-then-entry-eq0-2-clause-ends g c = ends_asked g.A.Access.begun g.A.Access.reported g.A.Access.identity g.K.Sink.written g.K.Sink.faults c.in-Ok.entry 1 _ _ _ c.in-Ok.ensures.ends
 
-pub returns-then-is_listed-clause-lines : goal.returns-then-is_listed-clause-lines
-returns-then-is_listed-clause-lines g c = none_written _
+pub returns-then-is_listed-clause-ends : goal.returns-then-is_listed-clause-ends
+returns-then-is_listed-clause-ends g c = ends_asked g.A.Access.begun g.A.Access.reported g.A.Access.identity g.K.Sink.written g.K.Sink.faults c.in-Ok.entry 1 _ _ _ c.in-Ok.ensures.ends
+
+pub returns-in-Ok-arrive-clause-ends : goal.returns-in-Ok-arrive-clause-ends
+returns-in-Ok-arrive-clause-ends g c =
+    ends_on g.A.Access.begun g.A.Access.reported g.A.Access.identity g.K.Sink.written g.K.Sink.faults 1 (Ok (1 + c.in-Ok-arrive.words)) _ _ _ _ _ _ (ends_asked g.A.Access.begun g.A.Access.reported g.A.Access.identity g.K.Sink.written g.K.Sink.faults c.in-Ok.entry 1 _ _ _ c.in-Ok.ensures.ends)
+    (ends_as g.A.Access.begun g.A.Access.reported g.A.Access.identity g.K.Sink.written g.K.Sink.faults _ _ _ _ _ _ c.in-Ok-arrive.ensures.ends)
+
+pub returns-in-Err-arrive-clause-ends : goal.returns-in-Err-arrive-clause-ends
+returns-in-Err-arrive-clause-ends g c =
+    ends_on g.A.Access.begun g.A.Access.reported g.A.Access.identity g.K.Sink.written g.K.Sink.faults 1 (Err c.in-Err-arrive.end) _ _ _ _ _ _ (ends_asked g.A.Access.begun g.A.Access.reported g.A.Access.identity g.K.Sink.written g.K.Sink.faults c.in-Ok.entry 1 _ _ _ c.in-Ok.ensures.ends) c.in-Err-arrive.ensures.ends

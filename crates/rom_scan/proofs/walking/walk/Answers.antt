@@ -1,14 +1,15 @@
-use Rattle.std.proofs.Common.{◌≡◌, ◌∙◌, ◌+◌, ◌∷◌, ℕ, List, suc, length, Err, refl, ap, subst, arith}
+use Rattle.std.proofs.Common.{◌≡◌, ◌∙◌, ◌+◌, ◌∷◌, List, suc, length, Err, refl, ap, subst, arith}
 use Rattle.std.specs.List.{All}
 use Rattle.std.proofs.lemmas.List.Elements.{All-tail}
 use Rattle.access_calls.proofs.KeepLemmas.{keeps_on, keeps_same}
 use Rattle.access_calls.specs.Reported.{world_from}
 use Rattle.sequels.specs.Meeting.{Reaches}
 use Rattle.sequels.proofs.MeetingLemmas.{reaches_on, reaches_same, reaches_to, whole_after}
-use Rattle.rom_scan.specs.Arrivals.{HasSinkCause, IsOpen, left_of}
+use Rattle.rom_scan.specs.Arrivals.{IsOpen, left_of}
 use Rattle.rom_scan.specs.Tables.{unwound}
 use Rattle.rom_scan.specs.declared.tables.Table.{Table}
 use Rattle.rom_scan.proofs.FullLemmas.{at_full}
+use Rattle.rom_scan.proofs.ScanLemmas.{caused_on}
 use Rattle.rom_scan.proofs.StepLemmas.{closed_table, left_tail, walks_on}
 use Rattle.rom_scan.proofs.WrittenLemmas.{more_written, none_written, written_on}
 use Rattle.rom_scan.proofs.walking.walk.Goals as goal
@@ -39,7 +40,7 @@ tables-preserved-in-Ok g c =
     record {
       so_far = λ m answered b l whole.
           let w = world_from m answered in
-          let r = inv.so_far m answered b (e.keeps.goes.left answered l) whole in
+          let r = inv.so_far m answered b (e.ends.keeps.goes.left answered l) whole in
           let q = subst (λ (ts : List Table). Reaches w (unwound 1024 n c.args.tables.now c.args.listed.now) old mid (g.K.Sink.written c.args.sink.now) (g.K.Sink.written c.tables.sink) (unwound 1024 n ts c.tables.listed)) c.in-Some.ensures r in
           reaches_on w (unwound 1024 n c.args.tables.now c.args.listed.now) (unwound 1024 n (c.in-Some.table ∷ c.pop.new.self) c.tables.listed) (unwound 1024 n c.step.new.tables c.step.new.listed) old mid new
           (g.K.Sink.written c.args.sink.now) (g.K.Sink.written c.tables.sink) (g.K.Sink.written c.step.new.sink) whole q
@@ -51,12 +52,12 @@ tables-preserved-in-Ok g c =
           let d = inv.count in
           let same : left_of c.tables.tables c.tables.listed ≡ left_of (c.in-Some.table ∷ c.pop.new.self) c.tables.listed = ap (λ (ts : List Table). left_of ts c.tables.listed) c.in-Some.ensures in
           omega (arith, a, d, same);
-      asked = (let a = e.asked in let b = inv.asked in omega (arith, a, b));
-      written = more_written _ _ _ inv.written e.lines;
-      faults = e.cause ∙ inv.faults;
+      asked = (let a = e.counts.asked in let b = inv.asked in omega (arith, a, b));
+      written = more_written _ _ _ inv.written e.ends.lines;
+      faults = e.ends.cause ∙ inv.faults;
       units = inv.units;
-      ended = e.end;
-      keeps = keeps_on _ _ _ _ _ _ inv.keeps e.keeps;
+      ended = e.ends.end;
+      keeps = keeps_on _ _ _ _ _ _ inv.keeps e.ends.keeps;
     }
 
 pub returns-in-Err-clause-gives : goal.returns-in-Err-clause-gives
@@ -68,14 +69,11 @@ returns-in-Err-clause-gives g c = λ m answered b l whole.
     let old = (g.A.Access.reported c.args.access.now).asks.calls in
     let mid = (g.A.Access.reported c.tables.access).asks.calls in
     let new = (g.A.Access.reported c.step.new.access).asks.calls in
-    let r = inv.so_far m answered b (e.keeps.goes.left answered l) whole in
+    let r = inv.so_far m answered b (e.ends.keeps.goes.left answered l) whole in
     let q = subst (λ (ts : List Table). Reaches w (unwound 1024 n c.args.tables.now c.args.listed.now) old mid (g.K.Sink.written c.args.sink.now) (g.K.Sink.written c.tables.sink) (unwound 1024 n ts c.tables.listed)) c.in-Some.ensures r in
     walks_on w (g.A.Access.reported c.step.new.access).lines n (unwound 1024 n c.args.tables.now c.args.listed.now) (unwound 1024 n (c.in-Some.table ∷ c.pop.new.self) c.tables.listed) (Err c.in-Err.end) c.step.new.tables c.step.new.listed old mid new
     (g.K.Sink.written c.args.sink.now) (g.K.Sink.written c.tables.sink) (g.K.Sink.written c.step.new.sink) whole q
     (e.gives m answered (inv.keeps.on m b) l (whole_after w (unwound 1024 n c.args.tables.now c.args.listed.now) (unwound 1024 n c.tables.tables c.tables.listed) old mid (g.K.Sink.written c.args.sink.now) (g.K.Sink.written c.tables.sink) whole r))
-
-pub returns-in-Err-clause-cause : goal.returns-in-Err-clause-cause
-returns-in-Err-clause-cause g c = subst (λ (k : ℕ). HasSinkCause (Err c.in-Err.end) k (g.K.Sink.faults c.step.new.sink)) c.tables.invariant.faults c.in-Err.ensures.cause
 
 pub tables-preserved : goal.tables-preserved
 tables-preserved g c =
@@ -135,5 +133,13 @@ returns-in-Err-clause-most g c =
     let few = c.requires.few in
     omega (arith, same, count, asked, few)
 
-pub returns-in-Err-clause-lines : goal.returns-in-Err-clause-lines
-returns-in-Err-clause-lines g c = written_on (Err c.in-Err.end) _ _ _ c.tables.invariant.written c.in-Err.ensures.lines
+pub returns-in-Err-clause-ends : goal.returns-in-Err-clause-ends
+returns-in-Err-clause-ends g c =
+    let inv = c.tables.invariant in
+    let e = c.in-Err.ensures.ends in
+    record {
+      end = e.end;
+      lines = written_on (Err c.in-Err.end) _ _ _ inv.written e.lines;
+      cause = caused_on (Err c.in-Err.end) _ _ _ inv.faults e.cause;
+      keeps = keeps_on _ _ _ _ _ _ inv.keeps e.keeps;
+    }

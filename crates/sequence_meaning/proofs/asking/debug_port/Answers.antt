@@ -1,5 +1,5 @@
-use Rattle.sequence_meaning.proofs.DirectLemmas.{global_as}
 use Rattle.sequence_meaning.proofs.asking.debug_port.Goals as goal
+use Rattle.sequence_rules.proofs.NowLemmas.{global_as}
 
 pub returns : goal.returns
 returns c = global_as _ _ _ c.dp.ensures

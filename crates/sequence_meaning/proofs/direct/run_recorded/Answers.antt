@@ -10,9 +10,9 @@ use Rattle.sequence_rules.specs.Runs.{meaning, program_of, variables_of}
 use Rattle.sequence_rules.specs.Steps as m
 use Rattle.sequence_rules.specs.Variables.{with_all_new}
 use Rattle.sequence_rules.specs.Known.{known_part}
+use Rattle.sequence_rules.proofs.StartLemmas.{start_is}
 use Rattle.sequence_meaning.specs.Held.{MeansDirect, seen}
 use Rattle.sequence_meaning.proofs.PartLemmas.{no_part, start_made}
-use Rattle.sequence_meaning.proofs.StartLemmas.{start_is}
 use Rattle.sequence_meaning.proofs.direct.run_recorded.Goals as goal
 
 pub returns-clause-answer : goal.returns-clause-answer

@@ -5,9 +5,13 @@ use Rattle.sequence_meaning.specs.Held.{EndsDirect, state_of}
 use Rattle.sequence_meaning.proofs.StopLemmas.{ends_two_units}
 use Rattle.sequence_meaning.proofs.memory.ask_two_units.Goals as goal
 
-pub returns-in-Err-clause-gives : goal.returns-in-Err-clause-gives
-returns-in-Err-clause-gives c = λ written.
-    let s = state_of c.args.held.now c.args.target.now written in
-    let now = state_of c.ask.new.held c.ask.new.target written in
-    ends_two_units c.ask.new.held.end now s c.args.read (record { ap = c.args.ap; forgive = c.args.forgive; dp = 0 }) c.args.address c.args.value
-    (subst (λ u. EndsDirect c.ask.new.held.end now (ask (direct false) u c.args.forgive s)) c.memory_unit-unit.ensures.unit (c.in-Err.ensures.gives written))
+pub returns-in-Err : goal.returns-in-Err
+returns-in-Err c = record {
+  gives = λ written.
+      let s = state_of c.args.held.now c.args.target.now written in
+      let now = state_of c.ask.new.held c.ask.new.target written in
+      ends_two_units c.ask.new.held.end now s c.args.read (record { ap = c.args.ap; forgive = c.args.forgive; dp = 0 }) c.args.address c.args.value
+      (subst (λ u. EndsDirect c.ask.new.held.end now (ask (direct false) u c.args.forgive s)) c.memory_unit-unit.ensures.unit (c.in-Err.ensures.runs.gives written));
+  keeps = c.ask.ensures.runs.keeps;
+  cause = λ faults. c.in-Err.ensures.runs.cause faults;
+}

@@ -1,7 +1,7 @@
 use Rattle.std.proofs.Common.{ap, ◌∙◌}
 use Rattle.sequence_rules.specs.Shared.{bindings_of}
 use Rattle.sequence_rules.specs.Variables.{with_new}
-use Rattle.sequence_meaning.proofs.StartLemmas.{start_more}
+use Rattle.sequence_rules.proofs.StartLemmas.{start_more}
 use Rattle.sequence_meaning.proofs.start.make_globals.Goals as goal
 
 pub loop-variable-preserved : goal.loop-variable-preserved

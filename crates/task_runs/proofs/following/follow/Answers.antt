@@ -5,6 +5,6 @@ use Rattle.task_runs.proofs.ScanLemmas.{left_here}
 use Rattle.task_runs.proofs.following.follow.Goals as goal
 
 pub returns-then-units-gt1000000-clause-gives : goal.returns-then-units-gt1000000-clause-gives
-returns-then-units-gt1000000-clause-gives g c = λ m answered s b l whole is.
+returns-then-units-gt1000000-clause-gives g c = λ s is m answered b l whole.
     let old = (g.A.Access.reported c.args.access.now).asks.calls in
     left_here (comes (world_after (world_from m answered) old) s) old _

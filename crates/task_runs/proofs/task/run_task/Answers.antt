@@ -22,7 +22,7 @@ returns-then-goes_on-clause-answer g c = λ m known b knows.
     let now = g.K.Sink.written c.follow-closed.new.sink in
     let going = is_going c.args.followed.now c.run-ended.result.ending (sym c.goes_on.ensures ∙ c.if-goes_on.true) in
     let on = c.run-ended.ensures.keeps.on m b in
-    let whole = c.run-ended.ensures.whole m n b (c.follow-closed.ensures.keeps.goes.left n (left_by a)) going.0 in
+    let whole = c.run-ended.ensures.whole m n b (c.follow-closed.ensures.ends.keeps.goes.left n (left_by a)) going.0 in
     goes_so c.args.followed.now m n p before a0 a c.run-ended.result c.follow-closed.result c.close.result known mid now (record {
       sequel = going.1.0;
       is = going.1.1;
@@ -30,14 +30,14 @@ returns-then-goes_on-clause-answer g c = λ m known b knows.
       no_end = subst (λ x. EndBy x a0.end) going.0 c.run-ended.ensures.end;
       ends = c.run-ended.ensures.answer m known b knows;
       whole = whole;
-      follows = c.follow-closed.ensures.gives m n going.1.0 on (left_by a) whole going.1.1;
-      end = c.follow-closed.ensures.end;
+      follows = c.follow-closed.ensures.gives going.1.0 going.1.1 m n on (left_by a) whole;
+      end = c.follow-closed.ensures.ends.end;
       skipped = c.skipped.result;
       closes = c.close.ensures;
       knows = knows_done known c.run-ended.result.ending _ mid going.0 c.run-ended.ensures.lines knows;
       units = c.follow-closed.ensures.asked;
-      skips = where_closed c.follow-closed.result a.end _ c.follow-closed.ensures.end (λ none. (
-        c.skipped.ensures.skipped ∙ skipped_is g.A.Access.journal a (began m n) none (g.met.A.Access.stands c.follow-closed.new.access m n (c.follow-closed.ensures.keeps.on m on) (left_by a)),
+      skips = where_closed c.follow-closed.result a.end _ c.follow-closed.ensures.ends.end (λ none. (
+        c.skipped.ensures.skipped ∙ skipped_is g.A.Access.journal a (began m n) none (g.met.A.Access.stands c.follow-closed.new.access m n (c.follow-closed.ensures.ends.keeps.on m on) (left_by a)),
         c.skipped.type_inv,
       ));
     }) refl
@@ -52,7 +52,7 @@ returns-then-goes_on-clause-part g c = λ m n known b left knows never.
     let now = g.K.Sink.written c.follow-closed.new.sink in
     let going = is_going c.args.followed.now c.run-ended.result.ending (sym c.goes_on.ensures ∙ c.if-goes_on.true) in
     let on = c.run-ended.ensures.keeps.on m b in
-    let whole = c.run-ended.ensures.whole m n b (c.follow-closed.ensures.keeps.goes.left n left) going.0 in
+    let whole = c.run-ended.ensures.whole m n b (c.follow-closed.ensures.ends.keeps.goes.left n left) going.0 in
     part_so c.args.followed.now m n p before a0 a c.run-ended.result c.follow-closed.result c.close.result known mid now (record {
       sequel = going.1.0;
       is = going.1.1;
@@ -60,14 +60,14 @@ returns-then-goes_on-clause-part g c = λ m n known b left knows never.
       no_end = subst (λ x. EndBy x a0.end) going.0 c.run-ended.ensures.end;
       ends = c.run-ended.ensures.answer m known b knows;
       whole = whole;
-      follows = c.follow-closed.ensures.gives m n going.1.0 on left whole going.1.1;
-      end = c.follow-closed.ensures.end;
+      follows = c.follow-closed.ensures.gives going.1.0 going.1.1 m n on left whole;
+      end = c.follow-closed.ensures.ends.end;
       skipped = c.skipped.result;
       closes = c.close.ensures;
       knows = knows_done known c.run-ended.result.ending _ mid going.0 c.run-ended.ensures.lines knows;
       units = c.follow-closed.ensures.asked;
-      skips = where_closed c.follow-closed.result a.end _ c.follow-closed.ensures.end (λ none. (
-        c.skipped.ensures.skipped ∙ skipped_is g.A.Access.journal a (began m n) none (g.met.A.Access.stands c.follow-closed.new.access m n (c.follow-closed.ensures.keeps.on m on) left),
+      skips = where_closed c.follow-closed.result a.end _ c.follow-closed.ensures.ends.end (λ none. (
+        c.skipped.ensures.skipped ∙ skipped_is g.A.Access.journal a (began m n) none (g.met.A.Access.stands c.follow-closed.new.access m n (c.follow-closed.ensures.ends.keeps.on m on) left),
         c.skipped.type_inv,
       ));
     }) never
@@ -83,7 +83,7 @@ returns-then-goes_on-clause-close g c = λ m known b knows done.
     let now = g.K.Sink.written c.follow-closed.new.sink in
     let going = is_going c.args.followed.now c.run-ended.result.ending (sym c.goes_on.ensures ∙ c.if-goes_on.true) in
     let on = c.run-ended.ensures.keeps.on m b in
-    let whole = c.run-ended.ensures.whole m n b (c.follow-closed.ensures.keeps.goes.left n (left_by a)) going.0 in
+    let whole = c.run-ended.ensures.whole m n b (c.follow-closed.ensures.ends.keeps.goes.left n (left_by a)) going.0 in
     closes_here c.args.followed.now m n p before a0 a c.run-ended.result c.follow-closed.result c.close.result known mid now (record {
       sequel = going.1.0;
       is = going.1.1;
@@ -91,14 +91,14 @@ returns-then-goes_on-clause-close g c = λ m known b knows done.
       no_end = subst (λ x. EndBy x a0.end) going.0 c.run-ended.ensures.end;
       ends = c.run-ended.ensures.answer m known b knows;
       whole = whole;
-      follows = c.follow-closed.ensures.gives m n going.1.0 on (left_by a) whole going.1.1;
-      end = c.follow-closed.ensures.end;
+      follows = c.follow-closed.ensures.gives going.1.0 going.1.1 m n on (left_by a) whole;
+      end = c.follow-closed.ensures.ends.end;
       skipped = c.skipped.result;
       closes = c.close.ensures;
       knows = knows_done known c.run-ended.result.ending _ mid going.0 c.run-ended.ensures.lines knows;
       units = c.follow-closed.ensures.asked;
-      skips = where_closed c.follow-closed.result a.end _ c.follow-closed.ensures.end (λ none. (
-        c.skipped.ensures.skipped ∙ skipped_is g.A.Access.journal a (began m n) none (g.met.A.Access.stands c.follow-closed.new.access m n (c.follow-closed.ensures.keeps.on m on) (left_by a)),
+      skips = where_closed c.follow-closed.result a.end _ c.follow-closed.ensures.ends.end (λ none. (
+        c.skipped.ensures.skipped ∙ skipped_is g.A.Access.journal a (began m n) none (g.met.A.Access.stands c.follow-closed.new.access m n (c.follow-closed.ensures.ends.keeps.on m on) (left_by a)),
         c.skipped.type_inv,
       ));
     }) done
@@ -117,7 +117,7 @@ returns-then-goes_on-clause-needs g c = λ m known b knows none. absurd (some_fo
 pub returns-then-goes_on-clause-end : goal.returns-then-goes_on-clause-end
 returns-then-goes_on-clause-end g c =
     let going = is_going c.args.followed.now c.run-ended.result.ending (sym c.goes_on.ensures ∙ c.if-goes_on.true) in
-    ends_by c.follow-closed.result c.run-ended.result c.skipped.result c.close.result _ going.0 c.close.ensures c.follow-closed.ensures.end
+    ends_by c.follow-closed.result c.run-ended.result c.skipped.result c.close.result _ going.0 c.close.ensures c.follow-closed.ensures.ends.end
 
 pub returns-then-goes_on-clause-skipped : goal.returns-then-goes_on-clause-skipped
 returns-then-goes_on-clause-skipped g c = skipped_by c.follow-closed.result c.run-ended.result c.skipped.result c.close.result c.close.ensures ∙ c.skipped.ensures.skipped
@@ -125,15 +125,15 @@ returns-then-goes_on-clause-skipped g c = skipped_by c.follow-closed.result c.ru
 pub returns-then-goes_on-clause-lines : goal.returns-then-goes_on-clause-lines
 returns-then-goes_on-clause-lines g c =
     let going = is_going c.args.followed.now c.run-ended.result.ending (sym c.goes_on.ensures ∙ c.if-goes_on.true) in
-    lines_by c.follow-closed.result c.run-ended.result c.skipped.result c.close.result _ _ _ going.0 c.close.ensures c.run-ended.ensures.lines c.follow-closed.ensures.lines
+    lines_by c.follow-closed.result c.run-ended.result c.skipped.result c.close.result _ _ _ going.0 c.close.ensures c.run-ended.ensures.lines c.follow-closed.ensures.ends.lines
 
 pub returns-then-goes_on-clause-cause : goal.returns-then-goes_on-clause-cause
 returns-then-goes_on-clause-cause g c =
     let going = is_going c.args.followed.now c.run-ended.result.ending (sym c.goes_on.ensures ∙ c.if-goes_on.true) in
-    caused_by c.follow-closed.result c.run-ended.result c.skipped.result c.close.result _ _ _ going.0 c.close.ensures c.run-ended.ensures.cause c.follow-closed.ensures.cause
+    caused_by c.follow-closed.result c.run-ended.result c.skipped.result c.close.result _ _ _ going.0 c.close.ensures c.run-ended.ensures.cause c.follow-closed.ensures.ends.cause
 
 pub returns-then-goes_on-clause-keeps : goal.returns-then-goes_on-clause-keeps
-returns-then-goes_on-clause-keeps g c = keeps_on g.A.Access.begun g.A.Access.reported g.A.Access.identity _ _ _ c.run-ended.ensures.keeps c.follow-closed.ensures.keeps
+returns-then-goes_on-clause-keeps g c = keeps_on g.A.Access.begun g.A.Access.reported g.A.Access.identity _ _ _ c.run-ended.ensures.keeps c.follow-closed.ensures.ends.keeps
 
 pub returns-else-goes_on-clause-answer : goal.returns-else-goes_on-clause-answer
 returns-else-goes_on-clause-answer g c = λ m known b knows.

@@ -7,10 +7,10 @@ use Rattle.bench_flights.proofs.PacketLemmas.{single_few}
 use Rattle.bench_flights.proofs.wire.Wire.command_once.Goals as goal
 
 pub exchange-requires-clause-command : goal.exchange-requires-clause-command
-exchange-requires-clause-command g c = subst IsCommand (sym c.command_of.ensures.value) c.command_of.ensures.command
-
-pub exchange-requires-clause-single : goal.exchange-requires-clause-single
-exchange-requires-clause-single g c = subst (λ (k : CommandValue). is_single k ≡ true) (sym c.command_of.ensures.value) (one_single c.args.call)
+exchange-requires-clause-command g c = record {
+  command = subst IsCommand (sym c.command_of.ensures.value) c.command_of.ensures.command;
+  single = subst (λ (k : CommandValue). is_single k ≡ true) (sym c.command_of.ensures.value) (one_single c.args.call);
+}
 
 pub returns-clause-done : goal.returns-clause-done
 returns-clause-done g c = single_made _ _ c.args.call _ c.exchange.result c.command_of.ensures.value c.requires.one c.command_of.ensures.command c.exchange.ensures.done

@@ -27,12 +27,12 @@ loop-left-preserved g c =
       count = i.count + 1;
       is = (let e = i.is in let b = c.loop-left-test.true in omega (arith, e, b));
       some = λ no. (let b = c.loop-left-test.true in omega (arith, b));
-      usable = c.in-Ok.ensures.keeps.ended;
-      empty = c.command_once.ensures.keeps.empty;
+      usable = c.in-Ok.ensures.keeps.on.ended;
+      empty = c.command_once.ensures.keeps.on.empty;
       on = delay_next _ _ _ i.count c.in-Ok.field-0 i.on c.in-Ok.ensures.done;
       packets = delay_few _ _ _ i.count i.on i.packets c.in-Ok.ensures.packets;
       limits = search rules;
-      goes = goes_then _ _ _ _ _ _ i.goes c.command_once.ensures.keeps.goes;
+      goes = goes_then _ _ _ _ _ _ i.goes c.command_once.ensures.keeps.on.goes;
       faults = search rules;
       identity = search rules;
     }

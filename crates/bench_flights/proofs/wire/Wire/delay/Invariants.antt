@@ -2,7 +2,6 @@ use Rattle.std.proofs.Common.{◌≡◌, ℕ, ◌+◌, ◌*◌, ◌<◌, [], Non
 use Rattle.target_machine.specs.InRange.{IsInRange}
 use Rattle.probe_core.specs.Bench.{StepsTo}
 use Rattle.probe_core.specs.Probe.{target_of}
-use Rattle.batch_packer.specs.Flying.{transfers_of}
 use Rattle.bench_flights.specs.Flown.{BenchGoesOn}
 use Rattle.bench_flights.specs.Flown.{SendsFew}
 use Rattle.bench_flights.specs.Wires.{HasDelayed}

@@ -12,12 +12,21 @@ pub returns-clause-keeps : goal.returns-clause-keeps
 returns-clause-keeps g c =
     let u = c.requires.free.usable in
     record {
-      empty = c.command.ensures.empty u;
-      ended = search rules;
-      faults = search rules;
-      cause = single_cause (command_value c.args.command.now) c.command.result (g.B.Bench.reported c.args.self.now.bench) (g.B.Bench.reported c.command.new.bench) c.command.new.self c.requires.command c.requires.single c.command.ensures.answer
-          (record { cause = c.command.ensures.cause u; exchanges = c.command.ensures.exchanges u; packets_are = c.command.ensures.packets u; replies_are = c.command.ensures.replies u; at = c.command.ensures.at u })
-          (c.command.ensures.read u) (c.command.ensures.packet u) (c.command.ensures.replied u);
-      goes = search rules;
-      same_bench = c.command.ensures.identity;
+      on = record {
+        empty = c.command.ensures.empty u;
+        ended = search rules;
+        faults = search rules;
+        cause = single_cause (command_value c.args.command.now) c.command.result (g.B.Bench.reported c.args.self.now.bench) (g.B.Bench.reported c.command.new.bench) c.command.new.self c.requires.command.command c.requires.command.single c.command.ensures.answer
+            (record {
+              cause = c.command.ensures.cause u;
+              exchanges = λ got. (c.command.ensures.asked u got).exchanges;
+              packets_are = c.command.ensures.packets u;
+              replies_are = c.command.ensures.replies u;
+              at = c.command.ensures.at u;
+            })
+            (c.command.ensures.read u) (λ got. (c.command.ensures.asked u got).packet_is) (λ got. (c.command.ensures.asked u got).replied);
+        goes = search rules;
+        same_bench = c.command.ensures.keeps.same_bench;
+      };
+      limits = c.command.ensures.limits;
     }

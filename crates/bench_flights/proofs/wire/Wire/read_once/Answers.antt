@@ -30,28 +30,29 @@ returns-in-Err g c =
     record {
       done = tt;
       packets = tt;
-      limits = e.limits ∙ ap (λ (s : FlightState). s.limits) c.push.ensures.pushed;
       left = unnamed_left _ _ c.in-Err.end c.name_no_access.result c.name_no_access.ensures (look_left _ _ c.push.new.self.limits c.push.new.self.accesses c.send.new.self.end c.send.new.slots.values c.in-Err.end fits pushed broke (c.send.ensures.flown usable));
-      none = unnamed_none c.in-Err.end c.name_no_access.result c.name_no_access.ensures;
-      response = unnamed_response c.in-Err.end c.name_no_access.result c.name_no_access.ensures (cut_stopped _ c.push.new.self.limits.packet_size c.push.new.self.accesses (g.B.Bench.reported c.send.new.bench).last.replies c.send.new.self.end c.in-Err.end c.send.new.slots.values broke (e.read usable));
+      unnamed = record { none = unnamed_none c.in-Err.end c.name_no_access.result c.name_no_access.ensures; response = unnamed_response c.in-Err.end c.name_no_access.result c.name_no_access.ensures (cut_stopped _ c.push.new.self.limits.packet_size c.push.new.self.accesses (g.B.Bench.reported c.send.new.bench).last.replies c.send.new.self.end c.in-Err.end c.send.new.slots.values broke (e.read usable)) };
       keeps = record {
-        empty = e.empty usable;
-        ended = tt;
-        faults = tt;
-        cause = unnamed_cause c.in-Err.end c.name_no_access.result (g.B.Bench.reported c.args.self.now.bench) (g.B.Bench.reported c.send.new.bench) _ _ c.name_no_access.ensures
-            (send_cause {A = Unit {0}} c.push.new.self.limits c.push.new.self.accesses (Err c.in-Err.end) (g.B.Bench.reported c.args.self.now.bench) (g.B.Bench.reported c.send.new.bench) c.send.new.self c.send.new.slots.values fits words broke
-            (record {
-              cause = e.cause usable;
-              read = e.read usable;
-              sent = e.sent usable;
-              replied = e.replied usable;
-              counted_are = e.exchanges usable;
-              packets_are = e.packets usable;
-              replies_are = e.replies usable;
-              at = e.at usable;
-            }));
-        goes = search rules;
-        same_bench = e.identity;
+        on = record {
+          empty = e.empty usable;
+          ended = tt;
+          faults = tt;
+          cause = unnamed_cause c.in-Err.end c.name_no_access.result (g.B.Bench.reported c.args.self.now.bench) (g.B.Bench.reported c.send.new.bench) _ _ c.name_no_access.ensures
+              (send_cause {A = Unit {0}} c.push.new.self.limits c.push.new.self.accesses (Err c.in-Err.end) (g.B.Bench.reported c.args.self.now.bench) (g.B.Bench.reported c.send.new.bench) c.send.new.self c.send.new.slots.values fits words broke
+              (record {
+                cause = e.cause usable;
+                read = e.read usable;
+                sent = λ got. (e.sent usable got).packets;
+                replied = λ got. (e.sent usable got).replied;
+                counted_are = λ got. (e.sent usable got).exchanges;
+                packets_are = e.packets usable;
+                replies_are = e.replies usable;
+                at = λ got. (e.sent usable got).at;
+              }));
+          goes = search rules;
+          same_bench = e.keeps.same_bench;
+        };
+        limits = e.limits ∙ ap (λ (s : FlightState). s.limits) c.push.ensures.pushed;
       };
     }
 

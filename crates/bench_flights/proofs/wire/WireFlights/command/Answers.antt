@@ -9,18 +9,20 @@ pub returns-in-Delay : goal.returns-in-Delay
 returns-in-Delay g c = record {
   done = delay_dones _ _ c.args.call c.in-Delay.micros c.delay.result c.in-Delay.is c.delay.ensures.done;
   packets = call_delay_few _ _ c.args.call c.in-Delay.micros c.delay.result c.in-Delay.is c.delay.ensures.packets;
-  limits = c.delay.ensures.limits;
   left = delay_call_left _ _ c.args.call c.in-Delay.micros c.delay.result c.in-Delay.is c.delay.ensures.left;
   cleared = λ same. absurd (let other = c.in-Delay.is in cc);
   uncleared = λ same. absurd (let other = c.in-Delay.is in cc);
   none = uncut_none c.delay.result c.delay.ensures.uncut;
-  response = uncut_response c.delay.result c.delay.ensures.uncut;
-  empty = c.delay.ensures.keeps.empty;
-  ended = c.delay.ensures.keeps.ended;
-  faults = c.delay.ensures.keeps.faults;
-  cause = c.delay.ensures.keeps.cause;
-  goes = c.delay.ensures.keeps.goes;
-  identity = c.delay.ensures.keeps.same_bench;
+  keeps = record {
+    empty = c.delay.ensures.keeps.on.empty;
+    usable = c.delay.ensures.keeps.on.ended;
+    faults = c.delay.ensures.keeps.on.faults;
+    response = uncut_response c.delay.result c.delay.ensures.uncut;
+    cause = c.delay.ensures.keeps.on.cause;
+    goes = c.delay.ensures.keeps.on.goes;
+    same_limits = c.delay.ensures.keeps.limits;
+    same_bench = c.delay.ensures.keeps.on.same_bench;
+  };
 }
 
 pub returns-in_default : goal.returns-in_default
@@ -29,16 +31,18 @@ returns-in_default g c =
     record {
       done = call_dones _ _ c.args.call c.command_once.result c.command_once.ensures.done;
       packets = call_few _ _ c.args.call c.command_once.result c.command_once.ensures.packets;
-      limits = c.command_once.ensures.limits;
       left = call_lefts _ _ c.args.call c.command_once.result one c.command_once.ensures.left;
       cleared = clear_dones _ _ c.args.call c.command_once.result (call_dones _ _ c.args.call c.command_once.result c.command_once.ensures.done);
       uncleared = clear_lefts _ _ c.args.call c.command_once.result (call_lefts _ _ c.args.call c.command_once.result one c.command_once.ensures.left) c.command_once.ensures.uncut;
       none = uncut_none c.command_once.result c.command_once.ensures.uncut;
-      response = uncut_response c.command_once.result c.command_once.ensures.uncut;
-      empty = c.command_once.ensures.keeps.empty;
-      ended = c.command_once.ensures.keeps.ended;
-      faults = c.command_once.ensures.keeps.faults;
-      cause = c.command_once.ensures.keeps.cause;
-      goes = c.command_once.ensures.keeps.goes;
-      identity = c.command_once.ensures.keeps.same_bench;
+      keeps = record {
+        empty = c.command_once.ensures.keeps.on.empty;
+        usable = c.command_once.ensures.keeps.on.ended;
+        faults = c.command_once.ensures.keeps.on.faults;
+        response = uncut_response c.command_once.result c.command_once.ensures.uncut;
+        cause = c.command_once.ensures.keeps.on.cause;
+        goes = c.command_once.ensures.keeps.on.goes;
+        same_limits = c.command_once.ensures.keeps.limits;
+        same_bench = c.command_once.ensures.keeps.on.same_bench;
+      };
     }

@@ -29,15 +29,15 @@ loop-left-preserved g c =
     record {
       made = i.made + c.min-now.result;
       is = (let e = i.is in omega (arith, e, few));
-      usable = c.in-Ok-false.ensures.keeps.ended;
-      empty = c.poll_portion.ensures.keeps.empty;
+      usable = c.in-Ok-false.ensures.keeps.on.ended;
+      empty = c.poll_portion.ensures.keeps.on.empty;
       on = poll_next _ _ _ c.args.config.idle c.args.config.retry c.args.mask c.args.requested i.made c.min-now.result 0 i.on (word_for _ _ c.args.config.idle c.args.config.retry c.args.mask c.args.requested c.min-now.result c.in-Ok-false.field-0 false c.in-Ok-false.field-0-test c.in-Ok-false.ensures.done);
       count = i.count + 1;
       count_is = (let f = i.full c.loop-left-test.true in let n = c.min-now.ensures in let t = c.loop-left-test.true in omega (arith, f, n, t));
       full = λ some. (let f = i.full c.loop-left-test.true in let n = c.min-now.ensures in omega (arith, f, n, some));
       packets = portions_next _ _ _ c.args.config.idle c.args.config.retry c.args.mask c.args.requested i.made i.count i.on i.packets c.in-Ok-false.ensures.packets;
       limits = search rules;
-      goes = goes_then _ _ _ _ _ _ i.goes c.poll_portion.ensures.keeps.goes;
+      goes = goes_then _ _ _ _ _ _ i.goes c.poll_portion.ensures.keeps.on.goes;
       faults = search rules;
       identity = search rules;
     }

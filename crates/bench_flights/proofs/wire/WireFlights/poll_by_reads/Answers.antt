@@ -24,12 +24,12 @@ pub loop-turn-preserved : goal.loop-turn-preserved
 loop-turn-preserved g c =
     let i = c.loop-turn.invariant in
     record {
-      usable = c.in-Ok.ensures.keeps.ended;
-      empty = c.read_once.ensures.keeps.empty;
+      usable = c.in-Ok.ensures.keeps.on.ended;
+      empty = c.read_once.ensures.keeps.on.empty;
       on = turn_next _ _ _ c.args.mask c.args.requested c.loop-turn.turn c.in-Ok.value (test_unmet _ _ c.if-value-mask.false) i.on c.in-Ok.ensures.done;
       packets = reads_next _ _ _ c.args.mask c.args.requested c.loop-turn.turn i.on i.packets c.in-Ok.ensures.packets;
       limits = search rules;
-      goes = goes_then _ _ _ _ _ _ i.goes c.read_once.ensures.keeps.goes;
+      goes = goes_then _ _ _ _ _ _ i.goes c.read_once.ensures.keeps.on.goes;
       faults = search rules;
       identity = search rules;
     }

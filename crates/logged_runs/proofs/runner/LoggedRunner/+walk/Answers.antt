@@ -28,12 +28,13 @@ use Rattle.sequence_rules.specs.Values as v
 use Rattle.sequence_rules.proofs.LoopLemmas as l
 use Rattle.sequence_rules.proofs.Sizes.{arg_size, args_size, stmt_size, block_size, step_size, steps_size, all_size, arg_within, stmt_within, step_within, named_within, less_budget}
 use Rattle.logged_calls.specs.Held.{EndsAs, Means, Unless}
+use Rattle.logged_calls.proofs.PollLemmas.{no_zero}
 use Rattle.logged_runs.specs.Seen.{Notes}
 use Rattle.logged_runs.specs.Walk.{calls_of, events_of, now, seen, step_at}
 use Rattle.logged_runs.proofs.Ends.{assigned_on, declared_gives, declare_value, ends_counted, plain_value}
 use Rattle.logged_runs.proofs.LoopEnds.{args_on, block_on, done_on, turns_fail, turns_none, turns_on, turns_over, sequence_on, entered_fail}
 use Rattle.logged_runs.proofs.Loops.{args_head, args_none, block_head, block_none, steps_head, steps_none}
-use Rattle.logged_runs.proofs.NoteLemmas.{event_then, is_zero, more_noted, not_zero, notes_as, notes_event, notes_first, notes_from, notes_none, notes_second, notes_to, notes_value, or_refused, over_noted, part_stops, quiet_stops, quiet_then, stop_noted, take_first, take_second, unless_as, unless_from, unless_stopped, value_then}
+use Rattle.logged_runs.proofs.NoteLemmas.{event_then, is_zero, more_noted, notes_as, notes_event, notes_first, notes_from, notes_none, notes_second, notes_to, notes_value, or_refused, over_noted, part_stops, quiet_stops, quiet_then, refused, refused_ends, stop_noted, take_first, take_second, unless_as, unless_from, unless_stopped, value_then}
 use Rattle.logged_runs.proofs.Turns.{loop_first, loop_last, loop_more, loop_over, loop_stops}
 use Rattle.logged_runs.proofs.WalkLemmas.{and_needs, call_is, call_same, call_seen, called_ends, called_gives, condition_ends, condition_gives, deep_is, means_from, none_deep, or_needs, count_is, left_gives, named_is, strict_is, strict_needs, tested_ends, tested_false, tested_true, turn_ends, turn_gives}
 use Rattle.logged_runs.proofs.runner.LoggedRunner.+walk.Goals as goal
@@ -64,13 +65,13 @@ evaluate_and-returns-then-left-eq0-clause-noted t c = notes_value c.args.self.no
 
 pub evaluate_and-returns-in-Err-evaluate-clause-noted : goal.evaluate_and-returns-in-Err-evaluate-clause-noted
 evaluate_and-returns-in-Err-evaluate-clause-noted t c = value_then {B = ℕ} c.args.self.now.turns _ _ _ _ _ c.evaluate-2.new.walked.held.end (Err c.in-Err-evaluate.stopped) _ c.in-Ok.left _ c.in-Ok.ensures.gives c.in-Ok.ensures.noted
-    (take_second {A = ℕ} c.args.self.now.turns _ _ _ _ c.evaluate-2.new.walked.held.end (Err c.in-Err-evaluate.stopped) (nat_eq c.in-Ok.left 0) (not_zero _ c.if-left-eq0.false) c.in-Err-evaluate.ensures.noted)
+    (take_second {A = ℕ} c.args.self.now.turns _ _ _ _ c.evaluate-2.new.walked.held.end (Err c.in-Err-evaluate.stopped) (nat_eq c.in-Ok.left 0) (no_zero _ c.if-left-eq0.false) c.in-Err-evaluate.ensures.noted)
 
 pub evaluate_and-returns-clause-noted : goal.evaluate_and-returns-clause-noted
-evaluate_and-returns-clause-noted t c = notes_value c.args.self.now.turns _ _ _ _ _ _ c.in-Ok.left _ c.in-Ok.ensures.gives c.in-Ok.ensures.noted (notes_second c.args.self.now.turns _ _ _ _ (nat_eq c.in-Ok.left 0) (not_zero _ c.if-left-eq0.false) c.in-Ok-evaluate.ensures.noted)
+evaluate_and-returns-clause-noted t c = notes_value c.args.self.now.turns _ _ _ _ _ _ c.in-Ok.left _ c.in-Ok.ensures.gives c.in-Ok.ensures.noted (notes_second c.args.self.now.turns _ _ _ _ (nat_eq c.in-Ok.left 0) (no_zero _ c.if-left-eq0.false) c.in-Ok-evaluate.ensures.noted)
 
 pub evaluate_or-returns-then-left-ne0-clause-noted : goal.evaluate_or-returns-then-left-ne0-clause-noted
-evaluate_or-returns-then-left-ne0-clause-noted t c = notes_value c.args.self.now.turns _ _ _ _ _ _ c.in-Ok.left _ c.in-Ok.ensures.gives c.in-Ok.ensures.noted (notes_second c.args.self.now.turns _ _ _ _ (nat_eq c.in-Ok.left 0) (not_zero _ c.if-left-ne0.true) (notes_none c.args.self.now.turns _))
+evaluate_or-returns-then-left-ne0-clause-noted t c = notes_value c.args.self.now.turns _ _ _ _ _ _ c.in-Ok.left _ c.in-Ok.ensures.gives c.in-Ok.ensures.noted (notes_second c.args.self.now.turns _ _ _ _ (nat_eq c.in-Ok.left 0) (no_zero _ c.if-left-ne0.true) (notes_none c.args.self.now.turns _))
 
 pub evaluate_or-returns-in-Err-evaluate-clause-noted : goal.evaluate_or-returns-in-Err-evaluate-clause-noted
 evaluate_or-returns-in-Err-evaluate-clause-noted t c = value_then {B = ℕ} c.args.self.now.turns _ _ _ _ _ c.evaluate-2.new.walked.held.end (Err c.in-Err-evaluate.stopped) _ c.in-Ok.left _ c.in-Ok.ensures.gives c.in-Ok.ensures.noted
@@ -131,7 +132,7 @@ run_named-run_sequence-requires t c =
 
 pub run_sequence-returns-in-Ok-clause-gives : goal.run_sequence-returns-in-Ok-clause-gives
 unfolding direct
-run_sequence-returns-in-Ok-clause-gives t c = l.entered_on (direct false) _ _ _ _ _ _ _ _ _ (c.take_locals-locals.ensures.state _) c.in-Ok.ensures.gives c.get_global-dp.ensures c.get_global-ap.ensures c.get_global-control.ensures c.take_locals-locals.ensures.taken (c.give_back.ensures.state _)
+run_sequence-returns-in-Ok-clause-gives t c = l.entered_on (direct false) _ _ _ _ _ _ _ _ _ (c.take_locals-locals.ensures.changes.state _) c.in-Ok.ensures.gives c.get_global-dp.ensures c.get_global-ap.ensures c.get_global-control.ensures c.take_locals-locals.ensures.taken (c.give_back.ensures.state _)
 
 pub evaluate_arguments-evaluate_argument-requires : goal.evaluate_arguments-evaluate_argument-requires
 evaluate_arguments-evaluate_argument-requires t c =
@@ -157,7 +158,7 @@ evaluate_choice-returns-then-number-eq0-clause-noted t c = value_then {B = ℕ} 
 
 pub evaluate_choice-returns-else-number-eq0-clause-noted : goal.evaluate_choice-returns-else-number-eq0-clause-noted
 evaluate_choice-returns-else-number-eq0-clause-noted t c = value_then {B = ℕ} c.args.self.now.turns _ _ _ _ _ c.evaluate-else-number-eq0.new.walked.held.end c.evaluate-else-number-eq0.result _ c.in-Ok.number _ c.in-Ok.ensures.gives c.in-Ok.ensures.noted
-    (take_second c.args.self.now.turns _ _ _ _ c.evaluate-else-number-eq0.new.walked.held.end c.evaluate-else-number-eq0.result (nat_eq c.in-Ok.number 0) (not_zero _ c.if-number-eq0.false) c.evaluate-else-number-eq0.ensures.noted)
+    (take_second c.args.self.now.turns _ _ _ _ c.evaluate-else-number-eq0.new.walked.held.end c.evaluate-else-number-eq0.result (nat_eq c.in-Ok.number 0) (no_zero _ c.if-number-eq0.false) c.evaluate-else-number-eq0.ensures.noted)
 
 pub assign-returns-clause-gives : goal.assign-returns-clause-gives
 assign-returns-clause-gives t c = assigned_on c.args.name.now _ c.in_ok-number.number _ (now c.store.new.self c.evaluate.new.target) _ c.in_ok-number.ensures.gives
@@ -184,14 +185,14 @@ call-returns-clause-noted t c =
 pub run_sequence-returns-in-Ok-clause-noted : goal.run_sequence-returns-in-Ok-clause-noted
 run_sequence-returns-in-Ok-clause-noted t c =
     let events : State ℕ Now → (ℕ → Bool) → List Event = (λ (q : State ℕ Now) (shows : ℕ → Bool). os.steps_events shows c.args.self.now.turn_us (calls_of c.args.self.now c.args.depth) (events_of shows c.args.self.now c.args.depth) (step_at c.args.name.now []) 0 (steps_tree c.args.steps.now) q) in
-    notes_from c.args.self.now.turns _ _ _ _ c.take_locals-locals.ensures.seen (notes_to c.args.self.now.turns _ _ _ _ c.give_back.ensures.seen
-    (subst (λ (q : State ℕ Now). Notes c.args.self.now.turns (seen c.take_locals-locals.new.self) (seen c.run_steps.new.walked) (events q)) (c.take_locals-locals.ensures.state _) c.in-Ok.ensures.noted))
+    notes_from c.args.self.now.turns _ _ _ _ c.take_locals-locals.ensures.changes.seen (notes_to c.args.self.now.turns _ _ _ _ c.give_back.ensures.seen
+    (subst (λ (q : State ℕ Now). Notes c.args.self.now.turns (seen c.take_locals-locals.new.self) (seen c.run_steps.new.walked) (events q)) (c.take_locals-locals.ensures.changes.state _) c.in-Ok.ensures.noted))
 
 pub run_sequence-returns-in-Err-clause-noted : goal.run_sequence-returns-in-Err-clause-noted
 run_sequence-returns-in-Err-clause-noted t c =
     let events : State ℕ Now → (ℕ → Bool) → List Event = (λ (q : State ℕ Now) (shows : ℕ → Bool). os.steps_events shows c.args.self.now.turn_us (calls_of c.args.self.now c.args.depth) (events_of shows c.args.self.now c.args.depth) (step_at c.args.name.now []) 0 (steps_tree c.args.steps.now) q) in
-    unless_from {A = Unit {0}} c.args.self.now.turns _ _ _ _ c.run_steps.new.walked.held.end (Err c.in-Err.stopped) c.take_locals-locals.ensures.seen
-    (unless_as {A = Unit {0}} c.args.self.now.turns _ _ _ _ c.run_steps.new.walked.held.end (Err c.in-Err.stopped) (λ shows. ap (λ (q : State ℕ Now). events q shows) (c.take_locals-locals.ensures.state _)) c.in-Err.ensures.noted)
+    unless_from {A = Unit {0}} c.args.self.now.turns _ _ _ _ c.run_steps.new.walked.held.end (Err c.in-Err.stopped) c.take_locals-locals.ensures.changes.seen
+    (unless_as {A = Unit {0}} c.args.self.now.turns _ _ _ _ c.run_steps.new.walked.held.end (Err c.in-Err.stopped) (λ shows. ap (λ (q : State ℕ Now). events q shows) (c.take_locals-locals.ensures.changes.state _)) c.in-Err.ensures.noted)
 
 pub evaluate_arguments-returns-in-Err-clause-noted : goal.evaluate_arguments-returns-in-Err-clause-noted
 evaluate_arguments-returns-in-Err-clause-noted t c = stop_noted {A = List ℕ} (Unit {0}) c.args.self.now.turns (seen c.args.walked.now) (seen c.loop-arg.walked) (seen c.evaluate_argument.new.walked) (λ shows. o.argument_events (calls_of c.args.self.now c.args.depth) (events_of shows c.args.self.now c.args.depth) (arg_tree (get_or c.args.args.now c.loop-arg.arg-index _)) (now c.loop-arg.walked c.loop-arg.target)) _ _ (λ g r shows. o.arguments_events (calls_of c.args.self.now c.args.depth) (events_of shows c.args.self.now c.args.depth) (arg_trees (drop (c.loop-arg.arg-index + 1) c.args.args.now)) g r)
@@ -393,31 +394,37 @@ pub test_turn-returns-in-Err-clause-noted : goal.test_turn-returns-in-Err-clause
 unfolding os.tested_events
 test_turn-returns-in-Err-clause-noted t c = part_stops Bool c.args.self.now.turns _ _ _ _ c.evaluate.new.walked.held.end c.in-Err.stopped c.in-Err.stopped _ _ c.in-Err.ensures.gives c.in-Err.ensures.noted
 
+pub test_turn-returns-in-Err-find-clause-gives : goal.test_turn-returns-in-Err-find-clause-gives
+test_turn-returns-in-Err-find-clause-gives t c = refused_ends c.find.new.self.held.end _ _ ((c.in-Err-find.ensures (condition_spot c.args.sequence.now c.args.path.now part.While)).refused)
+
+pub test_turn-returns-in-Err-find-clause-noted : goal.test_turn-returns-in-Err-find-clause-noted
+test_turn-returns-in-Err-find-clause-noted t c = refused Bool _ c.find.new.self.held.end c.in-Err-find.stopped ((c.in-Err-find.ensures (condition_spot c.args.sequence.now c.args.path.now part.While)).refused)
+
 pub test_turn-returns-then-number-eq0-clause-gives : goal.test_turn-returns-then-number-eq0-clause-gives
-test_turn-returns-then-number-eq0-clause-gives t c = tested_false (λ r. v.value (direct false) (calls_of c.args.self.now c.args.depth) (tree c.args.expr.now) r) (λ r. m.inside (direct false) (λ q. m.steps_result (direct false) c.args.self.now.turn_us (calls_of c.args.self.now c.args.depth) (steps_tree c.args.steps.now) q) r) (now c.args.walked.now c.args.target.now) _ _ c.in-Ok.number c.in-Ok.ensures.gives (is_zero _ c.if-number-eq0.true) (c.in-Ok-find.ensures.state _)
+test_turn-returns-then-number-eq0-clause-gives t c = tested_false (λ r. v.value (direct false) (calls_of c.args.self.now c.args.depth) (tree c.args.expr.now) r) (λ r. m.inside (direct false) (λ q. m.steps_result (direct false) c.args.self.now.turn_us (calls_of c.args.self.now c.args.depth) (steps_tree c.args.steps.now) q) r) (now c.args.walked.now c.args.target.now) _ _ c.in-Ok.number c.in-Ok.ensures.gives (is_zero _ c.if-number-eq0.true) ((c.in-Ok-find.ensures (condition_spot c.args.sequence.now c.args.path.now part.While)).state _)
 
 pub test_turn-returns-then-number-eq0-clause-noted : goal.test_turn-returns-then-number-eq0-clause-noted
 unfolding os.tested_events
 test_turn-returns-then-number-eq0-clause-noted t c = notes_value c.args.self.now.turns _ _ _ _ _ _ c.in-Ok.number _ c.in-Ok.ensures.gives c.in-Ok.ensures.noted
-    (notes_event c.args.self.now.turns _ _ _ (e.Finds (condition_spot c.args.sequence.now c.args.path.now part.While) c.in-Ok.number) (λ q shows. cond (nat_eq c.in-Ok.number 0) [] (os.steps_events shows c.args.self.now.turn_us (calls_of c.args.self.now c.args.depth) (events_of shows c.args.self.now c.args.depth) (step_at c.args.sequence.now c.args.path.now) 0 (steps_tree c.args.steps.now) q)) (now c.evaluate.new.walked c.evaluate.new.target) (now c.find.new.self c.evaluate.new.target) (c.in-Ok-find.ensures.state _) (c.in-Ok-find.ensures.noted c.args.self.now.turns (condition_spot c.args.sequence.now c.args.path.now part.While)) (notes_first c.args.self.now.turns _ _ _ _ (nat_eq c.in-Ok.number 0) (is_zero _ c.if-number-eq0.true) (notes_none c.args.self.now.turns _)))
+    (notes_event c.args.self.now.turns _ _ _ (e.Finds (condition_spot c.args.sequence.now c.args.path.now part.While) c.in-Ok.number) (λ q shows. cond (nat_eq c.in-Ok.number 0) [] (os.steps_events shows c.args.self.now.turn_us (calls_of c.args.self.now c.args.depth) (events_of shows c.args.self.now c.args.depth) (step_at c.args.sequence.now c.args.path.now) 0 (steps_tree c.args.steps.now) q)) (now c.evaluate.new.walked c.evaluate.new.target) (now c.find.new.self c.evaluate.new.target) ((c.in-Ok-find.ensures (condition_spot c.args.sequence.now c.args.path.now part.While)).state _) ((c.in-Ok-find.ensures (condition_spot c.args.sequence.now c.args.path.now part.While)).noted c.args.self.now.turns) (notes_first c.args.self.now.turns _ _ _ _ (nat_eq c.in-Ok.number 0) (is_zero _ c.if-number-eq0.true) (notes_none c.args.self.now.turns _)))
 
 pub test_turn-returns-in-Err-run_inside-clause-gives : goal.test_turn-returns-in-Err-run_inside-clause-gives
-test_turn-returns-in-Err-run_inside-clause-gives t c = tested_ends (λ r. v.value (direct false) (calls_of c.args.self.now c.args.depth) (tree c.args.expr.now) r) (λ r. m.inside (direct false) (λ q. m.steps_result (direct false) c.args.self.now.turn_us (calls_of c.args.self.now c.args.depth) (steps_tree c.args.steps.now) q) r) c.run_inside.new.walked.held.end _ (now c.args.walked.now c.args.target.now) _ (now c.find.new.self c.evaluate.new.target) c.in-Ok.number c.in-Ok.ensures.gives (not_zero _ c.if-number-eq0.false) (c.in-Ok-find.ensures.state _) c.in-Err-run_inside.ensures.gives
+test_turn-returns-in-Err-run_inside-clause-gives t c = tested_ends (λ r. v.value (direct false) (calls_of c.args.self.now c.args.depth) (tree c.args.expr.now) r) (λ r. m.inside (direct false) (λ q. m.steps_result (direct false) c.args.self.now.turn_us (calls_of c.args.self.now c.args.depth) (steps_tree c.args.steps.now) q) r) c.run_inside.new.walked.held.end _ (now c.args.walked.now c.args.target.now) _ (now c.find.new.self c.evaluate.new.target) c.in-Ok.number c.in-Ok.ensures.gives (no_zero _ c.if-number-eq0.false) ((c.in-Ok-find.ensures (condition_spot c.args.sequence.now c.args.path.now part.While)).state _) c.in-Err-run_inside.ensures.gives
 
 pub test_turn-returns-in-Err-run_inside-clause-noted : goal.test_turn-returns-in-Err-run_inside-clause-noted
 unfolding os.tested_events
 test_turn-returns-in-Err-run_inside-clause-noted t c = value_then {A = ℕ} {B = Bool} c.args.self.now.turns _ _ _ _ _ c.run_inside.new.walked.held.end (Err c.in-Err-run_inside.stopped) _ c.in-Ok.number _ c.in-Ok.ensures.gives c.in-Ok.ensures.noted
-    (event_then {A = Bool} c.args.self.now.turns _ _ _ (e.Finds (condition_spot c.args.sequence.now c.args.path.now part.While) c.in-Ok.number) (λ q shows. cond (nat_eq c.in-Ok.number 0) [] (os.steps_events shows c.args.self.now.turn_us (calls_of c.args.self.now c.args.depth) (events_of shows c.args.self.now c.args.depth) (step_at c.args.sequence.now c.args.path.now) 0 (steps_tree c.args.steps.now) q)) c.run_inside.new.walked.held.end (Err c.in-Err-run_inside.stopped) (now c.evaluate.new.walked c.evaluate.new.target) (now c.find.new.self c.evaluate.new.target) (c.in-Ok-find.ensures.state _) (c.in-Ok-find.ensures.noted c.args.self.now.turns (condition_spot c.args.sequence.now c.args.path.now part.While))
-    (take_second {A = Bool} c.args.self.now.turns _ _ _ _ c.run_inside.new.walked.held.end (Err c.in-Err-run_inside.stopped) (nat_eq c.in-Ok.number 0) (not_zero _ c.if-number-eq0.false)
+    (event_then {A = Bool} c.args.self.now.turns _ _ _ (e.Finds (condition_spot c.args.sequence.now c.args.path.now part.While) c.in-Ok.number) (λ q shows. cond (nat_eq c.in-Ok.number 0) [] (os.steps_events shows c.args.self.now.turn_us (calls_of c.args.self.now c.args.depth) (events_of shows c.args.self.now c.args.depth) (step_at c.args.sequence.now c.args.path.now) 0 (steps_tree c.args.steps.now) q)) c.run_inside.new.walked.held.end (Err c.in-Err-run_inside.stopped) (now c.evaluate.new.walked c.evaluate.new.target) (now c.find.new.self c.evaluate.new.target) ((c.in-Ok-find.ensures (condition_spot c.args.sequence.now c.args.path.now part.While)).state _) ((c.in-Ok-find.ensures (condition_spot c.args.sequence.now c.args.path.now part.While)).noted c.args.self.now.turns)
+    (take_second {A = Bool} c.args.self.now.turns _ _ _ _ c.run_inside.new.walked.held.end (Err c.in-Err-run_inside.stopped) (nat_eq c.in-Ok.number 0) (no_zero _ c.if-number-eq0.false)
     (unless_stopped (Unit {0}) Bool _ _ c.run_inside.new.walked.held.end c.in-Err-run_inside.stopped c.in-Err-run_inside.stopped (λ h. h) c.in-Err-run_inside.ensures.noted)))
 
 pub test_turn-returns-clause-gives : goal.test_turn-returns-clause-gives
-test_turn-returns-clause-gives t c = tested_true (λ r. v.value (direct false) (calls_of c.args.self.now c.args.depth) (tree c.args.expr.now) r) (λ r. m.inside (direct false) (λ q. m.steps_result (direct false) c.args.self.now.turn_us (calls_of c.args.self.now c.args.depth) (steps_tree c.args.steps.now) q) r) (now c.args.walked.now c.args.target.now) _ (now c.find.new.self c.evaluate.new.target) _ c.in-Ok.number c.in-Ok.ensures.gives (not_zero _ c.if-number-eq0.false) (c.in-Ok-find.ensures.state _) c.in-Ok-run_inside.ensures.gives
+test_turn-returns-clause-gives t c = tested_true (λ r. v.value (direct false) (calls_of c.args.self.now c.args.depth) (tree c.args.expr.now) r) (λ r. m.inside (direct false) (λ q. m.steps_result (direct false) c.args.self.now.turn_us (calls_of c.args.self.now c.args.depth) (steps_tree c.args.steps.now) q) r) (now c.args.walked.now c.args.target.now) _ (now c.find.new.self c.evaluate.new.target) _ c.in-Ok.number c.in-Ok.ensures.gives (no_zero _ c.if-number-eq0.false) ((c.in-Ok-find.ensures (condition_spot c.args.sequence.now c.args.path.now part.While)).state _) c.in-Ok-run_inside.ensures.gives
 
 pub test_turn-returns-clause-noted : goal.test_turn-returns-clause-noted
 unfolding os.tested_events
 test_turn-returns-clause-noted t c = notes_value c.args.self.now.turns _ _ _ _ _ _ c.in-Ok.number _ c.in-Ok.ensures.gives c.in-Ok.ensures.noted
-    (notes_event c.args.self.now.turns _ _ _ (e.Finds (condition_spot c.args.sequence.now c.args.path.now part.While) c.in-Ok.number) (λ q shows. cond (nat_eq c.in-Ok.number 0) [] (os.steps_events shows c.args.self.now.turn_us (calls_of c.args.self.now c.args.depth) (events_of shows c.args.self.now c.args.depth) (step_at c.args.sequence.now c.args.path.now) 0 (steps_tree c.args.steps.now) q)) (now c.evaluate.new.walked c.evaluate.new.target) (now c.find.new.self c.evaluate.new.target) (c.in-Ok-find.ensures.state _) (c.in-Ok-find.ensures.noted c.args.self.now.turns (condition_spot c.args.sequence.now c.args.path.now part.While)) (notes_second c.args.self.now.turns _ _ _ _ (nat_eq c.in-Ok.number 0) (not_zero _ c.if-number-eq0.false) c.in-Ok-run_inside.ensures.noted))
+    (notes_event c.args.self.now.turns _ _ _ (e.Finds (condition_spot c.args.sequence.now c.args.path.now part.While) c.in-Ok.number) (λ q shows. cond (nat_eq c.in-Ok.number 0) [] (os.steps_events shows c.args.self.now.turn_us (calls_of c.args.self.now c.args.depth) (events_of shows c.args.self.now c.args.depth) (step_at c.args.sequence.now c.args.path.now) 0 (steps_tree c.args.steps.now) q)) (now c.evaluate.new.walked c.evaluate.new.target) (now c.find.new.self c.evaluate.new.target) ((c.in-Ok-find.ensures (condition_spot c.args.sequence.now c.args.path.now part.While)).state _) ((c.in-Ok-find.ensures (condition_spot c.args.sequence.now c.args.path.now part.While)).noted c.args.self.now.turns) (notes_second c.args.self.now.turns _ _ _ _ (nat_eq c.in-Ok.number 0) (no_zero _ c.if-number-eq0.false) c.in-Ok-run_inside.ensures.noted))
 
 pub run_inside-returns-clause-gives : goal.run_inside-returns-clause-gives
 run_inside-returns-clause-gives t c = l.inside_on (direct false) _ _ _ _ _ c.in-Ok.ensures.gives c.local_count-count.ensures (c.cut_back.ensures.state _)
@@ -460,7 +467,7 @@ run_loop-returns-in-Some-clause-noted t c = unless_as c.args.self.now.turns _ _ 
     (λ shows. ap (λ (x : Option (ℕ × ℕ)). os.loop_events shows c.args.self.now.turn_us (calls_of c.args.self.now c.args.depth) (events_of shows c.args.self.now c.args.depth) (condition_spot c.args.sequence.now c.args.path.now part.While) x (tree c.args.expr.now) c.args.count (λ r. m.inside (direct false) (λ q. m.steps_result (direct false) c.args.self.now.turn_us (calls_of c.args.self.now c.args.depth) (steps_tree c.args.steps.now) q) r) (λ q. os.steps_events shows c.args.self.now.turn_us (calls_of c.args.self.now c.args.depth) (events_of shows c.args.self.now c.args.depth) (step_at c.args.sequence.now c.args.path.now) 0 (steps_tree c.args.steps.now) q) (now c.args.walked.now c.args.target.now)) (sym c.in-Some.is ∙ c.poll_of.ensures)) (c.run_poll.ensures.noted c.args.self.now.turns)
 
 pub run_sequence-returns-in-Err-clause-gives : goal.run_sequence-returns-in-Err-clause-gives
-run_sequence-returns-in-Err-clause-gives t c = entered_fail _ _ _ _ c.run_steps.new.walked.held.end (c.take_locals-locals.ensures.state _) c.in-Err.ensures.gives
+run_sequence-returns-in-Err-clause-gives t c = entered_fail _ _ _ _ c.run_steps.new.walked.held.end (c.take_locals-locals.ensures.changes.state _) c.in-Err.ensures.gives
 
 pub run_step-returns-in-Control-clause-noted : goal.run_step-returns-in-Control-clause-noted
 unfolding os.step_events

@@ -4,5 +4,9 @@ use Rattle.sequence_trees.specs.declared.spot.Part.TheVariants as part
 use Rattle.logged_runs.proofs.Leaves.{covered_one}
 use Rattle.logged_runs.proofs.walked.Walked.choose.Goals as goal
 
-pub returns-clause-noted : goal.returns-clause-noted
-returns-clause-noted c = λ turns. covered_one turns _ _ _ (c.in-Ok.ensures (condition_spot c.args.sequence.now c.args.path.now part.If)) refl (λ earlier of. c.in-Ok-choose.ensures earlier of) refl refl refl refl
+pub returns : goal.returns
+returns c = record {
+  state = λ target. refl;
+  refused = tt;
+  noted = λ turns. covered_one turns _ _ _ (c.in-Ok.ensures (condition_spot c.args.sequence.now c.args.path.now part.If)) refl (λ earlier of. c.in-Ok-choose.ensures earlier of) refl refl refl refl;
+}

@@ -15,10 +15,10 @@ returns-in-Err-clause-noted c = λ turns.
     c.ask_poll.new.held.end c.in-Err.stopped (c.in-Err.ensures.noted _) c.in-Err.ensures.polled
 
 pub returns-clause-gives : goal.returns-clause-gives
-returns-clause-gives c = poll_gives c.cover_poll.new.self.held.end c.cover_poll.result _ _ _ c.in-Ok.value c.in-Ok.ensures.gives (c.cover_poll.ensures.state _) c.cover_poll.ensures.refused
+returns-clause-gives c = poll_gives c.cover_poll.new.self.held.end c.cover_poll.result _ _ _ c.in-Ok.value c.in-Ok.ensures.gives ((c.cover_poll.ensures c.args.count).state _) (c.cover_poll.ensures c.args.count).refused
 
 pub returns-clause-noted : goal.returns-clause-noted
 returns-clause-noted c = λ turns.
     poll_noted turns (seen c.args.self.now) _ (now c.args.self.now c.args.target.now) (state_of c.ask_poll.new.held c.ask_poll.new.target) (condition_spot c.args.sequence.now c.args.path.now part.While) c.args.count refl refl refl refl
     (seen c.cover_poll.new.self) (now c.cover_poll.new.self c.ask_poll.new.target) c.cover_poll.new.self.held.end c.cover_poll.result c.in-Ok.value (c.in-Ok.ensures.noted _) c.in-Ok.ensures.polled
-    (c.cover_poll.ensures.state _) c.cover_poll.ensures.log c.cover_poll.ensures.refused (c.cover_poll.ensures.noted _)
+    ((c.cover_poll.ensures c.args.count).state _) (c.cover_poll.ensures c.args.count).log (c.cover_poll.ensures c.args.count).refused (c.cover_poll.ensures c.args.count).noted

@@ -4,5 +4,9 @@ use Rattle.sequence_trees.specs.declared.spot.Part.TheVariants as part
 use Rattle.logged_runs.proofs.Leaves.{plain_one}
 use Rattle.logged_runs.proofs.walked.Walked.turn.Goals as goal
 
-pub returns-clause-noted : goal.returns-clause-noted
-returns-clause-noted c = λ turns. plain_one turns _ _ _ (c.in-Ok.ensures (condition_spot c.args.sequence.now c.args.path.now part.While)) c.in-Ok-reach.ensures refl refl refl refl refl refl
+pub returns : goal.returns
+returns c = record {
+  state = λ target. refl;
+  refused = tt;
+  noted = λ turns. plain_one turns _ _ _ (c.in-Ok.ensures (condition_spot c.args.sequence.now c.args.path.now part.While)) c.in-Ok-reach.ensures refl refl refl refl refl refl;
+}

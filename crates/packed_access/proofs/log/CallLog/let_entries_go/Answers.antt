@@ -12,7 +12,7 @@ pub invariant_of-self : goal.invariant_of-self
 invariant_of-self c =
     sound_settled _ _ _ _ c.self.inside.entries.all c.self.inside.entries.gone _ _ _ _ _ _ _ _ c.self.inside.confirmed c.let_go.new.self.all c.let_go.new.self.gone _ c.add.new.self c.self.invariant
     c.let_go.ensures.all (c.let_go.ensures.gone ∙ c.len-count.ensures) c.let_go.ensures.longer
-    (subst (λ (l : List Issued). IsCountOf c.add.new.self (take c.self.inside.entries.gone c.self.inside.entries.all ++ l)) c.kept.ensures
+    (subst (λ (l : List Issued). IsCountOf c.add.new.self (take c.self.inside.entries.gone c.self.inside.entries.all ++ l)) c.kept_items.ensures
     (c.add.ensures (take c.self.inside.entries.gone c.self.inside.entries.all) c.self.invariant.counts))
 
 pub returns-clause-sound : goal.returns-clause-sound

@@ -7,8 +7,8 @@ use Rattle.std.specs.Prelude.{◌&&◌}
 use Rattle.target_machine.specs.Plain.{may_forgive}
 use Rattle.target_machine.specs.declared.unit.Call.TheVariants.{Access}
 use Rattle.target_calls.specs.declared.calls.Ask.{Ask}
-use Rattle.packed_access.proofs.AskedLemmas.{apart_mild}
 use Rattle.packed_access.proofs.sender.Sender.issue_asked.Goals as goal
+use Rattle.access_regs.proofs.AllCalls.{strict_unless}
 
 pub returns-in-Ok-clause-small : goal.returns-in-Ok-clause-small
 returns-in-Ok-clause-small g c = λ m0 calls ask set is h.
@@ -17,7 +17,7 @@ returns-in-Ok-clause-small g c = λ m0 calls ask set is h.
 pub returns-else-makes_alone : goal.returns-else-makes_alone
 returns-else-makes_alone g c =
     let e = c.ask_planned.ensures in
-    let mild : (c.args.forgive && may_forgive (Access c.args.unit.now)) ≡ false = apart_mild g.F.Flights.planner c.args.forgive (may_forgive (Access c.args.unit.now)) (sym c.makes_alone.ensures ∙ c.if-makes_alone.false) in
+    let mild : (c.args.forgive && may_forgive (Access c.args.unit.now)) ≡ false = strict_unless g.F.Flights.planner c.args.forgive (may_forgive (Access c.args.unit.now)) (sym c.makes_alone.ensures ∙ c.if-makes_alone.false) in
     record {
       gives = record {
         on = λ m0 calls ask this h. e.gives.on m0 calls ask (ap (λ (a : Ask). a.call) this.1, ap is_forgiving this.1 ∙ mild) h;

@@ -46,4 +46,4 @@ returns-in-Ok-clause-spare g c = λ m0 calls points are h s.
     let is : c.confirm.new.self ≡ log_done old.log (record { unit = length old.log.calls; part = Ends }) old.log.came (result_for (slice_get old.log.calls old.log.came) c.in-Ok.word) = search rules in
     let grown : length (old.log.entries ++ record { unit = length old.log.calls; part = Ends } ∷ []) ≡ length old.log.entries + 1 = length-append old.log.entries (record { unit = length old.log.calls; part = Ends } ∷ []) in
     has_commanded g.F.Flights.planner _ _ _ _ _ _ old.log c.confirm.new.self [] _ c.args.call points m0 h s c.in-Ok.ensures.packets (ap (λ (l : LogState). l.calls) is)
-    (let k = ap (λ (l : LogState). l.confirmed) is in let w = old.sound.confirmed_within in omega (arith, k, w, grown)) c.command.ensures.limits c.command.ensures.goes.limits
+    (let k = ap (λ (l : LogState). l.confirmed) is in let w = old.sound.confirmed_within in omega (arith, k, w, grown)) c.command.ensures.keeps.same_limits c.command.ensures.keeps.goes.limits

@@ -64,4 +64,4 @@ returns-in-Ok-clause-spare g c = λ m0 calls ask paid h s.
     let grown : length (old.log.entries ++ record { unit = length old.log.calls; part = Ends } ∷ []) ≡ length old.log.entries + 1 = length-append old.log.entries (record { unit = length old.log.calls; part = Ends } ∷ []) in
     let sent = poll_steps g.F.Flights.planner _ _ old.log old.managed calls ask c.args.mask c.args.requested c.args.turns c.args.config.idle c.args.config.retry m0 h _ c.polls_by_matches-zero.ensures.zero (SendsFew (c.in-Ok.found.points - 1)) c.in-Ok.ensures.packets in
     has_cost g.F.Flights.planner _ _ _ _ _ _ old.log c.confirm.new.self [] _ paid c.in-Ok.found.points m0 h.issued s c.in-Ok.ensures.some sent (ap (λ (l : LogState). l.calls) is)
-    (let k = ap (λ (l : LogState). l.confirmed) is in let w = old.sound.confirmed_within in omega (arith, k, w, grown)) c.make_poll.ensures.limits c.make_poll.ensures.goes.limits
+    (let k = ap (λ (l : LogState). l.confirmed) is in let w = old.sound.confirmed_within in omega (arith, k, w, grown)) c.make_poll.ensures.keeps.same_limits c.make_poll.ensures.keeps.goes.limits

@@ -30,4 +30,4 @@ returns-in-Ok-send-clause-value g c = λ m0 lead a rest is h.
     let r : IsReadAt g.F.Flights.planner old.log m0 (lead ++ a ∷ []) = read_gives g.F.Flights.planner _ _ old.log new.log _ _ c.args.unit Leads lead a rest m0 h' after calls count all in
     let at : length r.front + 1 ≡ length mid.log.entries = (let x = r.at in omega (arith, x, grown, plan_is)) in
     let last = c.in-Ok-send.ensures.last m0 rest r.front r.entry r.more there (ap (issued g.F.Flights.planner (target_of m0.probe)) mid_calls ∙ r.is) at (c.in-Ok.ensures.pending c.requires.some) in
-    c.value.ensures ∙ ap (λ (n : ℕ). unwrap_or (slot_at (g.F.Flights.values new.flights) (n - 1)) 0) c.pending-place.ensures ∙ last ∙ r.gives_it ∙ ap (gives (target_issued g.F.Flights.planner old.log m0)) (sym is)
+    c.value.ensures ∙ ap (λ (n : ℕ). unwrap_or (slot_at (g.F.Flights.values new.flights) (n - 1)) 0) c.count_pending-place.ensures ∙ last ∙ r.gives_it ∙ ap (gives (target_issued g.F.Flights.planner old.log m0)) (sym is)

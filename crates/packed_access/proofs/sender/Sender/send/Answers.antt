@@ -18,7 +18,7 @@ returns-in-Ok-clause-gives g c =
           (has_come g.F.Flights.planner _ _ old.log _ rest _ m0 h c.in-Ok.ensures.came old.sound.results_long few);
       spare =
           λ m0 rest points h s. has_sent g.F.Flights.planner _ _ _ _ _ _ old.log c.confirm.new.self _ rest _ points m0 h s c.in-Ok.ensures.came (ap (λ (l : LogState). l.calls) is)
-          (let k = ap (λ (l : LogState). l.confirmed) is in let w = old.sound.confirmed_within in omega (arith, k, w)) c.send.ensures.limits c.send.ensures.goes.limits;
+          (let k = ap (λ (l : LogState). l.confirmed) is in let w = old.sound.confirmed_within in omega (arith, k, w)) c.send.ensures.keeps.same_limits c.send.ensures.keeps.goes.limits;
       broke = λ m0 rest h. tt;
       stops = λ m0 rest answered h left. tt;
     }
@@ -38,4 +38,4 @@ pub returns-in-Ok-clause-full : goal.returns-in-Ok-clause-full
 returns-in-Ok-clause-full g c =
     let old = c.args.self.now in
     let is : c.confirm.new.self ≡ all_confirmed (all_taken (g.F.Flights.values c.send.new.self) old.log) = c.confirm.ensures.answer ∙ ap all_confirmed c.take_values.ensures.answer in
-    λ m0 e rest next points h makes s is_full. has_filled g.F.Flights.planner _ _ _ _ _ _ old.log c.confirm.new.self _ e next rest _ points m0 h makes s c.in-Ok.ensures.came is_full (ap (λ (l : LogState). l.calls) is) (ap (λ (l : LogState). l.confirmed) is) c.send.ensures.limits c.send.ensures.goes.limits
+    λ m0 e rest next points h makes s is_full. has_filled g.F.Flights.planner _ _ _ _ _ _ old.log c.confirm.new.self _ e next rest _ points m0 h makes s c.in-Ok.ensures.came is_full (ap (λ (l : LogState). l.calls) is) (ap (λ (l : LogState). l.confirmed) is) c.send.ensures.keeps.same_limits c.send.ensures.keeps.goes.limits

@@ -18,8 +18,8 @@ returns-in-Ok-clause-on g c = λ m0 t rest may table h.
     let shape = narrow_rest g.F.Flights.planner c.args.forgive _ old.log old.managed t rest m0 c.in-Memory.size c.in-Memory.read c.in-Memory.ap c.in-Memory.address c.in-Memory.value h' lt narrow in
     let shape' = shape ∙ ap (λ (b : Bool). memory_actions t b c.in-Memory.size c.in-Memory.read c.in-Memory.ap c.in-Memory.address c.in-Memory.value) (sym c.is_large-large.ensures) in
     let came = c.in-Ok.ensures.on m0 old.managed t [] rest h' refl shape' in
-    subst (λ (x : AccessUnit). IsDoneBy g.F.Flights.planner c.args.forgive c.made.result.small c.made.result.word c.made.result.reads c.try_memory.new.self.managed (g.F.Flights.state c.try_memory.new.self.flights) c.try_memory.new.self.log x old.managed t m0) (sym c.in-Memory.is)
-    (done_same g.F.Flights.planner c.args.forgive c.try_memory.new.self.managed _ c.try_memory.new.self.log (unit.Memory c.in-Memory.size c.in-Memory.read c.in-Memory.ap c.in-Memory.address c.in-Memory.value) old.managed t m0 _ false _ c.in-Ok.word _ 1 c.made.ensures.small c.made.ensures.word c.made.ensures.reads
+    subst (λ (x : AccessUnit). IsDoneBy g.F.Flights.planner c.args.forgive c.attempt_of.result.small c.attempt_of.result.word c.attempt_of.result.reads c.try_memory.new.self.managed (g.F.Flights.state c.try_memory.new.self.flights) c.try_memory.new.self.log x old.managed t m0) (sym c.in-Memory.is)
+    (done_same g.F.Flights.planner c.args.forgive c.try_memory.new.self.managed _ c.try_memory.new.self.log (unit.Memory c.in-Memory.size c.in-Memory.read c.in-Memory.ap c.in-Memory.address c.in-Memory.value) old.managed t m0 _ false _ c.in-Ok.word _ 1 c.attempt_of.ensures.small c.attempt_of.ensures.word c.attempt_of.ensures.reads
     (narrow_done g.F.Flights.planner c.args.forgive _ old.log old.managed t rest m0 c.in-Memory.size c.in-Memory.read c.in-Memory.ap c.in-Memory.address c.in-Memory.value h' lt narrow c.in-Ok.word _ c.try_memory.new.self.log c.try_memory.new.self.managed c.try_memory.ensures.managed came))
 
 pub returns-in-Err-clause-broke : goal.returns-in-Err-clause-broke
@@ -42,8 +42,8 @@ returns-in-Ok-try_port-clause-on g c = λ m0 t rest may table h.
     let n = port_next g.F.Flights.planner c.args.forgive _ old.log old.managed t rest m0 c.in-Ap.read c.in-Ap.ap c.in-Ap.addr c.in-Ap.value h' lt fits in
     let n' = subst (λ (x : RegAccess). IsNext (unit.Ap c.in-Ap.read c.in-Ap.ap c.in-Ap.addr c.in-Ap.value) t [] (select_of c.in-Ap.ap (c.in-Ap.addr / 16) ∷ []) x true rest []) (sym access) n in
     let went = subst (λ (x : RegAccess). WentTo g.F.Flights.planner c.args.forgive c.in-Ok-try_port.word (g.F.Flights.state c.try_port.new.self.flights) c.try_port.new.self.log (unit.Ap c.in-Ap.read c.in-Ap.ap c.in-Ap.addr c.in-Ap.value) old.managed t [] (select_of c.in-Ap.ap (c.in-Ap.addr / 16) ∷ []) x [] m0) access (c.in-Ok-try_port.ensures.gives.on m0 (unit.Ap c.in-Ap.read c.in-Ap.ap c.in-Ap.addr c.in-Ap.value) old.managed t [] rest [] h' n') in
-    subst (λ (x : AccessUnit). IsDoneBy g.F.Flights.planner c.args.forgive c.made-in-Ok-try_port.result.small c.made-in-Ok-try_port.result.word c.made-in-Ok-try_port.result.reads c.try_port.new.self.managed (g.F.Flights.state c.try_port.new.self.flights) c.try_port.new.self.log x old.managed t m0) (sym c.in-Ap.is)
-    (done_same g.F.Flights.planner c.args.forgive c.try_port.new.self.managed _ c.try_port.new.self.log (unit.Ap c.in-Ap.read c.in-Ap.ap c.in-Ap.addr c.in-Ap.value) old.managed t m0 _ false _ c.in-Ok-try_port.word _ 0 c.made-in-Ok-try_port.ensures.small c.made-in-Ok-try_port.ensures.word c.made-in-Ok-try_port.ensures.reads
+    subst (λ (x : AccessUnit). IsDoneBy g.F.Flights.planner c.args.forgive c.attempt_of-in-Ok-try_port.result.small c.attempt_of-in-Ok-try_port.result.word c.attempt_of-in-Ok-try_port.result.reads c.try_port.new.self.managed (g.F.Flights.state c.try_port.new.self.flights) c.try_port.new.self.log x old.managed t m0) (sym c.in-Ap.is)
+    (done_same g.F.Flights.planner c.args.forgive c.try_port.new.self.managed _ c.try_port.new.self.log (unit.Ap c.in-Ap.read c.in-Ap.ap c.in-Ap.addr c.in-Ap.value) old.managed t m0 _ false _ c.in-Ok-try_port.word _ 0 c.attempt_of-in-Ok-try_port.ensures.small c.attempt_of-in-Ok-try_port.ensures.word c.attempt_of-in-Ok-try_port.ensures.reads
     (port_done g.F.Flights.planner c.args.forgive _ old.log old.managed t rest m0 c.in-Ap.read c.in-Ap.ap c.in-Ap.addr c.in-Ap.value h' lt fits c.in-Ok-try_port.word _ c.try_port.new.self.log c.try_port.new.self.managed c.try_port.ensures.managed went))
 
 pub returns-in-Err-try_port-clause-broke : goal.returns-in-Err-try_port-clause-broke

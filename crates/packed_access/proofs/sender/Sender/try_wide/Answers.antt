@@ -21,7 +21,7 @@ returns-in-Ok-None-clause-on g c = λ m0 t rest table h.
     let n = cfg_next g.F.Flights.planner c.args.forgive _ old.log old.managed t rest m0 c.args.size c.args.read c.args.ap c.args.address c.args.value h lt c.requires.wide in
     let n' = subst (λ (a : RegAccess). IsNext (unit.Memory c.args.size c.args.read c.args.ap c.args.address c.args.value) t [] (select_of c.args.ap 15 ∷ []) a false rest (after_cfg t c.args.size c.args.read c.args.ap c.args.address c.args.value)) (sym access) n in
     let went = subst (λ (a : RegAccess). WentTo g.F.Flights.planner c.args.forgive c.in-Ok-None.field-0 (g.F.Flights.state port.flights) port.log (unit.Memory c.args.size c.args.read c.args.ap c.args.address c.args.value) old.managed t [] (select_of c.args.ap 15 ∷ []) a (after_cfg t c.args.size c.args.read c.args.ap c.args.address c.args.value) m0) access (c.in-Ok-None.ensures.gives.on m0 (unit.Memory c.args.size c.args.read c.args.ap c.args.address c.args.value) old.managed t [] rest (after_cfg t c.args.size c.args.read c.args.ap c.args.address c.args.value) h n') in
-    done_same g.F.Flights.planner c.args.forgive port.managed _ port.log (unit.Memory c.args.size c.args.read c.args.ap c.args.address c.args.value) old.managed t m0 _ false _ None _ 1 c.made.ensures.small c.made.ensures.word c.made.ensures.reads
+    done_same g.F.Flights.planner c.args.forgive port.managed _ port.log (unit.Memory c.args.size c.args.read c.args.ap c.args.address c.args.value) old.managed t m0 _ false _ None _ 1 c.attempt_of.ensures.small c.attempt_of.ensures.word c.attempt_of.ensures.reads
     (cfg_skipped g.F.Flights.planner c.args.forgive _ old.log old.managed t rest m0 c.args.size c.args.read c.args.ap c.args.address c.args.value h lt c.requires.wide _ port.log port.managed c.in-Ok-None.field-0 c.try_port.ensures.managed c.in-Ok-None.field-0-is went)
 
 pub returns-in-Err-clause-broke : goal.returns-in-Err-clause-broke
@@ -61,7 +61,7 @@ returns-in-Ok-clause-on g c = λ m0 t rest table h.
     let has : has_bit c.in-Ok-Some.cfg cfg_la ≡ true = sym c.learn_cfg.ensures.large ∙ (search rules) in
     let tried = cfg_tried g.F.Flights.planner c.args.forgive _ old.log old.managed t rest m0 c.args.size c.args.read c.args.ap c.args.address c.args.value h lt c.requires.wide _ port.log c.in-Ok-Some.field-0 c.in-Ok-Some.cfg came went table in
     let shape = cfg_large g.F.Flights.planner c.args.forgive _ old.log old.managed t rest m0 c.args.size c.args.read c.args.ap c.args.address c.args.value h lt c.requires.wide _ port.log c.in-Ok-Some.field-0 c.in-Ok-Some.cfg came went table has in
-    done_same g.F.Flights.planner c.args.forgive c.try_memory.new.self.managed _ c.try_memory.new.self.log (unit.Memory c.args.size c.args.read c.args.ap c.args.address c.args.value) old.managed t m0 _ false _ c.in-Ok.word _ 2 c.made-in-Ok.ensures.small c.made-in-Ok.ensures.word c.made-in-Ok.ensures.reads
+    done_same g.F.Flights.planner c.args.forgive c.try_memory.new.self.managed _ c.try_memory.new.self.log (unit.Memory c.args.size c.args.read c.args.ap c.args.address c.args.value) old.managed t m0 _ false _ c.in-Ok.word _ 2 c.attempt_of-in-Ok.ensures.small c.attempt_of-in-Ok.ensures.word c.attempt_of-in-Ok.ensures.reads
     (wide_done g.F.Flights.planner c.args.forgive _ old.log old.managed t rest m0 c.args.size c.args.read c.args.ap c.args.address c.args.value h lt c.requires.wide _ port.log c.in-Ok-Some.field-0 c.in-Ok-Some.cfg came went table c.in-Ok.word _ c.try_memory.new.self.log c.try_memory.new.self.managed (c.try_memory.ensures.managed ∙ ap (λ (q : Kept). selected q (select_value c.args.ap 0)) learned) has
     (c.in-Ok.ensures.on m0 old.managed t (select_of c.args.ap 15 ∷ ap_access_of true 4 0 ∷ []) (after_cfg t c.args.size c.args.read c.args.ap c.args.address c.args.value) tried refl shape))
 

@@ -4,4 +4,4 @@ use Rattle.run_coverage.proofs.CoverLemmas.{noted}
 use Rattle.run_coverage.proofs.coverage.Coverage.time_out.Goals as goal
 
 pub returns : goal.returns
-returns c = λ events turns of. on_ok_weaker c.note.result (λ h. noted c.args.self.now c.note.new.self events _ c.in_ok-words.words (sym (ap Some c.in_ok-words.ensures)) h of) c.note.ensures
+returns c = λ turns events of. on_ok_weaker c.note.result (λ h. noted c.args.self.now c.note.new.self events _ c.in_ok-words.words (sym (ap Some c.in_ok-words.ensures)) h of) c.note.ensures

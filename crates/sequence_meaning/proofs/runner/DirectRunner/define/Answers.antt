@@ -1,5 +1,15 @@
+use Rattle.std.proofs.Common.{arith}
+use Rattle.std.proofs.lemmas.Grind.{common_steps}
+use Rattle.sequence_rules.specs.Calls.{guarded}
+use Rattle.sequence_rules.specs.Direct.{direct}
+use Rattle.sequence_rules.specs.Values.{stored}
 use Rattle.sequence_meaning.proofs.FrameLemmas.{keeps_before}
 use Rattle.sequence_meaning.proofs.runner.DirectRunner.define.Goals as goal
 
-pub returns-clause-keeps : goal.returns-clause-keeps
-returns-clause-keeps g c = keeps_before c.evaluate.ensures.keeps (c.store.ensures.keeps _)
+pub returns : goal.returns
+unfolding stored guarded direct
+returns g c = record {
+  gives = λ known knows. grind (arith, common_steps);
+  keeps = keeps_before c.evaluate.ensures.keeps (c.store.ensures.keeps _);
+  cause = c.in_ok-number.ensures.cause;
+}

@@ -1,0 +1,31 @@
+-- The frame of a function that asks calls of an access: when it may be called, and how it ends.
+use Rattle.std.specs.Prelude.{◌≡◌, ℕ, ◌≤◌, length, Option, Some, None, Result, Ok, Err}
+use Rattle.probe_core.specs.Bench.{BenchState}
+use Rattle.access_calls.specs.Keeps.{Keeps}
+use Rattle.access_calls.specs.Reported.{AccessView}
+use Rattle.access_calls.specs.declared.stop.Stop.{Stop}
+use Rattle.access_calls.specs.declared.stop.Stop.TheVariants.{Cut, BenchFault, ReplyBad, OutOfMemory}
+
+-- Calls may be asked: the access has no end, and at most so many calls were asked of it.
+pub record MayAsk (most : ℕ) (a : AccessView) : Type 0 where
+  pub few : length a.asks.calls ≤ most
+  pub no_end : a.end ≡ None
+
+-- The end of an access that stopped so. Refused memory is no end.
+abbrev pub EndsBy : Stop → Option Stop → Type 0
+EndsBy (Cut r) end = end ≡ Some (Cut r)
+EndsBy (BenchFault issued confirmed) end = end ≡ Some (BenchFault issued confirmed)
+EndsBy ReplyBad end = end ≡ Some ReplyBad
+EndsBy OutOfMemory end = end ≡ None
+
+-- The access has ended where it stopped, and else it goes on.
+abbrev pub EndIs : {T : Type 0} → Result T Stop → Option Stop → Type 0
+EndIs (Ok x) end = end ≡ None
+EndIs (Err e) end = EndsBy e end
+
+-- How a function ends that asks calls and has no sink: the access has ended where the answer says so, and else it goes on; and what each
+-- call of an access keeps is kept.
+pub record EndsAsking {S T : Type 0} (begun : S → BenchState → Type 0) (reported : S → AccessView) (identity : S → ℕ) (result : Result T Stop)
+    (old new : S) : Type 0 where
+  pub end : EndIs result (reported new).end
+  pub keeps : Keeps begun reported identity old new

@@ -1,6 +1,0 @@
-use Rattle.std.proofs.Common.{◌≡◌, take}
-use Rattle.function_table.specs.Variables.{predefined}
-use Rattle.code_check.proofs.names.Names.predefined.Given as goal
-
-abbrev pub invariant-loop-name : goal.invariant-loop-name
-invariant-loop-name l = l.names ≡ take l.name-index predefined
