@@ -26,7 +26,7 @@ pub fn head_text(alloc: Global, sequences: u64) -> Result<Line, OutOfMemory>
 fn begin_sequence(alloc: Global, entry: &SeqEntry) -> Result<Line, OutOfMemory>
     ensures { IfOk result (λ line. line ≡ codes "sequence " ++ shown entry.now.name ++ codes " from " ++ level_word entry.now.from) }
 {
-    let line = Line::begin(alloc, "sequence ")?.shown(entry.name.as_str().as_bytes())?;
+    let line = Line::begin(alloc, "sequence ")?.add_shown(entry.name.as_str().as_bytes())?;
     line.text(" from ")?.text(level_text(entry.from))
 }
 
@@ -34,9 +34,9 @@ fn with_counts(line: Line, steps: &Steps) -> Result<Line, OutOfMemory>
     ensures { IfOk result (λ l. l ≡ line ++ counts_words steps.now) }
 {
     let counts = counts_of(steps)?;
-    let line = line.labelled(" blocks ", counts.blocks)?;
-    let line = line.labelled(" controls ", counts.controls)?;
-    line.labelled(" atomic ", counts.atomic)
+    let line = line.add_labelled(" blocks ", counts.blocks)?;
+    let line = line.add_labelled(" controls ", counts.controls)?;
+    line.add_labelled(" atomic ", counts.atomic)
 }
 
 pub fn sequence_text(alloc: Global, entry: &SeqEntry) -> Result<Line, OutOfMemory>
@@ -51,8 +51,8 @@ pub fn sequence_text(alloc: Global, entry: &SeqEntry) -> Result<Line, OutOfMemor
 fn with_step(line: Line, name: &str, spot: &Spot) -> Result<Line, OutOfMemory>
     ensures { IfOk result (λ l. l ≡ line ++ step_words name.now spot.now.path spot.now.part) }
 {
-    let line = line.text(" ")?.shown(name.as_bytes())?;
-    let line = line.text(" ")?.dotted(spot.path.as_slice())?;
+    let line = line.text(" ")?.add_shown(name.as_bytes())?;
+    let line = line.text(" ")?.add_dotted(spot.path.as_slice())?;
     line.text(" ")?.text(part_text(spot.part))
 }
 
@@ -69,7 +69,8 @@ fn with_where(line: Line, spot: &Spot) -> Result<Line, OutOfMemory>
 pub fn with_place(line: Line, place: Place) -> Result<Line, OutOfMemory>
     ensures { IfOk result (λ l. l ≡ line ++ place_words place) }
 {
-    line.labelled(" ", place.line)?.labelled(":", place.column)
+    line.add_labelled(" ", place.line)?
+        .add_labelled(":", place.column)
 }
 
 /// The line, with what is wrong and where added. That is the kind, the sequence, the numbers of the steps that lead to the step with dots

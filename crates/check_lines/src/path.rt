@@ -12,9 +12,9 @@ fn with_byte(line: Line, byte: u8) -> Result<Line, OutOfMemory>
     ensures { IfOk result (λ l. l ≡ line ++ shown (escaped byte)) }
 {
     match byte {
-        b'~' => line.shown(b"~0"),
-        b'/' => line.shown(b"~1"),
-        _ => line.shown(&[byte]),
+        b'~' => line.add_shown(b"~0"),
+        b'/' => line.add_shown(b"~1"),
+        _ => line.add_shown(&[byte]),
     }
 }
 

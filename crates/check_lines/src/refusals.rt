@@ -35,7 +35,7 @@ fn image_fault_text(alloc: Global, kind: ImageKind, number: u64) -> Result<Line,
 {
     Line::begin(alloc, "refused image ")?
         .text(image_kind_text(kind))?
-        .labelled(" ", number)?
+        .add_labelled(" ", number)?
         .text("\n")
 }
 

@@ -100,9 +100,9 @@ pub fn step_name(alloc: Global, spot: &Spot) -> Result<Line, OutOfMemory>
     match &spot.sequence {
         None => Line::begin(alloc, "debugvars"),
         Some(name) => Line::begin(alloc, "")?
-            .shown(name.as_str().as_bytes())?
+            .add_shown(name.as_str().as_bytes())?
             .text(" ")?
-            .dotted(spot.path.as_slice())?
+            .add_dotted(spot.path.as_slice())?
             .text(" ")?
             .text(part_text(spot.part)),
     }

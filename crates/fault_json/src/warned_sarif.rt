@@ -78,7 +78,7 @@ fn sequence_line(alloc: Global, sequence: &Option<NameText>) -> Result<Line, Out
 {
     let line = Line::begin(alloc, "")?;
     match sequence {
-        Some(name) => line.shown(name.as_str().as_bytes()),
+        Some(name) => line.add_shown(name.as_str().as_bytes()),
         None => Ok(line),
     }
 }

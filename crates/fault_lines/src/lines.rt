@@ -53,7 +53,7 @@ fn with_name(line: Line, name: Option<&[u8]>) -> Result<Line, OutOfMemory>
     ensures { IfOk result (λ l. l ≡ line ++ after_blank (option_map (λ n. n.now) name.entry)) }
 {
     match name {
-        Some(name) => line.text(" ")?.shown(name),
+        Some(name) => line.text(" ")?.add_shown(name),
         None => Ok(line),
     }
 }
@@ -63,7 +63,7 @@ pub fn with_text(line: Line, name: &Option<NameText>) -> Result<Line, OutOfMemor
     ensures { IfOk result (λ l. l ≡ line ++ after_blank name.now) }
 {
     match name {
-        Some(name) => line.text(" ")?.shown(name.as_str().as_bytes()),
+        Some(name) => line.text(" ")?.add_shown(name.as_str().as_bytes()),
         None => Ok(line),
     }
 }
@@ -86,7 +86,7 @@ pub fn first_line(alloc: Global, found: &Found) -> Result<Line, OutOfMemory>
 fn with_set(line: Line, set: &SetName) -> Result<Line, OutOfMemory>
     ensures { IfOk result (λ l. l ≡ line ++ set_words set.now) }
 {
-    let line = line.shown(set.device.as_str().as_bytes())?;
+    let line = line.add_shown(set.device.as_str().as_bytes())?;
     let line = with_text(line, &set.variant)?;
     with_text(line, &set.pname)
 }
@@ -105,7 +105,7 @@ fn with_more(line: Line, more: &[usize]) -> Result<Line, OutOfMemory>
 {
     match more {
         [] => Ok(line),
-        _ => line.labelled(" and ", more.len() as u64)?.text(" more"),
+        _ => line.add_labelled(" and ", more.len() as u64)?.text(" more"),
     }
 }
 

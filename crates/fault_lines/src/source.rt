@@ -45,7 +45,7 @@ fn push_line(text: &mut Vec<u8>, line: &[u8]) -> Result<(), OutOfMemory>
 }
 
 // What stands below a byte before the place.
-fn below(byte: u8) -> &'static [u8]
+fn caret_byte(byte: u8) -> &'static [u8]
     ensures { result.now ≡ below byte }
 {
     match byte {
@@ -59,7 +59,7 @@ fn push_below(text: &mut Vec<u8>, before: &[u8]) -> Result<(), OutOfMemory>
     ensures { OnOk result (text.new.items ≡ text.old.items ++ flat_map below before.now) }
 {
     for byte in before {
-        push(text, below(*byte))?;
+        push(text, caret_byte(*byte))?;
     }
     Ok(())
 }

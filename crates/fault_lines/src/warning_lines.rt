@@ -32,7 +32,7 @@ fn with_sequence(line: Line, sequence: &Option<NameText>) -> Result<Line, OutOfM
     ensures { IfOk result (λ l. l ≡ line ++ sequence_words sequence.now) }
 {
     match sequence {
-        Some(name) => line.text(" ")?.shown(name.as_str().as_bytes()),
+        Some(name) => line.text(" ")?.add_shown(name.as_str().as_bytes()),
         None => Ok(line),
     }
 }
@@ -45,9 +45,9 @@ fn with_step(line: Line, spot: &Spot) -> Result<Line, OutOfMemory>
         None => line.text(" debugvars"),
         Some(name) => line
             .text(" ")?
-            .shown(name.as_str().as_bytes())?
+            .add_shown(name.as_str().as_bytes())?
             .text(" ")?
-            .dotted(spot.path.as_slice())?
+            .add_dotted(spot.path.as_slice())?
             .text(" ")?
             .text(part_text(spot.part)),
     }
@@ -56,7 +56,8 @@ fn with_step(line: Line, spot: &Spot) -> Result<Line, OutOfMemory>
 fn with_place(line: Line, place: Place) -> Result<Line, OutOfMemory>
     ensures { IfOk result (λ l. l ≡ line ++ check.place_words place) }
 {
-    line.labelled(" ", place.line)?.labelled(":", place.column)
+    line.add_labelled(" ", place.line)?
+        .add_labelled(":", place.column)
 }
 
 // Where it stands.

@@ -93,7 +93,7 @@ fn with_arg(alloc: Global, line: Line, arg: &Arg) -> Result<Line, OutOfMemory>
         Arg::Number(_, expr) => with_expr(alloc, line, expr),
         Arg::Text(text) => line
             .text("\"")?
-            .shown(text.text.as_str().as_bytes())?
+            .add_shown(text.text.as_str().as_bytes())?
             .text("\""),
     }
 }

@@ -157,7 +157,7 @@ fn turn_text(alloc: Global, depth: u32, number: u32) -> Result<Line, OutOfMemory
     ensures { IfOk result (λ l. l ≡ event_line depth (e.Turns no_spot number)) }
 {
     let line = begin_below(alloc, depth)?;
-    line.labelled("turn ", u64::from(number))?.text("\n")
+    line.add_labelled("turn ", u64::from(number))?.text("\n")
 }
 
 // The value of a `while`.
@@ -218,7 +218,7 @@ fn call_text(alloc: Global, depth: u32, name: &str) -> Result<Line, OutOfMemory>
     ensures { IfOk result (λ l. l ≡ event_line depth (e.Calls name.now)) }
 {
     let line = begin_below(alloc, depth)?.text("call ")?;
-    line.shown(name.as_bytes())?.text("\n")
+    line.add_shown(name.as_bytes())?.text("\n")
 }
 
 // A return.

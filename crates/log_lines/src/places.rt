@@ -22,7 +22,8 @@ fn part_text(part: Part) -> &'static str
 fn with_place(line: Line, place: Place) -> Result<Line, OutOfMemory>
     ensures { IfOk result (λ l. l ≡ line ++ place_words place) }
 {
-    line.labelled(" ", place.line)?.labelled(":", place.column)
+    line.add_labelled(" ", place.line)?
+        .add_labelled(":", place.column)
 }
 
 // A place in code.
@@ -39,8 +40,8 @@ fn with_code_place(line: Line, part: Part, place: Place) -> Result<Line, OutOfMe
 fn with_step(line: Line, sequence: &str, path: &[u64]) -> Result<Line, OutOfMemory>
     ensures { IfOk result (λ l. l ≡ line ++ step_words (Some sequence.now) path.now) }
 {
-    let line = line.shown(sequence.as_bytes())?.text(" ")?;
-    line.dotted(path)?.text(" ")
+    let line = line.add_shown(sequence.as_bytes())?.text(" ")?;
+    line.add_dotted(path)?.text(" ")
 }
 
 // The step of a place; the debug variables have none.

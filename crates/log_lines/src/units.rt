@@ -45,7 +45,7 @@ fn with_memory(line: Line, size: u8, read: bool, ap: u8, address: u64) -> Result
     let line = line
         .text(direction_text(read))?
         .decimal(8 * u64::from(size))?;
-    with_address(line.text(" ")?, address)?.labelled(" ap ", u64::from(ap))
+    with_address(line.text(" ")?, address)?.add_labelled(" ap ", u64::from(ap))
 }
 
 // An access to a register of an access port.
@@ -53,7 +53,7 @@ fn with_ap(line: Line, read: bool, ap: u8, addr: u8) -> Result<Line, OutOfMemory
     ensures { IfOk result (λ l. l ≡ line ++ direction_word read ++ codes "ap " ++ hex2 addr ++ port_text ap) }
 {
     let line = line.text(direction_text(read))?.text("ap ")?;
-    line.hex2(addr)?.labelled(" ap ", u64::from(ap))
+    line.hex2(addr)?.add_labelled(" ap ", u64::from(ap))
 }
 
 // An access to a register of the debug port.
@@ -71,7 +71,7 @@ fn with_poll(line: Line, mask: u32, value: u32, turns: u32) -> Result<Line, OutO
     let line = line.text("poll mask ")?.hex8(mask)?;
     line.text(" value ")?
         .hex8(value)?
-        .labelled(" turns ", u64::from(turns))
+        .add_labelled(" turns ", u64::from(turns))
 }
 
 // An access.
@@ -113,7 +113,7 @@ fn with_pins(line: Line, output: u8, select: u8, wait: u32) -> Result<Line, OutO
     let line = line.text("pins ")?.hex2(output)?;
     line.text(" select ")?
         .hex2(select)?
-        .labelled(" wait ", u64::from(wait))
+        .add_labelled(" wait ", u64::from(wait))
 }
 
 // A command of the probe.
@@ -121,16 +121,16 @@ fn with_command(alloc: Global, line: Line, call: ProbeCall) -> Result<Line, OutO
     ensures { IfOk result (λ l. l ≡ line ++ command_text call) }
 {
     match call {
-        ProbeCall::Delay(micros) => line.labelled("delay ", u64::from(micros)),
+        ProbeCall::Delay(micros) => line.add_labelled("delay ", u64::from(micros)),
         ProbeCall::Abort(value) => line.text("abort = ")?.hex(alloc, u64::from(value)),
         ProbeCall::Pins {
             output,
             select,
             wait,
         } => with_pins(line, output, select, wait),
-        ProbeCall::Clock(hertz) => line.labelled("clock ", u64::from(hertz)),
+        ProbeCall::Clock(hertz) => line.add_labelled("clock ", u64::from(hertz)),
         ProbeCall::Line { count, bits } => {
-            let line = line.labelled("line ", u64::from(count))?;
+            let line = line.add_labelled("line ", u64::from(count))?;
             line.text(" bits ")?.hex(alloc, bits)
         }
     }
@@ -194,7 +194,7 @@ pub fn with_made(
 ) -> Result<Line, OutOfMemory>
     ensures { IfOk result (λ l. l ≡ line ++ made_text (record { number = number; ask = ask.now; end = option_map call_end_of end })) }
 {
-    let line = line.labelled("unit ", number)?.text(" ")?;
+    let line = line.add_labelled("unit ", number)?.text(" ")?;
     let call = ask.call;
     let line = with_call(alloc, line, call)?;
     with_end(alloc, line, has_result(call), end)

@@ -1,3 +1,4 @@
 pub mod NotedLemmas
 pub mod EndLemmas
 pub mod PollLemmas
+pub mod Opened

@@ -53,7 +53,7 @@ pub(crate) fn debug_port(held: &Held) -> u64
 }
 
 // An access as a unit, made at once and noted, unless it would be number 1,000,001.
-#[tactic(auto, unfolding(sequence_rules::specs::Calls::ask, sequence_rules::specs::Calls::answered, sequence_rules::specs::Direct::direct, sequence_rules::specs::Direct::made), using(crate::proofs::PollLemmas::units))]
+#[tactic(auto, unfolding(crate::proofs::Opened::units), using(crate::proofs::PollLemmas::units))]
 pub(crate) fn ask(
     unit: Unit,
     forgive: bool,
@@ -106,7 +106,7 @@ pub(crate) fn ask(
 }
 
 // A read has its value, and a write 0.
-#[tactic(auto, unfolding(sequence_rules::specs::Calls::if_read, sequence_rules::specs::Calls::zero_of, sequence_rules::specs::Direct::direct), using(crate::proofs::EndLemmas::ends_if_read))]
+#[tactic(auto, unfolding(crate::proofs::Opened::answers), using(crate::proofs::EndLemmas::ends_if_read))]
 pub(crate) fn ask_for_result(
     read: bool,
     unit: Unit,
@@ -166,7 +166,7 @@ pub fn ask_poll(
 }
 
 // A command of the probe as a unit, made at once and noted, unless it would be number 1,000,001.
-#[tactic(auto, unfolding(sequence_rules::specs::Calls::command, sequence_rules::specs::Calls::numbered, sequence_rules::specs::Direct::direct, sequence_rules::specs::Direct::made), using(crate::proofs::NotedLemmas::noted_none))]
+#[tactic(auto, unfolding(crate::proofs::Opened::commands), using(crate::proofs::NotedLemmas::noted_none))]
 pub(crate) fn command(call: ProbeCall, held: &mut Held, target: &mut Target) -> Result<u64, Stopped>
     requires { IsSoundProbe call }
     ensures { MakesUnits held.old target.old held.new target.new result (c.command (direct false) call) }

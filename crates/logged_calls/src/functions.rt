@@ -15,7 +15,7 @@ use std::alloc::Global;
 use target_machine::{HaltCause, Target};
 
 // A call of a function that writes no line.
-#[tactic(auto, unfolding(sequence_rules::specs::Calls::function_result, sequence_rules::specs::Direct::direct), using(crate::proofs::NotedLemmas::noted_none))]
+#[tactic(auto, unfolding(crate::proofs::Opened::functions), using(crate::proofs::NotedLemmas::noted_none))]
 fn call_unit(
     function: Function,
     numbers: &[u64],

@@ -11,7 +11,7 @@ use target_machine::HaltCause;
 use text_lines::Line;
 
 // Notes a line, and then this is the value, unless it would be line 100,001.
-#[tactic(auto, unfolding(sequence_rules::specs::Calls::line_result, sequence_rules::specs::Direct::direct))]
+#[tactic(auto, unfolding(crate::proofs::Opened::lines))]
 fn write_line(line: Result<Line, OutOfMemory>, value: u64, held: &mut Held) -> Result<u64, Stopped>
     ensures { (text : List ℕ) → IfOk line (λ l. l ≡ text) → WritesLine held.old held.new result text value }
 {

@@ -11,7 +11,7 @@ use sequence_rules::{Port, memory_port, memory_unit};
 use target_machine::Target;
 
 // The value of `Read64`.
-#[tactic(auto, unfolding(sequence_rules::specs::Calls::low_and_high, sequence_rules::specs::Calls::use_now, sequence_rules::specs::Direct::direct))]
+#[tactic(auto, unfolding(crate::proofs::Opened::answers))]
 fn join_words(low: u64, high: u64) -> u64
     requires low { low < 2 ^ 32 }
     requires high { high < 2 ^ 32 }
@@ -21,7 +21,7 @@ fn join_words(low: u64, high: u64) -> u64
 }
 
 // The second unit of a 64-bit call, at the higher address.
-#[tactic(auto, unfolding(sequence_rules::specs::Calls::second_half, sequence_rules::specs::Direct::direct))]
+#[tactic(auto, unfolding(crate::proofs::Opened::second_halves))]
 fn ask_second_half(
     read: bool,
     ap: u8,
@@ -67,7 +67,7 @@ fn ask_two_units(
 }
 
 // A memory call, once the port is known.
-#[tactic(auto, unfolding(sequence_rules::specs::Calls::memory_at, sequence_rules::specs::Calls::one_unit, sequence_rules::specs::Calls::or_halt), using(crate::proofs::NotedLemmas::noted_none))]
+#[tactic(auto, unfolding(crate::proofs::Opened::memory_calls), using(crate::proofs::NotedLemmas::noted_none))]
 fn access_memory_at(
     size: u8,
     read: bool,

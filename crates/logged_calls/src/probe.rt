@@ -11,7 +11,7 @@ use sequence_rules::{low_bits, pins_command};
 use target_machine::{HaltCause, ProbeCall, Target};
 
 // A command whose result is dropped.
-#[tactic(auto, unfolding(sequence_rules::specs::Calls::zero_of, sequence_rules::specs::Direct::direct), using(crate::proofs::EndLemmas::ends_zero))]
+#[tactic(auto, unfolding(crate::proofs::Opened::answers), using(crate::proofs::EndLemmas::ends_zero))]
 fn command_without_result(
     call: ProbeCall,
     held: &mut Held,
@@ -25,7 +25,7 @@ fn command_without_result(
 }
 
 // `DAP_WriteABORT`, on debug port 0 alone.
-#[tactic(auto, unfolding(sequence_rules::specs::Calls::abort, sequence_rules::specs::Calls::abort_at, sequence_rules::specs::Calls::zero_of), using(crate::proofs::NotedLemmas::noted_none))]
+#[tactic(auto, unfolding(crate::proofs::Opened::aborts), using(crate::proofs::NotedLemmas::noted_none))]
 pub(crate) fn abort(value: u64, held: &mut Held, target: &mut Target) -> Result<u64, Stopped>
     ensures { MakesUnits held.old target.old held.new target.new result (λ s. c.zero_of (direct false) (c.abort (direct false) value s)) }
 {

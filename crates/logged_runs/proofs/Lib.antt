@@ -5,6 +5,7 @@ pub mod LoopEnds
 pub mod Loops
 pub mod Messages
 pub mod NoteLemmas
+pub mod Opened
 pub mod RunLemmas
 pub mod StartLemmas
 pub mod Turns

@@ -85,7 +85,7 @@ impl<'a> LoggedRunner<'a> {
 
     // A call: its arguments, and then the function.
     #[cycle(walk)]
-    #[tactic(auto, unfolding(sequence_rules::specs::Values::call_of, sequence_rules::specs::Calls::guarded, sequence_rules::specs::Values::numbers_of, sequence_rules::specs::Direct::direct), using(crate::proofs::Ends::ends_call, sequence_rules::proofs::NowLemmas::numbers_as))]
+    #[tactic(auto, unfolding(crate::proofs::Opened::calls), using(crate::proofs::Ends::ends_call, sequence_rules::proofs::NowLemmas::numbers_as))]
     pub(crate) fn call(
         &self,
         called: &'a CalledName,
@@ -114,7 +114,7 @@ impl<'a> LoggedRunner<'a> {
 
     // The function of a call.
     #[cycle(walk)]
-    #[tactic(auto, unfolding(sequence_rules::specs::Values::call_result, sequence_rules::specs::Calls::missing, sequence_rules::specs::Direct::direct, run_events::specs::OfValues::call_events))]
+    #[tactic(auto, unfolding(crate::proofs::Opened::callees))]
     fn call_function(
         &self,
         function: Option<Function>,
@@ -135,7 +135,7 @@ impl<'a> LoggedRunner<'a> {
 
     // A call of a function of the table.
     #[cycle(walk)]
-    #[tactic(auto, unfolding(sequence_rules::specs::Values::call_result, sequence_rules::specs::Calls::missing, sequence_rules::specs::Direct::direct, run_events::specs::OfValues::call_events))]
+    #[tactic(auto, unfolding(crate::proofs::Opened::callees))]
     fn call_known(
         &self,
         function: Function,
@@ -156,7 +156,7 @@ impl<'a> LoggedRunner<'a> {
 
     // A call of a sequence, from its call to its return.
     #[cycle(walk)]
-    #[tactic(auto, unfolding(sequence_rules::specs::Values::call_result, sequence_rules::specs::Direct::direct, run_events::specs::OfValues::called_events), using(crate::proofs::Ends::ends_sequence))]
+    #[tactic(auto, unfolding(crate::proofs::Opened::called_sequences), using(crate::proofs::Ends::ends_sequence))]
     fn call_sequence(
         &self,
         name: &'a str,
@@ -184,7 +184,7 @@ impl<'a> LoggedRunner<'a> {
 
     // The sequence of the name.
     #[cycle(walk)]
-    #[tactic(auto, unfolding(sequence_rules::specs::Steps::sequence_at, sequence_rules::specs::Calls::missing, sequence_rules::specs::Direct::direct, run_events::specs::OfRuns::sequence_events), using(crate::proofs::LoopEnds::sequence_on))]
+    #[tactic(auto, unfolding(crate::proofs::Opened::sequences), using(crate::proofs::LoopEnds::sequence_on))]
     pub(crate) fn run_named(
         &self,
         name: &'a str,

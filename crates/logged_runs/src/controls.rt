@@ -73,7 +73,7 @@ impl<'a> LoggedRunner<'a> {
 
     // Whether the `if` of a control is not 0.
     #[cycle(walk)]
-    #[tactic(auto, unfolding(sequence_rules::specs::Steps::condition, sequence_rules::specs::Values::used_now, sequence_rules::specs::Calls::use_now, sequence_rules::specs::Direct::direct, run_events::specs::OfSteps::condition_events), using(crate::proofs::Ends::ends_condition))]
+    #[tactic(auto, unfolding(crate::proofs::Opened::conditions), using(crate::proofs::Ends::ends_condition))]
     fn choose(
         &self,
         sequence: &'a str,
@@ -103,7 +103,7 @@ impl<'a> LoggedRunner<'a> {
 
     // The steps of a control, once or in turns.
     #[cycle(walk)]
-    #[tactic(auto, unfolding(sequence_rules::specs::Steps::repeat_result, sequence_rules::specs::Calls::given, sequence_rules::specs::Calls::missing, sequence_rules::specs::Direct::direct, run_events::specs::OfSteps::repeat_events))]
+    #[tactic(auto, unfolding(crate::proofs::Opened::repeats))]
     fn repeat_steps(
         &self,
         sequence: &'a str,
@@ -255,7 +255,7 @@ impl<'a> LoggedRunner<'a> {
 
     // A turn that was counted.
     #[cycle(walk)]
-    #[tactic(auto, unfolding(sequence_rules::specs::Values::used_now, sequence_rules::specs::Calls::use_now, sequence_rules::specs::Direct::direct, run_events::specs::OfSteps::tested_events), using(crate::proofs::Ends::ends_tested, crate::proofs::Ends::ends_body))]
+    #[tactic(auto, unfolding(crate::proofs::Opened::tested_turns), using(crate::proofs::Ends::ends_tested, crate::proofs::Ends::ends_body))]
     fn test_turn(
         &self,
         sequence: &'a str,

@@ -171,7 +171,7 @@ impl<'a> LoggedRunner<'a> {
 
     // A declaration.
     #[cycle(walk)]
-    #[tactic(auto, unfolding(sequence_rules::specs::Steps::after_counted, sequence_rules::specs::Steps::declared), using(crate::proofs::Ends::ends_counted, crate::proofs::Ends::declare_value))]
+    #[tactic(auto, unfolding(crate::proofs::Opened::declarations), using(crate::proofs::Ends::ends_counted, crate::proofs::Ends::declare_value))]
     fn declare(
         &self,
         name: &'a Name,
@@ -200,7 +200,7 @@ impl<'a> LoggedRunner<'a> {
 
     // An expression whose value is dropped.
     #[cycle(walk)]
-    #[tactic(auto, unfolding(sequence_rules::specs::Steps::after_counted, sequence_rules::specs::Steps::dropped), using(crate::proofs::Ends::ends_counted, crate::proofs::Ends::plain_value))]
+    #[tactic(auto, unfolding(crate::proofs::Opened::dropped_values), using(crate::proofs::Ends::ends_counted, crate::proofs::Ends::plain_value))]
     fn run_expression(
         &self,
         expr: &'a Expr,

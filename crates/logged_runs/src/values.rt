@@ -14,7 +14,7 @@ use target_machine::{HaltCause, Target};
 impl<'a> LoggedRunner<'a> {
     // The value of an expression.
     #[cycle(walk)]
-    #[tactic(auto, unfolding(sequence_rules::specs::Values::value, sequence_rules::specs::Values::named, sequence_rules::specs::Calls::given, sequence_rules::specs::Calls::missing, sequence_rules::specs::Direct::direct, run_events::specs::OfValues::value_events), using(crate::proofs::NoteLemmas::notes_none))]
+    #[tactic(auto, unfolding(crate::proofs::Opened::expressions), using(crate::proofs::NoteLemmas::notes_none))]
     pub(crate) fn evaluate(
         &self,
         expr: &'a Expr,
@@ -43,7 +43,7 @@ impl<'a> LoggedRunner<'a> {
 
     // An operator before its operand.
     #[cycle(walk)]
-    #[tactic(auto, unfolding(sequence_rules::specs::Values::of_unary, sequence_rules::specs::Values::used_now, sequence_rules::specs::Calls::use_now, sequence_rules::specs::Direct::direct), using(crate::proofs::Ends::ends_unary))]
+    #[tactic(auto, unfolding(crate::proofs::Opened::unary_operators), using(crate::proofs::Ends::ends_unary))]
     fn evaluate_unary(
         &self,
         op: UnaryOp,
@@ -61,7 +61,7 @@ impl<'a> LoggedRunner<'a> {
 
     // An operator of two operands that are both evaluated.
     #[cycle(walk)]
-    #[tactic(auto, unfolding(sequence_rules::specs::Values::strict_binary, sequence_rules::specs::Values::operands, sequence_rules::specs::Values::both, sequence_rules::specs::Values::result_of, sequence_rules::specs::Calls::use_now, sequence_rules::specs::Direct::direct), using(crate::proofs::Ends::ends_left, crate::proofs::Ends::ends_right))]
+    #[tactic(auto, unfolding(crate::proofs::Opened::strict_operators), using(crate::proofs::Ends::ends_left, crate::proofs::Ends::ends_right))]
     fn evaluate_strict(
         &self,
         op: BinaryOp,
@@ -93,7 +93,7 @@ impl<'a> LoggedRunner<'a> {
 
     // The right side counts only where the left one is not 0.
     #[cycle(walk)]
-    #[tactic(auto, unfolding(sequence_rules::specs::Values::conjunction, sequence_rules::specs::Values::used_now, sequence_rules::specs::Values::truth_of, sequence_rules::specs::Calls::use_now, sequence_rules::specs::Direct::direct), using(crate::proofs::Ends::ends_and, crate::proofs::Ends::ends_and_right))]
+    #[tactic(auto, unfolding(crate::proofs::Opened::conjunctions), using(crate::proofs::Ends::ends_and, crate::proofs::Ends::ends_and_right))]
     fn evaluate_and(
         &self,
         left: &'a Expr,
@@ -121,7 +121,7 @@ impl<'a> LoggedRunner<'a> {
 
     // The right side counts only where the left one is 0.
     #[cycle(walk)]
-    #[tactic(auto, unfolding(sequence_rules::specs::Values::disjunction, sequence_rules::specs::Values::used_now, sequence_rules::specs::Values::truth_of, sequence_rules::specs::Calls::use_now, sequence_rules::specs::Direct::direct), using(crate::proofs::Ends::ends_or, crate::proofs::Ends::ends_or_right))]
+    #[tactic(auto, unfolding(crate::proofs::Opened::disjunctions), using(crate::proofs::Ends::ends_or, crate::proofs::Ends::ends_or_right))]
     fn evaluate_or(
         &self,
         left: &'a Expr,
@@ -171,7 +171,7 @@ impl<'a> LoggedRunner<'a> {
 
     // One of two, by a condition.
     #[cycle(walk)]
-    #[tactic(auto, unfolding(sequence_rules::specs::Values::choice, sequence_rules::specs::Values::used_now, sequence_rules::specs::Calls::use_now, sequence_rules::specs::Direct::direct), using(crate::proofs::Ends::ends_choice))]
+    #[tactic(auto, unfolding(crate::proofs::Opened::choices), using(crate::proofs::Ends::ends_choice))]
     fn evaluate_choice(
         &self,
         test: &'a Expr,
@@ -197,7 +197,7 @@ impl<'a> LoggedRunner<'a> {
 
     // An assignment.
     #[cycle(walk)]
-    #[tactic(auto, unfolding(sequence_rules::specs::Values::assigned, sequence_rules::specs::Values::stored, sequence_rules::specs::Calls::guarded, sequence_rules::specs::Direct::direct), using(crate::proofs::Ends::ends_assigned))]
+    #[tactic(auto, unfolding(crate::proofs::Opened::assignments), using(crate::proofs::Ends::ends_assigned))]
     fn assign(
         &self,
         name: &'a Name,

@@ -244,7 +244,7 @@ fn push_in_group<'a>(
 }
 
 // The count, and one more where there is one.
-fn counted(count: usize, is_one: bool) -> usize
+fn add_if(count: usize, is_one: bool) -> usize
     requires { is_one ≡ true → count < usize.MAX }
     ensures { result ≡ count + (if is_one then 1 else 0) }
 {
@@ -267,7 +267,7 @@ fn push_counted<'a>(
 {
     let before = found.sets.len();
     push_in_group(alloc, pack, request, place, shared, found)?;
-    found.devices = counted(found.devices, before < found.sets.len());
+    found.devices = add_if(found.devices, before < found.sets.len());
     Ok(())
 }
 

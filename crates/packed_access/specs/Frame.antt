@@ -1,5 +1,6 @@
 -- The frame of a step of a sender: what may be asked of it, what it keeps, and how it ends.
 use Rattle.std.specs.Prelude.{◌≡◌, ℕ, ◌+◌, ◌*◌, ◌≤◌, [], length, Some, None, Result, IfErr, OnOk}
+use Rattle.access_regs.specs.Kept.{Kept}
 use Rattle.access_calls.specs.Answers.{NoMemory}
 use Rattle.access_calls.specs.GoesOn.{GoesOn}
 use Rattle.access_calls.specs.declared.stop.Stop.{Stop}
@@ -48,21 +49,41 @@ pub record EndsBy {T : Type 0} (result : Result T Stop) (new : SenderView) : Typ
   pub ended : IfErr result (λ s. new.log.end ≡ Some s)
   pub memory : IfErr result NoMemory
 
--- No need point came. Where the step answers, entries were issued and results came, and nothing else changed in what is kept of the calls.
-pub record Further {T : Type 0} (result : Result T Stop) (old new : SenderView) : Type 0 where
+-- What a step of a sender keeps, and how it ends.
+pub record Steps {T : Type 0} (result : Result T Stop) (old new : SenderView) : Type 0 where
+  pub keeps : Keeps old new
+  pub ends : EndsBy result new
+
+-- ---- kinds of steps
+
+-- A step that sends the flight, or makes a command or a poll: no need point comes, and the same is known of the registers.
+pub record Exchanges {T : Type 0} (result : Result T Stop) (old new : SenderView) : Type 0 where
+  pub step : Steps result old new
+  pub asks : asks_of new.log ≡ asks_of old.log
+  pub managed : new.managed ≡ old.managed
+
+-- A step that issues accesses: no need point comes, and this is known of the registers. Where it answers, entries were issued and results
+-- came, and nothing else changed in what is kept of the calls.
+pub record Further {T : Type 0} (result : Result T Stop) (known : Kept) (old new : SenderView) : Type 0 where
+  pub step : Steps result old new
   pub asks : asks_of new.log ≡ asks_of old.log
   pub so : OnOk result (IsFurther old.log new.log)
+  pub managed : new.managed ≡ known
 
--- Where the step answers, at most so many entries were issued, and no call more is issued whole.
+-- A step that issues parts of a unit: where it answers, at most so many entries were issued, and no call more is issued whole.
 pub record IssuesFew {T : Type 0} (result : Result T Stop) (count : ℕ) (old new : SenderView) : Type 0 where
+  pub step : Steps result old new
   pub entries : OnOk result (length new.log.entries ≤ length old.log.entries + count)
   pub whole : OnOk result (new.log.whole ≡ old.log.whole)
   pub room : OnOk result (new.log.room ≡ old.log.room)
 
--- No need point came. Where the step answers, all that was issued for the last call came, and the flight is empty.
-pub record Tries {T : Type 0} (result : Result T Stop) (old new : SenderView) : Type 0 where
+-- A step that makes parts of a unit alone: no need point comes. Where it answers, at most so many entries were issued, all of them came, and
+-- the flight is empty.
+pub record Tries {T : Type 0} (result : Result T Stop) (count : ℕ) (old new : SenderView) : Type 0 where
+  pub step : Steps result old new
   pub asks : asks_of new.log ≡ asks_of old.log
   pub further : OnOk result (IsFurther old.log new.log)
+  pub entries : OnOk result (length new.log.entries ≤ length old.log.entries + count)
   pub later : OnOk result (old.log.confirmed ≤ new.log.confirmed)
   pub came : OnOk result (new.log.came ≡ new.log.whole)
   pub empty : OnOk result (new.accesses ≡ [])

@@ -14,7 +14,7 @@ ghost use Rattle.target_calls.specs.Asks.{is_forgiving};
 ghost use Rattle.probe_core.specs.Probe.{target_of};
 ghost use Rattle.target_machine.specs.declared.unit.Call.TheVariants.{Access};
 ghost use Rattle.packed_access.specs.Gives.{AsksFor, Plans};
-ghost use Rattle.packed_access.specs.Frame.{AsksWhole, CanIssue, EndsBy, IssuesFew, Keeps};
+ghost use Rattle.packed_access.specs.Frame.{AsksWhole, CanIssue, IssuesFew, Steps};
 ghost use Rattle.packed_access.specs.Views.{IsAsked, IsBegun, IsToIssue};
 
 use crate::seen::Seen;
@@ -43,8 +43,6 @@ impl<F: Flights> Sender<F> {
             → IsToIssue (⟦<Self as Seen>⟧.view self.old) (steps_left self.old.log (by_cfg (target_issued F.planner self.old.log m0) self.old.managed unit.now).steps) m0
             → OnOk result (asks_of self.new.log
             ≡ asks_of (with_needs self.old.log (reads_before (target_issued F.planner self.old.log m0) self.old.managed unit.now) (length self.old.log.calls - 1))) }
-        ensures keeps { Keeps (⟦<Self as Seen>⟧.view self.old) (⟦<Self as Seen>⟧.view self.new) }
-        ensures ends { EndsBy result (⟦<Self as Seen>⟧.view self.new) }
         ensures issues { IssuesFew result 9 (⟦<Self as Seen>⟧.view self.old) (⟦<Self as Seen>⟧.view self.new) }
         ensures empty { IfOk result (λ small. small ≡ true → F.accesses self.new.flights ≡ []) }
         ensures pending { IfOk result (λ small. small ≡ false → self.new.log.confirmed < length self.new.log.entries) }
@@ -85,8 +83,6 @@ impl<F: Flights> Sender<F> {
         ensures small { (m0 : BenchState) (calls : List Ask) (ask : Ask) → ask.call ≡ Access unit.now → is_forgiving ask ≡ false
             → IsAsked (⟦<Self as Seen>⟧.view self.old) calls ask m0
             → IfOk result (λ small. small ≡ small_now (start_world (target_of m0.probe) None) calls ask) }
-        ensures keeps { Keeps (⟦<Self as Seen>⟧.view self.old) (⟦<Self as Seen>⟧.view self.new) }
-        ensures ends { EndsBy result (⟦<Self as Seen>⟧.view self.new) }
         ensures issues { IssuesFew result 11 (⟦<Self as Seen>⟧.view self.old) (⟦<Self as Seen>⟧.view self.new) }
         ensures empty { IfOk result (λ small. small ≡ true → F.accesses self.new.flights ≡ []) }
         ensures pending { IfOk result (λ small. small ≡ false → self.new.log.confirmed < length self.new.log.entries) }
@@ -115,8 +111,7 @@ impl<F: Flights> Sender<F> {
         ensures small { (m0 : BenchState) (calls : List Ask) (ask : Ask) → ask.call ≡ Access unit.now → is_forgiving ask ≡ false
             → IsAsked (⟦<Self as Seen>⟧.view self.old) calls ask m0
             → IfOk result (λ small. small ≡ small_now (start_world (target_of m0.probe) None) calls ask) }
-        ensures keeps { Keeps (⟦<Self as Seen>⟧.view self.old) (⟦<Self as Seen>⟧.view self.new) }
-        ensures ends { EndsBy result (⟦<Self as Seen>⟧.view self.new) }
+        ensures step { Steps result (⟦<Self as Seen>⟧.view self.old) (⟦<Self as Seen>⟧.view self.new) }
         ensures asks { AsksWhole result (⟦<Self as Seen>⟧.view self.new) }
         ensures fenced { OnOk result (self.new.log.known < self.new.log.fence → self.old.log.known < self.old.log.fence) }
     {

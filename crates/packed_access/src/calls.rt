@@ -14,7 +14,7 @@ ghost use Rattle.probe_core.specs.Probe.{target_of};
 ghost use Rattle.access_regs.specs.Costs.{command_cost};
 ghost use Rattle.access_regs.specs.Journal.{is_alone};
 ghost use Rattle.packed_access.specs.Gives.{AsksFor};
-ghost use Rattle.packed_access.specs.Frame.{AsksWhole, CanIssue, EndsBy, Keeps};
+ghost use Rattle.packed_access.specs.Frame.{AsksWhole, CanIssue, Steps};
 ghost use Rattle.packed_access.specs.Views.{IsAsked, IsBegun};
 
 use crate::access::PackedAccess;
@@ -101,8 +101,7 @@ impl<F: Flights> Sender<F> {
             (λ m0 ask. (IsSetTo config.idle config.retry m0) × (ask ≡ unit_ask unit.now forgive)) IsBegun }
         ensures small { (m0 : BenchState) (calls : List Ask) (ask : Ask) → IsSetTo config.idle config.retry m0 → ask ≡ unit_ask unit.now forgive
             → IsAsked (⟦<Self as Seen>⟧.view self.old) calls ask m0 → IfOk result (λ small. small ≡ small_now (start_world (target_of m0.probe) None) calls ask) }
-        ensures keeps { Keeps (⟦<Self as Seen>⟧.view self.old) (⟦<Self as Seen>⟧.view self.new) }
-        ensures ends { EndsBy result (⟦<Self as Seen>⟧.view self.new) }
+        ensures step { Steps result (⟦<Self as Seen>⟧.view self.old) (⟦<Self as Seen>⟧.view self.new) }
         ensures asks { AsksWhole result (⟦<Self as Seen>⟧.view self.new) }
         ensures fenced { OnOk result (self.new.log.known < self.new.log.fence → self.old.log.known < self.old.log.fence) }
     {

@@ -22,7 +22,7 @@ ghost use Rattle.access_regs.specs.Kept.{Kept, known, selected};
 ghost use Rattle.access_regs.specs.Plan.{needs_cfg, select_value};
 ghost use Rattle.access_regs.specs.declared.planner.Planner.TheVariants.{Managed};
 ghost use Rattle.packed_access.specs.Gives.{AsksFor};
-ghost use Rattle.packed_access.specs.Frame.{AsksWhole, CanIssue, CanTry, EndsBy, Keeps, Tries};
+ghost use Rattle.packed_access.specs.Frame.{AsksWhole, CanIssue, CanTry, Steps, Tries};
 ghost use Rattle.packed_access.specs.Views.{IsAsked, IsBegun, IsBroken, IsTried};
 
 use crate::log::CallLog;
@@ -107,10 +107,7 @@ impl<F: Flights> Sender<F> {
             → rest ≡ memory_actions (after t (making made)) large size read ap address value
             → IfErr result (IsBroken (⟦<Self as Seen>⟧.view self.new) self.old.log.calls m0) }
         ensures packets { F.planner ≡ Managed → OnOk result (StepsTo (λ m o. CanFly m → SendsFew 3 m o) (F.state self.old.flights) (F.state self.new.flights)) }
-        ensures keeps { Keeps (⟦<Self as Seen>⟧.view self.old) (⟦<Self as Seen>⟧.view self.new) }
-        ensures ends { EndsBy result (⟦<Self as Seen>⟧.view self.new) }
-        ensures tries { Tries result (⟦<Self as Seen>⟧.view self.old) (⟦<Self as Seen>⟧.view self.new) }
-        ensures entries { OnOk result (length self.new.log.entries ≤ length self.old.log.entries + 8) }
+        ensures tries { Tries result 8 (⟦<Self as Seen>⟧.view self.old) (⟦<Self as Seen>⟧.view self.new) }
         ensures managed { self.new.managed ≡ selected self.old.managed (select_value ap 0) }
     {
         let csw = match self.try_port(ap, 0, access_ap(true, CSW, 0), false, forgive) {
@@ -165,10 +162,7 @@ impl<F: Flights> Sender<F> {
             → IfErr result (IsBroken (⟦<Self as Seen>⟧.view self.new) self.old.log.calls m0) }
         ensures reads { IfOk result (λ r. r.reads ≤ 2) }
         ensures packets { F.planner ≡ Managed → OnOk result (StepsTo (λ m o. CanFly m → SendsFew 4 m o) (F.state self.old.flights) (F.state self.new.flights)) }
-        ensures keeps { Keeps (⟦<Self as Seen>⟧.view self.old) (⟦<Self as Seen>⟧.view self.new) }
-        ensures ends { EndsBy result (⟦<Self as Seen>⟧.view self.new) }
-        ensures tries { Tries result (⟦<Self as Seen>⟧.view self.old) (⟦<Self as Seen>⟧.view self.new) }
-        ensures entries { OnOk result (length self.new.log.entries ≤ length self.old.log.entries + 11) }
+        ensures tries { Tries result 11 (⟦<Self as Seen>⟧.view self.old) (⟦<Self as Seen>⟧.view self.new) }
         ensures calm { self.new.managed.unsettled ≡ None }
     {
         let cfg = match self.try_port(ap, CFG / 16, access_ap(true, CFG % 16, 0), false, forgive) {
@@ -203,10 +197,7 @@ impl<F: Flights> Sender<F> {
             → IfErr result (IsBroken (⟦<Self as Seen>⟧.view self.new) self.old.log.calls m0) }
         ensures reads { IfOk result (λ r. r.reads ≤ 2) }
         ensures packets { F.planner ≡ Managed → OnOk result (StepsTo (λ m o. CanFly m → SendsFew 4 m o) (F.state self.old.flights) (F.state self.new.flights)) }
-        ensures keeps { Keeps (⟦<Self as Seen>⟧.view self.old) (⟦<Self as Seen>⟧.view self.new) }
-        ensures ends { EndsBy result (⟦<Self as Seen>⟧.view self.new) }
-        ensures tries { Tries result (⟦<Self as Seen>⟧.view self.old) (⟦<Self as Seen>⟧.view self.new) }
-        ensures entries { OnOk result (length self.new.log.entries ≤ length self.old.log.entries + 11) }
+        ensures tries { Tries result 11 (⟦<Self as Seen>⟧.view self.old) (⟦<Self as Seen>⟧.view self.new) }
         ensures calm { self.new.managed.unsettled ≡ None }
     {
         match *unit {
@@ -251,8 +242,7 @@ impl<F: Flights> Sender<F> {
         ensures gives { AsksFor result (⟦<Self as Seen>⟧.view self.old) (⟦<Self as Seen>⟧.view self.new) (λ m0 ask. ask ≡ unit_ask unit.now forgive) IsBegun }
         ensures small { (m0 : BenchState) (calls : List Ask) (ask : Ask) → ask ≡ unit_ask unit.now forgive → IsAsked (⟦<Self as Seen>⟧.view self.old) calls ask m0
             → IfOk result (λ small. small ≡ small_now (start_world (target_of m0.probe) None) calls ask) }
-        ensures keeps { Keeps (⟦<Self as Seen>⟧.view self.old) (⟦<Self as Seen>⟧.view self.new) }
-        ensures ends { EndsBy result (⟦<Self as Seen>⟧.view self.new) }
+        ensures step { Steps result (⟦<Self as Seen>⟧.view self.old) (⟦<Self as Seen>⟧.view self.new) }
         ensures asks { AsksWhole result (⟦<Self as Seen>⟧.view self.new) }
         ensures fenced { OnOk result (self.new.log.known < self.new.log.fence → self.old.log.known < self.old.log.fence) }
     {

@@ -24,9 +24,9 @@ ghost use Rattle.target_calls.specs.declared.journal.Part.TheVariants.{Ends, Lea
 ghost use Rattle.access_regs.specs.declared.planner.Planner.TheVariants.{Managed};
 ghost use Rattle.packed_access.specs.Begun.{StopsThere, entries_of, target_issued};
 ghost use Rattle.packed_access.specs.Actions.{entry_of, log_done};
-ghost use Rattle.packed_access.specs.Logs.{IsOfCall, IsSoundState, all_confirmed, all_taken, asks_of, ended_by, result_for};
+ghost use Rattle.packed_access.specs.Logs.{IsOfCall, IsSoundState, all_confirmed, all_taken, ended_by, result_for};
 ghost use Rattle.packed_access.specs.Gives.{Issues, Sends};
-ghost use Rattle.packed_access.specs.Frame.{CanAdd, EndsBy, Further, Keeps};
+ghost use Rattle.packed_access.specs.Frame.{CanAdd, Exchanges, Further};
 ghost use Rattle.packed_access.specs.Views.{HasSpace, IsAtEnd, IsSparing, IsToIssue, IsToIssueNext, access_view};
 
 use crate::log::CallLog;
@@ -74,14 +74,12 @@ impl<F: Flights> Sender<F> {
             → e.action ≡ Makes next → IsSparing (⟦<Self as Seen>⟧.view self.old) points m0
             → (F.planner ≡ Managed → IsFull (F.limits self.old.flights) (F.accesses self.old.flights) next)
             → OnOk result (IsSparing (⟦<Self as Seen>⟧.view self.new) points m0) }
-        ensures keeps { Keeps (⟦<Self as Seen>⟧.view self.old) (⟦<Self as Seen>⟧.view self.new) }
-        ensures ends { EndsBy result (⟦<Self as Seen>⟧.view self.new) }
+        ensures exchanges { Exchanges result (⟦<Self as Seen>⟧.view self.old) (⟦<Self as Seen>⟧.view self.new) }
         ensures log { OnOk result (self.new.log ≡ all_confirmed (all_taken (F.values self.new.flights) self.old.log)) }
         ensures ended { IfErr result (λ s. self.new.log ≡ ended_by s self.old.log self.new.log) }
         ensures empty { F.accesses self.new.flights ≡ [] }
         ensures space { OnOk result (HasSpace (⟦<Self as Seen>⟧.view self.new)) }
         ensures some { IfErr result (λ s. AtCut s (λ r. 0 < length (F.accesses self.old.flights))) }
-        ensures managed { self.new.managed ≡ self.old.managed }
     {
         match self.flights.send() {
             Ok(()) => {
@@ -110,12 +108,9 @@ impl<F: Flights> Sender<F> {
             → IfErr result (IsAtEnd (⟦<Self as Seen>⟧.view self.new) m0) }
         ensures stops { (m0 : BenchState) (rest : List Entry) (answered : Option ℕ) → IsToIssue (⟦<Self as Seen>⟧.view self.old) rest m0
             → IsLeft (access_view (⟦<Self as Seen>⟧.view self.new)) answered → IfErr result (StopsThere m0 answered self.old.log.calls self.new.log.lines) }
-        ensures keeps { Keeps (⟦<Self as Seen>⟧.view self.old) (⟦<Self as Seen>⟧.view self.new) }
-        ensures ends { EndsBy result (⟦<Self as Seen>⟧.view self.new) }
-        ensures further { Further result (⟦<Self as Seen>⟧.view self.old) (⟦<Self as Seen>⟧.view self.new) }
+        ensures further { Further result self.old.managed (⟦<Self as Seen>⟧.view self.old) (⟦<Self as Seen>⟧.view self.new) }
         ensures entries { OnOk result (self.new.log.entries ≡ self.old.log.entries ++ record { unit = unit; part = part } ∷ []) }
         ensures pending { OnOk result (self.new.log.confirmed < length self.new.log.entries) }
-        ensures managed { self.new.managed ≡ self.old.managed }
     {
         if !self.flights.room(access) {
             match self.send() {
@@ -141,12 +136,9 @@ impl<F: Flights> Sender<F> {
         requires unit { 0 < length accesses.now → IsOfCall (length self.old.log.calls) (record { unit = unit; part = part }) }
         requires later { 0 < length accesses.now → self.old.log.whole ≤ lines_before_kept (record { unit = unit; part = part }) }
         ensures gives { Issues result (⟦<Self as Seen>⟧.view self.old) (⟦<Self as Seen>⟧.view self.new) (λ rest. entries_of unit part accesses.now ++ rest) }
-        ensures keeps { Keeps (⟦<Self as Seen>⟧.view self.old) (⟦<Self as Seen>⟧.view self.new) }
-        ensures ends { EndsBy result (⟦<Self as Seen>⟧.view self.new) }
-        ensures further { Further result (⟦<Self as Seen>⟧.view self.old) (⟦<Self as Seen>⟧.view self.new) }
+        ensures further { Further result self.old.managed (⟦<Self as Seen>⟧.view self.old) (⟦<Self as Seen>⟧.view self.new) }
         ensures entries { OnOk result (length self.new.log.entries ≡ length self.old.log.entries + length accesses.now) }
         ensures pending { OnOk result (0 < length accesses.now → self.new.log.confirmed < length self.new.log.entries) }
-        ensures managed { self.new.managed ≡ self.old.managed }
     {
         for access in accesses {
             match self.issue(unit, part, *access) {
@@ -169,13 +161,10 @@ impl<F: Flights> Sender<F> {
         ensures value { (m0 : BenchState) (lead : List RegAccess) (a : RegAccess) (rest : List Entry) → accesses.now ≡ lead ++ a ∷ []
             → IsToIssue (⟦<Self as Seen>⟧.view self.old) (entries_of unit Leads accesses.now ++ rest) m0
             → IfOk result (λ v. v ≡ gives (target_issued F.planner self.old.log m0) accesses.now) }
-        ensures keeps { Keeps (⟦<Self as Seen>⟧.view self.old) (⟦<Self as Seen>⟧.view self.new) }
-        ensures ends { EndsBy result (⟦<Self as Seen>⟧.view self.new) }
-        ensures further { Further result (⟦<Self as Seen>⟧.view self.old) (⟦<Self as Seen>⟧.view self.new) }
+        ensures further { Further result self.old.managed (⟦<Self as Seen>⟧.view self.old) (⟦<Self as Seen>⟧.view self.new) }
         ensures entries { OnOk result (length self.new.log.entries ≡ length self.old.log.entries + length accesses.now) }
         ensures came { OnOk result (self.new.log.known ≡ self.new.log.whole) }
         ensures empty { OnOk result (F.accesses self.new.flights ≡ []) }
-        ensures managed { self.new.managed ≡ self.old.managed }
     {
         match self.issue_all(unit, Part::Leads, accesses) {
             Ok(()) => {}
@@ -196,11 +185,8 @@ impl<F: Flights> Sender<F> {
         requires later { 0 < length (settle self.old.managed) → self.old.log.whole ≤ unit }
         ensures gives { Issues result (⟦<Self as Seen>⟧.view self.old) (⟦<Self as Seen>⟧.view self.new)
             (λ rest. entries_of unit Settles (settle self.old.managed) ++ rest) }
-        ensures keeps { Keeps (⟦<Self as Seen>⟧.view self.old) (⟦<Self as Seen>⟧.view self.new) }
-        ensures ends { EndsBy result (⟦<Self as Seen>⟧.view self.new) }
-        ensures further { Further result (⟦<Self as Seen>⟧.view self.old) (⟦<Self as Seen>⟧.view self.new) }
+        ensures further { Further result (settled self.old.managed) (⟦<Self as Seen>⟧.view self.old) (⟦<Self as Seen>⟧.view self.new) }
         ensures entries { OnOk result (length self.new.log.entries ≡ length self.old.log.entries + length (settle self.old.managed)) }
-        ensures managed { self.new.managed ≡ settled self.old.managed }
     {
         let plan = self.managed.settle();
         self.managed.note_settled();
@@ -225,13 +211,10 @@ impl<F: Flights> Sender<F> {
         ensures stops { (m0 : BenchState) (calls : List Ask) (answered : Option ℕ) → self.old.log.calls ≡ calls ++ probe_ask call ∷ []
             → IsToIssueNext (⟦<Self as Seen>⟧.view self.old) (entry_of calls (Commands call) ∷ []) m0
             → IsLeft (access_view (⟦<Self as Seen>⟧.view self.new)) answered → IfErr result (StopsThere m0 answered self.old.log.calls self.new.log.lines) }
-        ensures keeps { Keeps (⟦<Self as Seen>⟧.view self.old) (⟦<Self as Seen>⟧.view self.new) }
-        ensures ends { EndsBy result (⟦<Self as Seen>⟧.view self.new) }
+        ensures exchanges { Exchanges result (⟦<Self as Seen>⟧.view self.old) (⟦<Self as Seen>⟧.view self.new) }
         ensures log { IfOk result (λ word. self.new.log ≡ log_done self.old.log (record { unit = length self.old.log.calls; part = Ends }) (self.old.log.came)
             (result_for (slice_get self.old.log.calls self.old.log.came) word)) }
         ensures empty { OnOk result (F.accesses self.new.flights ≡ []) }
-        ensures asks { asks_of self.new.log ≡ asks_of self.old.log }
-        ensures managed { self.new.managed ≡ self.old.managed }
     {
         let unit = self.log.count();
         self.log.issue(unit, Part::Ends);

@@ -16,7 +16,7 @@ ghost use Rattle.packed_access.specs.Logs.{asks_of, most_entries, with_needs};
 ghost use Rattle.target_machine.specs.declared.unit.Call.TheVariants.{Access};
 ghost use Rattle.target_machine.specs.declared.unit.Unit.TheVariants as unit;
 ghost use Rattle.packed_access.specs.Gives.{AsksFor, Issues, Plans, Reads};
-ghost use Rattle.packed_access.specs.Frame.{AsksWhole, CanIssue, EndsBy, Further, IssuesFew, Keeps};
+ghost use Rattle.packed_access.specs.Frame.{AsksWhole, CanIssue, Further, IssuesFew, Steps};
 ghost use Rattle.packed_access.specs.Views.{IsBegun, IsPaid, IsToIssue};
 
 use crate::issuing::list_accesses;
@@ -54,8 +54,6 @@ impl<F: Flights> Sender<F> {
         ensures large { (m0 : BenchState) (rest : List Entry)
             → IsToIssue (⟦<Self as Seen>⟧.view self.old) (entries_of (length self.old.log.calls) Leads (cfg_plan self.old.managed (port_of unit.now)) ++ rest) m0
             → IfOk result (λ large. large ≡ has_bit (gives (target_issued F.planner self.old.log m0) (cfg_plan self.old.managed (port_of unit.now))) cfg_la) }
-        ensures keeps { Keeps (⟦<Self as Seen>⟧.view self.old) (⟦<Self as Seen>⟧.view self.new) }
-        ensures ends { EndsBy result (⟦<Self as Seen>⟧.view self.new) }
         ensures issues { IssuesFew result 2 (⟦<Self as Seen>⟧.view self.old) (⟦<Self as Seen>⟧.view self.new) }
         ensures empty { OnOk result (F.accesses self.new.flights ≡ []) }
         ensures places { OnOk result (self.new.log.places ≡ self.old.log.places) }
@@ -86,8 +84,6 @@ impl<F: Flights> Sender<F> {
         ensures spare { (m0 : BenchState) (rest : List Entry) (left : ℕ)
             → IsToIssue (⟦<Self as Seen>⟧.view self.old) (entries_of (length self.old.log.calls) Leads (first_plan self.old.managed (port_of unit.now)) ++ rest) m0
             → IsPaid (⟦<Self as Seen>⟧.view self.old) left m0 → OnOk result (IsPaid (⟦<Self as Seen>⟧.view self.new) left m0) }
-        ensures keeps { Keeps (⟦<Self as Seen>⟧.view self.old) (⟦<Self as Seen>⟧.view self.new) }
-        ensures ends { EndsBy result (⟦<Self as Seen>⟧.view self.new) }
         ensures issues { IssuesFew result 2 (⟦<Self as Seen>⟧.view self.old) (⟦<Self as Seen>⟧.view self.new) }
         ensures empty { OnOk result (F.accesses self.new.flights ≡ []) }
         ensures places { OnOk result (self.new.log.places ≡ self.old.log.places) }
@@ -115,12 +111,9 @@ impl<F: Flights> Sender<F> {
         ensures gives { Issues result (⟦<Self as Seen>⟧.view self.old) (⟦<Self as Seen>⟧.view self.new)
             (λ rest. entries_of (length self.old.log.calls) Leads (leads self.old.managed unit.now)
             ++ (entries_of (length self.old.log.calls) Ends (last_access unit.now ∷ []) ++ rest)) }
-        ensures keeps { Keeps (⟦<Self as Seen>⟧.view self.old) (⟦<Self as Seen>⟧.view self.new) }
-        ensures ends { EndsBy result (⟦<Self as Seen>⟧.view self.new) }
-        ensures further { Further result (⟦<Self as Seen>⟧.view self.old) (⟦<Self as Seen>⟧.view self.new) }
+        ensures further { Further result (made self.old.managed unit.now) (⟦<Self as Seen>⟧.view self.old) (⟦<Self as Seen>⟧.view self.new) }
         ensures entries { OnOk result (length self.new.log.entries ≤ length self.old.log.entries + 5) }
         ensures pending { OnOk result (self.new.log.confirmed < length self.new.log.entries) }
-        ensures managed { self.new.managed ≡ made self.old.managed unit.now }
     {
         let plan = self.managed.plan(unit);
         self.managed.note_made(unit);
@@ -145,8 +138,6 @@ impl<F: Flights> Sender<F> {
         ensures kept { (m0 : BenchState)
             → IsToIssue (⟦<Self as Seen>⟧.view self.old) (steps_left self.old.log (by_csw (target_issued F.planner self.old.log m0) self.old.managed unit.now).steps) m0
             → OnOk result (self.new.managed ≡ (by_csw (target_issued F.planner self.old.log m0) self.old.managed unit.now).kept) }
-        ensures keeps { Keeps (⟦<Self as Seen>⟧.view self.old) (⟦<Self as Seen>⟧.view self.new) }
-        ensures ends { EndsBy result (⟦<Self as Seen>⟧.view self.new) }
         ensures issues { IssuesFew result 7 (⟦<Self as Seen>⟧.view self.old) (⟦<Self as Seen>⟧.view self.new) }
         ensures pending { OnOk result (self.new.log.confirmed < length self.new.log.entries) }
         ensures asks { OnOk result (asks_of self.new.log
@@ -175,8 +166,7 @@ impl<F: Flights> Sender<F> {
         requires sound { IsSound (unit.Poll mask requested turns) }
         ensures gives { AsksFor result (⟦<Self as Seen>⟧.view self.old) (⟦<Self as Seen>⟧.view self.new)
             (λ m0 ask. (IsSetTo config.idle config.retry m0) × (ask.call ≡ Access (unit.Poll mask requested turns))) IsBegun }
-        ensures keeps { Keeps (⟦<Self as Seen>⟧.view self.old) (⟦<Self as Seen>⟧.view self.new) }
-        ensures ends { EndsBy result (⟦<Self as Seen>⟧.view self.new) }
+        ensures step { Steps result (⟦<Self as Seen>⟧.view self.old) (⟦<Self as Seen>⟧.view self.new) }
         ensures asks { AsksWhole result (⟦<Self as Seen>⟧.view self.new) }
         ensures fenced { OnOk result (self.new.log.known < self.new.log.fence → self.old.log.known < self.old.log.fence) }
     {

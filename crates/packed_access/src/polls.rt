@@ -14,9 +14,8 @@ ghost use Rattle.access_calls.specs.Left.{IsLeft};
 ghost use Rattle.batch_packer.specs.Flying.{CanFly};
 ghost use Rattle.packed_access.specs.Begun.{StopsThere};
 ghost use Rattle.bench_flights.specs.Flown.{CanMatch, HasDone, KeepsFlights, LeftOff, NamesNone, SendsFew, matched_word};
-ghost use Rattle.packed_access.specs.Logs.{asks_of};
 ghost use Rattle.packed_access.specs.Polls.{HasPoll};
-ghost use Rattle.packed_access.specs.Frame.{CanAdd, EndsBy, Keeps};
+ghost use Rattle.packed_access.specs.Frame.{CanAdd, Exchanges};
 ghost use Rattle.packed_access.specs.Views.{IsAtEnd, IsSparing, IsToIssueNext, access_view};
 
 use crate::seen::Seen;
@@ -115,15 +114,12 @@ impl<F: Flights> Sender<F> {
         ensures stops { (m0 : BenchState) (calls : List Ask) (ask : Ask) (answered : Option ℕ)
             → HasPoll F.planner (F.state self.old.flights) self.old.log self.old.managed calls ask mask requested turns config.idle config.retry m0
             → IsLeft (access_view (⟦<Self as Seen>⟧.view self.new)) answered → IfErr result (StopsThere m0 answered self.old.log.calls self.new.log.lines) }
-        ensures keeps { Keeps (⟦<Self as Seen>⟧.view self.old) (⟦<Self as Seen>⟧.view self.new) }
-        ensures ends { EndsBy result (⟦<Self as Seen>⟧.view self.new) }
+        ensures exchanges { Exchanges result (⟦<Self as Seen>⟧.view self.old) (⟦<Self as Seen>⟧.view self.new) }
         ensures known { OnOk result (self.new.log.known ≡ length self.new.log.calls) }
         ensures whole { OnOk result (self.new.log.whole ≡ length self.new.log.calls) }
         ensures entries { OnOk result (length self.new.log.entries ≡ length self.old.log.entries + 1) }
         ensures room_same { OnOk result (self.new.log.room ≡ self.old.log.room) }
         ensures empty { OnOk result (F.accesses self.new.flights ≡ []) }
-        ensures asks { asks_of self.new.log ≡ asks_of self.old.log }
-        ensures managed { self.new.managed ≡ self.old.managed }
     {
         let unit = self.log.count();
         let zero = self.polls_by_matches();

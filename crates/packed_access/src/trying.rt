@@ -1,5 +1,5 @@
 //! Flights of a unit that forgives a fault, of which only the last access may fault.
-ghost use Rattle.std.specs.Prelude.{if◌then◌else◌, ◌≡◌, ◌<◌, ◌≤◌, ◌+◌, ◌++◌, ◌∷◌, [], Bool, List, None, true, length, IfErr, IfOk, IfSome, OnOk};
+ghost use Rattle.std.specs.Prelude.{if◌then◌else◌, ◌≡◌, ◌<◌, ◌≤◌, ◌+◌, ◌++◌, ◌∷◌, [], Bool, List, None, true, length, IfErr, IfOk, IfSome};
 ghost use Rattle.std.specs.List.{AllByRecursion};
 ghost use Rattle.target_machine.specs.Plain.{Action, select_of};
 ghost use Rattle.target_machine.specs.State.{TargetState};
@@ -18,7 +18,7 @@ ghost use Rattle.access_regs.specs.Kept.{Kept, selected};
 ghost use Rattle.access_regs.specs.Plan.{select_value};
 ghost use Rattle.access_regs.specs.declared.planner.Planner.TheVariants.{Managed};
 ghost use Rattle.packed_access.specs.Gives.{TriesNext};
-ghost use Rattle.packed_access.specs.Frame.{CanAdd, CanTry, EndsBy, Keeps, Tries};
+ghost use Rattle.packed_access.specs.Frame.{CanAdd, CanTry, Tries};
 ghost use Rattle.packed_access.specs.Views.{HasSpace, IsBroken, IsTried};
 
 use crate::seen::Seen;
@@ -68,12 +68,9 @@ impl<F: Flights> Sender<F> {
         requires taken { AllByRecursion IsTaken leads.now }
         requires last { IsTaken last }
         ensures gives { TriesNext result (⟦<Self as Seen>⟧.view self.old) (⟦<Self as Seen>⟧.view self.new) forgive leads.now last ends }
-        ensures keeps { Keeps (⟦<Self as Seen>⟧.view self.old) (⟦<Self as Seen>⟧.view self.new) }
-        ensures ends { EndsBy result (⟦<Self as Seen>⟧.view self.new) }
-        ensures tries { Tries result (⟦<Self as Seen>⟧.view self.old) (⟦<Self as Seen>⟧.view self.new) }
+        ensures tries { Tries result (length leads.now + 2) (⟦<Self as Seen>⟧.view self.old) (⟦<Self as Seen>⟧.view self.new) }
         ensures packets { F.planner ≡ Managed → IfOk result (λ w. StepsTo (λ m o. CanFly m → WentFew w m o) (F.state self.old.flights) (F.state self.new.flights)) }
         ensures space { IfOk result (λ w. IfSome w (λ _. HasSpace (⟦<Self as Seen>⟧.view self.new))) }
-        ensures entries { OnOk result (length self.new.log.entries ≤ length self.old.log.entries + (length leads.now + 2)) }
         ensures unskipped { IfOk result (λ w. IfSome w (λ _. length self.new.log.entries ≤ length self.old.log.entries + (length leads.now + 1))) }
         ensures managed { self.new.managed ≡ self.old.managed }
     {
@@ -119,9 +116,7 @@ impl<F: Flights> Sender<F> {
             (last : RegAccess) (ends : Bool) (rest more : List Action)
             → IsTried (⟦<Self as Seen>⟧.view self.old) forgive asked k t made rest m0 → IsNext asked t made leads.now last ends rest more
             → IfErr result (IsBroken (⟦<Self as Seen>⟧.view self.new) self.old.log.calls m0) }
-        ensures keeps { Keeps (⟦<Self as Seen>⟧.view self.old) (⟦<Self as Seen>⟧.view self.new) }
-        ensures ends { EndsBy result (⟦<Self as Seen>⟧.view self.new) }
-        ensures tries { Tries result (⟦<Self as Seen>⟧.view self.old) (⟦<Self as Seen>⟧.view self.new) }
+        ensures tries { Tries result (length leads.now + 2) (⟦<Self as Seen>⟧.view self.old) (⟦<Self as Seen>⟧.view self.new) }
         ensures space { IfOk result (λ came. came ≡ true → HasSpace (⟦<Self as Seen>⟧.view self.new)) }
         ensures entries { IfOk result (λ came. length self.new.log.entries ≤ length self.old.log.entries + (length leads.now + (if came then 0 else 1))) }
         ensures managed { self.new.managed ≡ self.old.managed }
@@ -149,12 +144,9 @@ impl<F: Flights> Sender<F> {
         requires taken { AllByRecursion IsTaken leads.now }
         requires last { IsTaken last }
         ensures gives { TriesNext result (⟦<Self as Seen>⟧.view self.old) (⟦<Self as Seen>⟧.view self.new) forgive leads.now last ends }
-        ensures keeps { Keeps (⟦<Self as Seen>⟧.view self.old) (⟦<Self as Seen>⟧.view self.new) }
-        ensures ends { EndsBy result (⟦<Self as Seen>⟧.view self.new) }
-        ensures tries { Tries result (⟦<Self as Seen>⟧.view self.old) (⟦<Self as Seen>⟧.view self.new) }
+        ensures tries { Tries result (length leads.now + 2) (⟦<Self as Seen>⟧.view self.old) (⟦<Self as Seen>⟧.view self.new) }
         ensures packets { F.planner ≡ Managed → IfOk result (λ w. StepsTo (λ m o. CanFly m → WentFew w m o) (F.state self.old.flights) (F.state self.new.flights)) }
         ensures space { IfOk result (λ w. IfSome w (λ _. HasSpace (⟦<Self as Seen>⟧.view self.new))) }
-        ensures entries { OnOk result (length self.new.log.entries ≤ length self.old.log.entries + (length leads.now + 2)) }
         ensures managed { self.new.managed ≡ self.old.managed }
     {
         if !F::plans_alone() {
@@ -181,12 +173,9 @@ impl<F: Flights> Sender<F> {
         requires bank { bank < 16 }
         requires taken { IsTaken access }
         ensures gives { TriesNext result (⟦<Self as Seen>⟧.view self.old) (⟦<Self as Seen>⟧.view self.new) forgive (select_of ap bank ∷ []) access ends }
-        ensures keeps { Keeps (⟦<Self as Seen>⟧.view self.old) (⟦<Self as Seen>⟧.view self.new) }
-        ensures ends { EndsBy result (⟦<Self as Seen>⟧.view self.new) }
-        ensures tries { Tries result (⟦<Self as Seen>⟧.view self.old) (⟦<Self as Seen>⟧.view self.new) }
+        ensures tries { Tries result 3 (⟦<Self as Seen>⟧.view self.old) (⟦<Self as Seen>⟧.view self.new) }
         ensures packets { F.planner ≡ Managed → IfOk result (λ w. StepsTo (λ m o. CanFly m → WentFew w m o) (F.state self.old.flights) (F.state self.new.flights)) }
         ensures space { IfOk result (λ w. IfSome w (λ _. HasSpace (⟦<Self as Seen>⟧.view self.new))) }
-        ensures entries { OnOk result (length self.new.log.entries ≤ length self.old.log.entries + 3) }
         ensures managed { self.new.managed ≡ selected self.old.managed (select_value ap bank) }
     {
         let write = select(ap, bank);

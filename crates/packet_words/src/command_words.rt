@@ -54,7 +54,7 @@ fn with_outcome(line: Line, reply: &Reply<'_>) -> Result<Line, OutOfMemory>
     };
     let name = response_name(Response::from_code(reply.response()));
     let line = line.text(" -> ")?.hex2(reply.response())?.text(name)?;
-    line.labelled(" after ", u64::from(reply.count()))
+    line.add_labelled(" after ", u64::from(reply.count()))
 }
 
 // The number that the answer to DAP_Info makes.
@@ -77,7 +77,7 @@ fn with_info_outcome(alloc: Global, line: Line, reply: &Reply<'_>) -> Result<Lin
         return Ok(line);
     };
     let line = with_digits(alloc, line.text(" -> ")?, reply.words())?;
-    line.labelled(" ", info_number(reply.words()))
+    line.add_labelled(" ", info_number(reply.words()))
 }
 
 /// The first byte; 0 where there is none.
@@ -116,9 +116,9 @@ fn info_name(id: u8) -> &'static str
 fn with_configure(line: Line, idle: u8, retry: u16, matches: u16) -> Result<Line, OutOfMemory>
     ensures { IfOk result (λ l. l ≡ line ++ command_words (CommandValue.Configure idle retry matches) None) }
 {
-    let line = line.labelled(" configure idle ", u64::from(idle))?;
-    let line = line.labelled(" retry ", u64::from(retry))?;
-    line.labelled(" match retry ", u64::from(matches))
+    let line = line.add_labelled(" configure idle ", u64::from(idle))?;
+    let line = line.add_labelled(" retry ", u64::from(retry))?;
+    line.add_labelled(" match retry ", u64::from(matches))
 }
 
 #[tactic(auto, unfolding(crate::specs::Commands::pins_head))]
@@ -134,7 +134,7 @@ fn begin_pins(line: Line, output: u8, select: u8) -> Result<Line, OutOfMemory>
 fn with_line(line: Line, count: u8, bits: u64) -> Result<Line, OutOfMemory>
     ensures { IfOk result (λ l. l ≡ line ++ command_words (CommandValue.Line count bits) None) }
 {
-    let line = line.labelled(" line ", u64::from(count))?;
+    let line = line.add_labelled(" line ", u64::from(count))?;
     let line = line.text(" bits ")?.hex16(bits)?;
     line.text(line_name(count, bits))
 }
@@ -143,7 +143,7 @@ fn with_line(line: Line, count: u8, bits: u64) -> Result<Line, OutOfMemory>
 fn with_counted(line: Line, label: &str, count: u64, reply: &Reply<'_>) -> Result<Line, OutOfMemory>
     ensures { IfOk result (λ l. l ≡ line ++ (label.now ++ decimal count ++ outcome reply.now)) }
 {
-    with_outcome(line.labelled(label, count)?, reply)
+    with_outcome(line.add_labelled(label, count)?, reply)
 }
 
 #[tactic(auto, unfolding(crate::specs::Commands::command_words))]
@@ -157,7 +157,7 @@ fn with_pin_words(
     ensures { IfOk result (λ l. l ≡ line ++ command_words (CommandValue.Pins output select wait) reply.now) }
 {
     let line = begin_pins(line, output, select)?;
-    with_pins_outcome(line.labelled(" wait us ", u64::from(wait))?, reply)
+    with_pins_outcome(line.add_labelled(" wait us ", u64::from(wait))?, reply)
 }
 
 #[tactic(auto, unfolding(crate::specs::Commands::command_words))]
@@ -197,13 +197,13 @@ fn with_words(
             with_counted(line, " block of ", words.len() as u64, reply)
         }
         CommandValue::Abort(word) => with_abort(line.text(" abort ")?.hex8(*word)?, *word),
-        CommandValue::Delay(time) => line.labelled(" delay us ", u64::from(*time)),
+        CommandValue::Delay(time) => line.add_labelled(" delay us ", u64::from(*time)),
         CommandValue::Pins {
             output,
             select,
             wait,
         } => with_pin_words(line, *output, *select, *wait, reply),
-        CommandValue::Clock(clock) => line.labelled(" clock Hz ", u64::from(*clock)),
+        CommandValue::Clock(clock) => line.add_labelled(" clock Hz ", u64::from(*clock)),
         CommandValue::Line { count, bits } => with_line(line, *count, *bits),
     }
 }

@@ -208,8 +208,8 @@ fn with_kind(line: Line, kind: PacketKind, count: u8) -> Result<Line, OutOfMemor
 {
     match kind {
         PacketKind::Plain => line.text("one command"),
-        PacketKind::Execute => line.labelled("execute ", u64::from(count)),
-        PacketKind::Queue => line.labelled("queue ", u64::from(count)),
+        PacketKind::Execute => line.add_labelled("execute ", u64::from(count)),
+        PacketKind::Queue => line.add_labelled("queue ", u64::from(count)),
     }
 }
 
@@ -228,8 +228,9 @@ fn with_head(line: Line, kind: PacketKind, bytes: &[u8]) -> Result<Line, OutOfMe
 fn with_sizes(line: Line, out: usize, back: usize) -> Result<Line, OutOfMemory>
     ensures { IfOk result (λ l. l ≡ line ++ codes ", " ++ decimal out ++ codes " bytes out, " ++ decimal back ++ codes " in\n") }
 {
-    let line = line.labelled(", ", out as u64)?;
-    line.labelled(" bytes out, ", back as u64)?.text(" in\n")
+    let line = line.add_labelled(", ", out as u64)?;
+    line.add_labelled(" bytes out, ", back as u64)?
+        .text(" in\n")
 }
 
 #[tactic(auto, unfolding(crate::specs::Exchange::replied_line))]
@@ -242,7 +243,7 @@ fn with_replied(
 ) -> Result<Line, OutOfMemory>
     ensures { IfOk result (λ l. l ≡ line ++ replied_line number packet.now size reply.now) }
 {
-    let line = line.labelled("exchange ", number)?.text(": ")?;
+    let line = line.add_labelled("exchange ", number)?.text(": ")?;
     let line = with_kind(line, packet.kind(), packet.count())?;
     let line = with_head(line, packet.kind(), reply)?;
     with_sizes(line, size, reply.len())
@@ -258,10 +259,10 @@ fn with_unreplied(
     ensures { IfOk result (λ l. l ≡ line ++ unreplied_line number packet.now size) }
 {
     let line = line
-        .labelled("exchange ", number)?
+        .add_labelled("exchange ", number)?
         .text(" without a reply: ")?;
     let line = with_kind(line, packet.kind(), packet.count())?;
-    line.labelled(", ", size as u64)?.text(" bytes out\n")
+    line.add_labelled(", ", size as u64)?.text(" bytes out\n")
 }
 
 // A packet, with its reply where there is one.
@@ -297,7 +298,9 @@ fn packet_said(
 fn with_no_packet(line: Line, number: u64, fault: MessageError) -> Result<Line, OutOfMemory>
     ensures { IfOk result (λ l. l ≡ line ++ no_packet_line number fault) }
 {
-    let line = line.labelled("exchange ", number)?.text(" is no packet: ")?;
+    let line = line
+        .add_labelled("exchange ", number)?
+        .text(" is no packet: ")?;
     with_fault(line, fault)?.text("\n")
 }
 

@@ -40,5 +40,5 @@ pub fn with_fault(line: Line, fault: MessageError) -> Result<Line, OutOfMemory>
     ensures { IfOk result (λ l. l ≡ line ++ fault_words fault) }
 {
     line.text(fault_name(fault))?
-        .labelled(" at ", place_of(fault) as u64)
+        .add_labelled(" at ", place_of(fault) as u64)
 }

@@ -81,7 +81,7 @@ fn with_size(line: Line, size: u32) -> Result<Line, OutOfMemory>
         0 => line.text(" byte"),
         1 => line.text(" halfword"),
         2 => line.text(" word"),
-        _ => line.labelled(" size ", u64::from(size)),
+        _ => line.add_labelled(" size ", u64::from(size)),
     }
 }
 
@@ -122,7 +122,7 @@ fn with_dp_bank(line: Line, bank: u32) -> Result<Line, OutOfMemory>
     if bank == 0 {
         Ok(line)
     } else {
-        line.labelled(" dp bank ", u64::from(bank))
+        line.add_labelled(" dp bank ", u64::from(bank))
     }
 }
 
@@ -131,7 +131,7 @@ fn with_dp_bank(line: Line, bank: u32) -> Result<Line, OutOfMemory>
 pub fn with_select(line: Line, word: u32) -> Result<Line, OutOfMemory>
     ensures { IfOk result (λ l. l ≡ line ++ select_words word) }
 {
-    let line = line.labelled(" ap ", u64::from(word / 0x100_0000))?;
+    let line = line.add_labelled(" ap ", u64::from(word / 0x100_0000))?;
     let line = line.text(" bank ")?.hex2((word & APBANKSEL) as u8)?;
     with_dp_bank(line, word & DPBANKSEL)
 }

@@ -152,7 +152,7 @@ pub fn with_register(line: Line, register: Register) -> Result<Line, OutOfMemory
         Register::Rdbuff => line.text("dp RDBUFF"),
         Register::Targetsel => line.text("dp TARGETSEL"),
         Register::Ap { ap, register } => {
-            let line = line.labelled("ap ", u64::from(ap))?.text(" ")?;
+            let line = line.add_labelled("ap ", u64::from(ap))?.text(" ")?;
             with_ap_name(line, register)
         }
         Register::UnknownAp(addr) => line.text("ap ? ")?.hex2(addr),

@@ -48,7 +48,7 @@ fn audit_ok_text(alloc: Global, audited: &Audited) -> Result<Line, OutOfMemory>
     ensures { IfOk result (λ line. line ≡ audit_ok_line audited.now) }
 {
     let line = Line::begin(alloc, "audit ok packets ")?.decimal(u64::from(audited.packets))?;
-    line.labelled(" replies ", u64::from(audited.replies))?
+    line.add_labelled(" replies ", u64::from(audited.replies))?
         .text("\n")
 }
 
@@ -89,7 +89,7 @@ fn refused_text(alloc: Global, kind: &str, number: u32) -> Result<Line, OutOfMem
     ensures { IfOk result (λ line. line ≡ refused_line kind.now number) }
 {
     let line = Line::begin(alloc, "refused audit ")?.text(kind)?;
-    line.labelled(" ", u64::from(number))?.text("\n")
+    line.add_labelled(" ", u64::from(number))?.text("\n")
 }
 
 // Puts the line of a trace that is refused.

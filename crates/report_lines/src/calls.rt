@@ -24,7 +24,7 @@ pub fn with_address(line: Line, address: u64) -> Result<Line, OutOfMemory>
 fn with_port(line: Line, ap: u8) -> Result<Line, OutOfMemory>
     ensures { IfOk result (λ l. l ≡ line ++ port_part ap) }
 {
-    line.labelled(" ap ", u64::from(ap))
+    line.add_labelled(" ap ", u64::from(ap))
 }
 
 // A memory access.
@@ -76,7 +76,7 @@ fn with_unit(alloc: Global, line: Line, unit: Unit) -> Result<Line, OutOfMemory>
     }
 }
 
-/// An access, or a probe command.
+/// A line with an access after it, or with the word for a probe command. `OutOfMemory` where memory is refused.
 pub fn with_call(alloc: Global, line: Line, call: Call) -> Result<Line, OutOfMemory>
     ensures { IfOk result (λ l. l ≡ line ++ call_words call) }
 {

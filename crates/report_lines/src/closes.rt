@@ -46,7 +46,7 @@ fn loaded_line(alloc: Global, bytes: u32, writes: u32) -> Result<Line, OutOfMemo
     ensures { IfOk result (λ line. line ≡ loaded_line bytes writes) }
 {
     let line = Line::begin(alloc, "loaded ")?.decimal(u64::from(bytes))?;
-    line.labelled(" bytes ", u64::from(writes))?
+    line.add_labelled(" bytes ", u64::from(writes))?
         .text(" writes\n")
 }
 

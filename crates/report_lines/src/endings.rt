@@ -13,7 +13,7 @@ use std::alloc::Global;
 use target_machine::HaltCause;
 use text_lines::Line;
 
-/// A run that was halted.
+/// The line of a run that was halted. `OutOfMemory` where memory is refused.
 pub fn halted_text(alloc: Global, cause: HaltCause) -> Result<Line, OutOfMemory>
     ensures { IfOk result (λ line. line ≡ halted_line cause) }
 {
@@ -34,7 +34,8 @@ fn begin_stop(alloc: Global, report: &Report) -> Result<Line, OutOfMemory>
     ensures { IfOk result (λ line. line ≡ codes "end " ++ stop_word report.now.cause ++ codes " unit " ++ decimal report.now.unit ++ codes " ") }
 {
     let line = Line::begin(alloc, "end ")?.text(stop_text(report.cause))?;
-    line.labelled(" unit ", u64::from(report.unit))?.text(" ")
+    line.add_labelled(" unit ", u64::from(report.unit))?
+        .text(" ")
 }
 
 /// A run that the target or the probe stopped.
@@ -50,8 +51,8 @@ pub fn attempted_text(alloc: Global, report: &Report) -> Result<Line, OutOfMemor
     ensures { IfOk result (λ line. line ≡ attempted_line report.now) }
 {
     let line = Line::begin(alloc, "attempted ")?.decimal(u64::from(report.attempted))?;
-    let line = line.labelled(" accesses ", u64::from(report.accesses))?;
-    line.labelled(" confirmed ", u64::from(report.confirmed))?
+    let line = line.add_labelled(" accesses ", u64::from(report.accesses))?;
+    line.add_labelled(" confirmed ", u64::from(report.confirmed))?
         .text("\n")
 }
 
@@ -60,7 +61,7 @@ pub fn bench_fault_text(alloc: Global, issued: u32, confirmed: u32) -> Result<Li
     ensures { IfOk result (λ line. line ≡ bench_fault_line issued confirmed) }
 {
     let line = Line::begin(alloc, "end benchfault issued ")?.decimal(u64::from(issued))?;
-    line.labelled(" confirmed ", u64::from(confirmed))?
+    line.add_labelled(" confirmed ", u64::from(confirmed))?
         .text("\n")
 }
 

@@ -15,7 +15,9 @@ mod views;
 mod words;
 
 pub use audit::{audit_fault_text, audit_text, target_text};
+pub use calls::with_call;
 pub use closes::{differs_text, full_text, loaded_text, target_lines};
+pub use endings::halted_text;
 pub use put::TextEnd;
 pub use report::report_text;
 pub use trace::trace_text;

@@ -39,7 +39,8 @@ pub fn dp_text(alloc: Global, image: &DpImage) -> Result<Line, OutOfMemory>
 {
     let line = begin_dp(alloc, image)?.text(" sticky ")?;
     let line = line.text(bit_text(image.sticky))?;
-    line.labelled(" reads ", u64::from(image.reads))?.text("\n")
+    line.add_labelled(" reads ", u64::from(image.reads))?
+        .text("\n")
 }
 
 // The upper word of TAR, where there is one.
@@ -76,8 +77,8 @@ fn begin_lines(alloc: Global, image: &LinesImage) -> Result<Line, OutOfMemory>
 fn end_lines(line: Line, image: &LinesImage) -> Result<Line, OutOfMemory>
     ensures { IfOk result (λ l. l ≡ line ++ codes " clock " ++ decimal image.now.clock ++ codes " delay " ++ decimal image.now.delay ++ codes "\n") }
 {
-    let line = line.labelled(" clock ", u64::from(image.clock))?;
-    line.labelled(" delay ", image.delay)?.text("\n")
+    let line = line.add_labelled(" clock ", u64::from(image.clock))?;
+    line.add_labelled(" delay ", image.delay)?.text("\n")
 }
 
 /// The lines of the probe.

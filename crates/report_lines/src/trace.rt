@@ -33,7 +33,7 @@ fn kept_text(alloc: Global, kept: u32, count: u32) -> Result<Line, OutOfMemory>
     ensures { IfOk result (λ line. line ≡ kept_line kept count) }
 {
     let line = Line::begin(alloc, "trace kept ")?.decimal(u64::from(kept))?;
-    line.labelled(" of ", u64::from(count))?.text("\n")
+    line.add_labelled(" of ", u64::from(count))?.text("\n")
 }
 
 /// What a bench shows for a number.

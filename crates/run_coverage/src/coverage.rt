@@ -20,7 +20,7 @@ use std::alloc::Global;
 use text_lines::Line;
 
 // What happens at an `if` of this value.
-fn chosen(value: u64) -> &'static str
+fn word_of_choice(value: u64) -> &'static str
     ensures { result.now ≡ chosen value }
 {
     if value == 0 { "skipped " } else { "taken " }
@@ -131,7 +131,7 @@ impl Coverage {
     pub fn choose(&mut self, sequence: &str, path: &[u64], value: u64) -> Result<(), OutOfMemory>
         ensures { Covers self.old self.new result (e.Chooses (condition_spot sequence.now path.now part.If) value) }
     {
-        let words = if_words(self.alloc, chosen(value), sequence, path)?;
+        let words = if_words(self.alloc, word_of_choice(value), sequence, path)?;
         self.note(&words)
     }
 

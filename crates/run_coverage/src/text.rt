@@ -60,7 +60,7 @@ impl Coverage {
         ensures { IfOk result (λ l. l ≡ line ++ count_text (has self.now) items.now) }
     {
         line.decimal(self.count_run(items) as u64)?
-            .labelled(" of ", count_statements(items) as u64)?
+            .add_labelled(" of ", count_statements(items) as u64)?
             .text("\n")
     }
 
@@ -96,7 +96,7 @@ impl Coverage {
     {
         let mut items = ItemList::new(self.alloc);
         push_items(self.alloc, checked, name, &mut items)?;
-        let line = Line::begin(self.alloc, "covered ")?.shown(name.as_bytes())?;
+        let line = Line::begin(self.alloc, "covered ")?.add_shown(name.as_bytes())?;
         let line = self.with_counts(line.text(" ")?, items.as_slice())?;
         push_bytes(text, line.as_bytes())
     }

@@ -12,8 +12,8 @@ use text_lines::Line;
 fn begin_words(alloc: Global, what: &str, sequence: &str, path: &[u64]) -> Result<Line, OutOfMemory>
     ensures { IfOk result (λ l. l ≡ what.now ++ step_words (Some sequence.now) path.now) }
 {
-    let line = Line::begin(alloc, what)?.shown(sequence.as_bytes())?;
-    line.text(" ")?.dotted(path)?.text(" ")
+    let line = Line::begin(alloc, what)?.add_shown(sequence.as_bytes())?;
+    line.text(" ")?.add_dotted(path)?.text(" ")
 }
 
 /// A statement of a block runs.
@@ -26,7 +26,8 @@ pub fn statement_words(
     ensures { IfOk result (λ l. l ≡ ran_words (spot_in sequence.now path.now parts.Block place)) }
 {
     let line = begin_words(alloc, "ran ", sequence, path)?.text("block")?;
-    line.labelled(" ", place.line)?.labelled(":", place.column)
+    line.add_labelled(" ", place.line)?
+        .add_labelled(":", place.column)
 }
 
 /// What happens at the `if` of a control.

@@ -126,7 +126,7 @@ pub fn message_line(
     Line::begin(alloc, "message ")?
         .decimal(kind)?
         .text(" ")?
-        .shown(&text)?
+        .add_shown(&text)?
         .text("\n")
 }
 
@@ -138,7 +138,7 @@ pub fn query_line(alloc: Global, kind: u64, text: &str, default: u64) -> Result<
     Line::begin(alloc, "query ")?
         .decimal(kind)?
         .text(" ")?
-        .shown(text.as_bytes())?
+        .add_shown(text.as_bytes())?
         .text(" = ")?
         .decimal(default)?
         .text("\n")
@@ -150,7 +150,7 @@ pub fn value_line(alloc: Global, text: &str, default: u64) -> Result<Line, OutOf
     ensures { IfOk result (λ line. line ≡ spec.value_line text.now default) }
 {
     Line::begin(alloc, "value ")?
-        .shown(text.as_bytes())?
+        .add_shown(text.as_bytes())?
         .text(" = ")?
         .decimal(default)?
         .text("\n")
@@ -162,6 +162,6 @@ pub fn load_line(alloc: Global, text: &str) -> Result<Line, OutOfMemory>
     ensures { IfOk result (λ line. line ≡ spec.load_line text.now) }
 {
     Line::begin(alloc, "load ")?
-        .shown(text.as_bytes())?
+        .add_shown(text.as_bytes())?
         .text("\n")
 }

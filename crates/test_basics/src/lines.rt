@@ -24,7 +24,7 @@ fn bytes_of(alloc: Global, text: &str) -> Result<Vec<u8>, OutOfMemory> {
 // A label, and after the last space a number.
 fn labelled(line: Line, argument: &str) -> Result<Line, OutOfMemory> {
     let (label, number) = argument.rsplit_once(' ').unwrap_or((argument, ""));
-    line.labelled(label, number_in(number))
+    line.add_labelled(label, number_in(number))
 }
 
 // The line with one piece more: its kind, and after a space its argument.
@@ -33,10 +33,10 @@ fn with_piece(alloc: Global, line: Line, piece: &str) -> Result<Line, OutOfMemor
     let number = number_in(argument);
     match kind {
         "text" => line.text(argument),
-        "shown" => line.shown(bytes_of(alloc, argument)?.as_slice()),
+        "shown" => line.add_shown(bytes_of(alloc, argument)?.as_slice()),
         "decimal" => line.decimal(number),
         "labelled" => labelled(line, argument),
-        "dotted" => line.dotted(numbers_of(alloc, argument)?.as_slice()),
+        "dotted" => line.add_dotted(numbers_of(alloc, argument)?.as_slice()),
         "hex2" => line.hex2((number & 0xFF) as u8),
         "hex8" => line.hex8((number & 0xFFFF_FFFF) as u32),
         "hex16" => line.hex16(number),

@@ -75,7 +75,7 @@ fn file_named(words: &Words) -> Option<&str>
 fn refusal_line(alloc: Global, name: &str) -> Result<Line, OutOfMemory>
     ensures { IfOk result (λ line. line ≡ refusal_line name.now) }
 {
-    let line = Line::begin(alloc, "file ")?.shown(name.as_bytes())?;
+    let line = Line::begin(alloc, "file ")?.add_shown(name.as_bytes())?;
     line.text(" cannot be opened\n")
 }
 

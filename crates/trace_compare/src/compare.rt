@@ -80,7 +80,7 @@ fn put_difference<S: Source, A: Source, K: Sink>(
 fn is_alike(is_same: bool, trace: &Counter, against: &Counter) -> bool
     ensures { result ≡ (is_same && is_right trace.now && is_right against.now) }
 {
-    is_same && trace.wrong() == 0 && against.wrong() == 0
+    is_same && trace.count_wrong() == 0 && against.count_wrong() == 0
 }
 
 // Writes the comparison of two traces, from their first exchanges on.

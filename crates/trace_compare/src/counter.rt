@@ -52,7 +52,7 @@ impl Counter {
     }
 
     /// How many packets and replies are none.
-    pub fn wrong(&self) -> u64
+    pub fn count_wrong(&self) -> u64
         ensures { result ≡ self.now.wrong }
     {
         self.wrong

@@ -38,7 +38,7 @@ impl<'r> FileSource<'r> {
     }
 
     // Opens a file that is no folder.
-    fn opened(&self, name: &str) -> Result<File, Failed> {
+    fn open_file(&self, name: &str) -> Result<File, Failed> {
         let Ok(file) = fs::open(self.rt, name) else {
             return Err(Failed);
         };
@@ -70,7 +70,7 @@ impl<'r> NamedFile for FileSource<'r> {
     ghost contents = { λ _ _. None };
 
     fn open(&mut self, name: &str) -> Result<(), Failed> {
-        match self.opened(name) {
+        match self.open_file(name) {
             Ok(file) => {
                 self.file = Some(ReadSource::new(file));
                 Ok(())

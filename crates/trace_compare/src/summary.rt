@@ -65,7 +65,10 @@ pub fn put_summary<K: Sink>(
     ensures sink { NamesFault CompareEnd.WriteFault (K.faults sink.old) (K.faults sink.new) result }
     ensures other { IfErr result IsOfSink }
 {
-    match put_line(wrong_line(alloc, first.wrong(), second.wrong()), sink) {
+    match put_line(
+        wrong_line(alloc, first.count_wrong(), second.count_wrong()),
+        sink,
+    ) {
         Ok(()) => put_counts(alloc, first.counts(), second.counts(), sink),
         Err(end) => Err(end),
     }

@@ -59,8 +59,8 @@ pub fn two_text(alloc: Global, last: u64, two: &Two) -> Result<Bytes, OutOfMemor
 fn with_both(line: Line, first: u64, second: u64) -> Result<Line, OutOfMemory>
     ensures { IfOk result (λ l. l ≡ line ++ against first second) }
 {
-    let line = line.labelled(" ", first)?;
-    line.labelled(" against ", second)?.text("\n")
+    let line = line.add_labelled(" ", first)?;
+    line.add_labelled(" against ", second)?.text("\n")
 }
 
 /// How many packets and replies are none, where there is any.

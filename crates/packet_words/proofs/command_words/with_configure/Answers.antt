@@ -5,4 +5,4 @@ use Rattle.packet_words.proofs.command_words.with_configure.Goals as goal
 
 pub returns : goal.returns
 unfolding command_words
-returns c = added _ _ _ c.labelled-3.ensures (simp (c.in_ok-line.ensures, c.in_ok-line-2.ensures, c.from.ensures, c.from-2.ensures, c.from-3.ensures, append_assoc) refl)
+returns c = added _ _ _ c.add_labelled-3.ensures (simp (c.in_ok-line.ensures, c.in_ok-line-2.ensures, c.from.ensures, c.from-2.ensures, c.from-3.ensures, append_assoc) refl)

@@ -5,4 +5,4 @@ use Rattle.packet_words.proofs.command_words.with_pin_words.Goals as goal
 
 pub returns : goal.returns
 unfolding command_words
-returns c = added _ _ _ c.with_pins_outcome.ensures (simp (c.in_ok-line.ensures, c.in_ok-labelled.ensures, c.from.ensures, append_assoc) refl)
+returns c = added _ _ _ c.with_pins_outcome.ensures (simp (c.in_ok-line.ensures, c.in_ok-add_labelled.ensures, c.from.ensures, append_assoc) refl)

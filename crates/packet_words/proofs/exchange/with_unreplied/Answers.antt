@@ -5,4 +5,4 @@ use Rattle.packet_words.proofs.exchange.with_unreplied.Goals as goal
 
 pub returns : goal.returns
 unfolding unreplied_line
-returns c = added _ _ _ c.text-2.ensures (simp (c.in_ok-labelled.ensures, c.in_ok-line.ensures, c.kind.ensures, c.count.ensures, c.in_ok-line-2.ensures, c.in_ok-labelled-2.ensures, append_assoc) refl)
+returns c = added _ _ _ c.text-2.ensures (simp (c.in_ok-add_labelled.ensures, c.in_ok-line.ensures, c.kind.ensures, c.count.ensures, c.in_ok-line-2.ensures, c.in_ok-add_labelled-2.ensures, append_assoc) refl)

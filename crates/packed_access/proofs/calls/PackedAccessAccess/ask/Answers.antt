@@ -38,13 +38,13 @@ returns-after-small-clause-small g c = λ m answered h left.
     let ok : IsAskable (unit_ask c.args.unit c.args.forgive) = record { sound = c.requires.sound; range = c.ask_of-ask.ensures.range } in
     let there = begins_asked g.F.Flights.planner _ _ old.log c.ask.new.self _ _ _ _ (unit_ask c.args.unit c.args.forgive) m h.sparing.begun none ok refl old.sound.results_long old.sound.places_long is_asked in
     let new = c.issue_asked.new.self in
-    let calls = c.issue_asked.ensures.keeps.calls ∙ ap (λ (l : LogState). l.calls) is_asked in
+    let calls = c.issue_asked.ensures.step.keeps.calls ∙ ap (λ (l : LogState). l.calls) is_asked in
     let both : c.if-small.answer ≡ (c.in-Ok.small && is_wide c.args.unit) = elim c.if-small.branch [ then-small w ↦ search rules | else-small w ↦ search rules ] in
     let is : c.if-small.answer ≡ small_now (world_from m answered) old.log.calls (unit_ask c.args.unit c.args.forgive) =
     both
     ∙ ap (λ (b : Bool). b && is_wide c.args.unit) (c.in-Ok.ensures.small m old.log.calls (unit_ask c.args.unit c.args.forgive) h.set refl there)
     ∙ small_wide (target_of m.probe) old.log.calls c.args.unit c.args.forgive
-    ∙ sym (small_left g.F.Flights.planner _ _ new.log _ _ _ _ old.log.calls (unit_ask c.args.unit c.args.forgive) m answered (c.in-Ok.ensures.gives.on m old.log.calls (unit_ask c.args.unit c.args.forgive) (h.set, refl) there) c.in-Ok.ensures.ends.no_end calls left) in
+    ∙ sym (small_left g.F.Flights.planner _ _ new.log _ _ _ _ old.log.calls (unit_ask c.args.unit c.args.forgive) m answered (c.in-Ok.ensures.gives.on m old.log.calls (unit_ask c.args.unit c.args.forgive) (h.set, refl) there) c.in-Ok.ensures.step.ends.no_end calls left) in
     subst (λ (b : Bool). IsSmallWhere b c.answer.result) is c.answer.ensures.small
 
 pub returns-after-small-clause-on : goal.returns-after-small-clause-on
@@ -83,4 +83,4 @@ returns-in-Err-clause-on g c = λ m h.
     let is_asked : c.ask.new.self ≡ with_call old.log (unit_ask c.args.unit c.args.forgive) c.ask.new.self.room = search rules in
     let ok : IsAskable (unit_ask c.args.unit c.args.forgive) = record { sound = c.requires.sound; range = c.ask_of-ask.ensures.range } in
     let there = begins_asked g.F.Flights.planner _ _ old.log c.ask.new.self _ _ _ _ (unit_ask c.args.unit c.args.forgive) m h.sparing.begun none ok refl old.sound.results_long old.sound.places_long is_asked in
-    record { sparing = sparing_ended g.F.Flights.planner _ _ _ c.issue_asked.new.self.log _ _ _ _ m c.in-Err.stop (c.in-Err.ensures.gives.broke m old.log.calls (unit_ask c.args.unit c.args.forgive) (h.set, refl) there) c.in-Err.ensures.ends.ended; set = h.set }
+    record { sparing = sparing_ended g.F.Flights.planner _ _ _ c.issue_asked.new.self.log _ _ _ _ m c.in-Err.stop (c.in-Err.ensures.gives.broke m old.log.calls (unit_ask c.args.unit c.args.forgive) (h.set, refl) there) c.in-Err.ensures.step.ends.ended; set = h.set }

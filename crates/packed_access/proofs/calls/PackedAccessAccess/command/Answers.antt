@@ -58,7 +58,7 @@ returns-in-Err-make_last-clause-on g c = λ m h.
     let there = begun_asked g.F.Flights.planner _ _ old.log c.ask.new.self _ _ _ _ (probe_ask c.args.call) m h.sparing.begun none ok refl old.sound.results_long old.sound.places_long asked in
     let sent = c.in-Ok.ensures.gives.on m _ there in
     let calls : c.send.new.self.log.calls ≡ old.log.calls ++ probe_ask c.args.call ∷ [] = ap (λ (l : LogState). l.calls) c.in-Ok.ensures.log ∙ ap (λ (l : LogState). l.calls) asked in
-    record { sparing = sparing_ended g.F.Flights.planner _ _ _ c.make_last.new.self.log _ _ _ _ m _ (c.in-Err-make_last.ensures.broke m old.log.calls calls sent) c.in-Err-make_last.ensures.ends.ended; set = h.set }
+    record { sparing = sparing_ended g.F.Flights.planner _ _ _ c.make_last.new.self.log _ _ _ _ m _ (c.in-Err-make_last.ensures.broke m old.log.calls calls sent) c.in-Err-make_last.ensures.exchanges.step.ends.ended; set = h.set }
 
 pub returns-in-Ok-make_last-clause-on : goal.returns-in-Ok-make_last-clause-on
 returns-in-Ok-make_last-clause-on g c = λ m h.
@@ -83,7 +83,7 @@ returns-in-Ok-make_last-clause-on g c = λ m h.
     record {
       sparing = record {
         begun = begun_needs g.F.Flights.planner _ _ new.log c.need.new.self _ _ _ _ _ _ m
-            (begun_made g.F.Flights.planner _ _ _ _ old.log new.log _ _ _ _ _ _ _ _ (probe_ask c.args.call) m h.sparing.begun none refl done end (same ∙ calls) whole (c.make_last.ensures.managed ∙ c.send.ensures.managed) c.in-Ok-make_last.ensures.empty)
+            (begun_made g.F.Flights.planner _ _ _ _ old.log new.log _ _ _ _ _ _ _ _ (probe_ask c.args.call) m h.sparing.begun none refl done end (same ∙ calls) whole (c.make_last.ensures.exchanges.managed ∙ c.send.ensures.exchanges.managed) c.in-Ok-make_last.ensures.empty)
             refl refl noted;
         paid = λ open_. paid_flushed g.F.Flights.planner _ _ _ new.log c.need.new.self c.ask.new.self.needs paid.paid c.count_points.result c.count-count.result (left_of old.log) m
             (counted_spared g.F.Flights.planner _ _ _ new.log paid.paid c.points_of-points.result c.count_points.result m
@@ -127,7 +127,7 @@ returns-in-Ok-make_last-clause-value g c = λ m answered h left.
     let same : new.log.calls ≡ mid.log.calls = ap (λ (l : LogState). l.calls) c.in-Ok-make_last.ensures.log in
     let end : new.log.end ≡ None = ap (λ (l : LogState). l.end) c.in-Ok-make_last.ensures.log ∙ ap (λ (l : LogState). l.end) c.in-Ok.ensures.log ∙ ap (λ (l : LogState). l.end) asked ∙ none in
     let whole : new.log.whole ≡ length new.log.calls = ap (λ (l : LogState). l.whole) c.in-Ok-make_last.ensures.log ∙ ap length (sym same) in
-    let begun = begun_made g.F.Flights.planner _ (g.F.Flights.reported new.flights) _ _ old.log new.log _ _ [] [] _ _ _ _ (probe_ask c.args.call) m h.sparing.begun none refl done end (same ∙ calls) whole (c.make_last.ensures.managed ∙ c.send.ensures.managed) c.in-Ok-make_last.ensures.empty in
+    let begun = begun_made g.F.Flights.planner _ (g.F.Flights.reported new.flights) _ _ old.log new.log _ _ [] [] _ _ _ _ (probe_ask c.args.call) m h.sparing.begun none refl done end (same ∙ calls) whole (c.make_last.ensures.exchanges.managed ∙ c.send.ensures.exchanges.managed) c.in-Ok-make_last.ensures.empty in
     let all_before : old.log.whole ≡ length old.log.calls = c.args.self.now.whole none in
     let came : mid.log.came ≡ length old.log.calls = ap (λ (l : LogState). l.came) c.in-Ok.ensures.log ∙ ap (λ (l : LogState). l.whole) asked ∙ all_before in
     let count : length mid.log.calls ≡ length old.log.calls + 1 = ap length calls ∙ length-append old.log.calls (probe_ask c.args.call ∷ []) in

@@ -20,7 +20,7 @@ returns-in-Err-clause-on g c = λ m h.
     let old = c.args.self.now.sender in
     let none : old.log.end ≡ None = search rules in
     let there = begun_marked g.F.Flights.planner _ _ old.log c.mark.new.self _ _ _ _ c.count-count.result m h.sparing.begun none c.mark.ensures.answer c.count-count.ensures in
-    record { sparing = sparing_ended g.F.Flights.planner _ _ _ c.settle.new.self.log _ _ _ _ m c.in-Err.stop (c.in-Err.ensures.gives.broke m [] there) c.in-Err.ensures.ends.ended; set = h.set }
+    record { sparing = sparing_ended g.F.Flights.planner _ _ _ c.settle.new.self.log _ _ _ _ m c.in-Err.stop (c.in-Err.ensures.gives.broke m [] there) c.in-Err.ensures.further.step.ends.ended; set = h.set }
 
 pub returns-in-Err-send-clause-stops : goal.returns-in-Err-send-clause-stops
 returns-in-Err-send-clause-stops g c = λ m answered h left none.
@@ -71,7 +71,7 @@ returns-in-Ok-send-clause-on g c = λ m h.
     record {
       sparing = record {
         begun = begun_needs g.F.Flights.planner _ _ new.log c.need.new.self _ _ _ _ _ _ m
-            (begun_finished g.F.Flights.planner _ _ _ _ old.log new.log _ _ _ _ _ _ _ _ m h.sparing.begun none came_there (same ∙ marked) end whole came (c.send.ensures.managed ∙ c.settle.ensures.managed) c.send.ensures.empty)
+            (begun_finished g.F.Flights.planner _ _ _ _ old.log new.log _ _ _ _ _ _ _ _ m h.sparing.begun none came_there (same ∙ marked) end whole came (c.send.ensures.exchanges.managed ∙ c.settle.ensures.further.managed) c.send.ensures.empty)
             refl refl noted;
         paid = λ open_. paid_flushed g.F.Flights.planner _ _ _ new.log c.need.new.self c.mark.new.self.needs paid.paid 1 c.count-count.result (left_of old.log) m sent paid.covers
             (ap (λ (l : LogState). l.needs) c.in-Ok-send.ensures.log ∙ c.in-Ok.ensures.further.so.needs) c.need.ensures.answer (known ∙ sym (ap (λ (l : LogState). length l.calls) noted)) c.need.ensures.sound.fence_within (ap (λ (l : LogState). l.known) noted);

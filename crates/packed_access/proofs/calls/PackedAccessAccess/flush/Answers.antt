@@ -21,7 +21,7 @@ returns-in-Ok-clause-on g c = λ m h.
     record {
       sparing = record {
         begun = begun_needs g.F.Flights.planner _ _ mid c.need.new.self _ _ _ _ _ _ m
-            (begun_flushed g.F.Flights.planner _ _ _ _ old.log mid _ _ _ _ _ _ _ _ _ m h.sparing.begun none whole there c.in-Ok.ensures.log c.send.ensures.empty c.send.ensures.managed)
+            (begun_flushed g.F.Flights.planner _ _ _ _ old.log mid _ _ _ _ _ _ _ _ _ m h.sparing.begun none whole there c.in-Ok.ensures.log c.send.ensures.empty c.send.ensures.exchanges.managed)
             refl refl noted;
         paid = λ open_. paid_flushed g.F.Flights.planner _ _ _ mid c.need.new.self old.log.needs paid.paid 1 c.count-count.result (left_of old.log) m
             (c.in-Ok.ensures.gives.spare m [] paid.paid (begun_issued g.F.Flights.planner _ _ old.log _ _ _ _ m h.sparing.begun none) paid.spared) paid.covers (ap (λ (l : LogState). l.needs) c.in-Ok.ensures.log) c.need.ensures.answer known c.need.ensures.sound.fence_within (ap (λ (l : LogState). l.known) noted);

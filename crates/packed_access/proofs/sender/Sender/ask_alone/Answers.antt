@@ -63,7 +63,7 @@ returns-in-Err-try_unit-clause-gives g c =
     let old = c.args.self.now in
     let sent = c.send.new.self in
     let may = c.requires.may in
-    let managed3 : sent.managed ≡ settled old.managed = c.send.ensures.managed ∙ c.settle.ensures.managed in
+    let managed3 : sent.managed ≡ settled old.managed = c.send.ensures.exchanges.managed ∙ c.settle.ensures.further.managed in
     let calls_same : sent.log.calls ≡ old.log.calls = ap (λ (l : LogState). l.calls) c.in-Ok-send.ensures.log ∙ c.in-Ok.ensures.further.so.calls in
     record {
       on = λ m0 calls ask this h. tt;
@@ -104,7 +104,7 @@ returns-in-Ok-try_unit-clause-gives g c =
     let old = c.args.self.now in
     let sent = c.send.new.self in
     let may = c.requires.may in
-    let managed3 : sent.managed ≡ settled old.managed = c.send.ensures.managed ∙ c.settle.ensures.managed in
+    let managed3 : sent.managed ≡ settled old.managed = c.send.ensures.exchanges.managed ∙ c.settle.ensures.further.managed in
     let unit_done = c.try_unit.new.self in
     let word = c.in-Ok-try_unit.tried.word in
     let new_calls : c.close_call.new.log.calls ≡ unit_done.log.calls = ap (λ (l : LogState). l.calls) c.close_call.ensures.answer ∙ ap (λ (a : Asks). a.calls) (closed_asks c.in-Ok-try_unit.tried.word unit_done.log) in
@@ -142,7 +142,7 @@ returns-in-Ok-try_unit-clause-gives g c =
           let there2 = c.in-Ok.ensures.gives.on m0 _ there in
           let there3 = c.in-Ok-send.ensures.gives.on m0 _ there2 in
           let spared = c.in-Ok-send.ensures.gives.spare m0 _ s.paid there2 (c.in-Ok.ensures.gives.spare m0 _ s.paid there s.spared) in
-          let tried = has_grown g.F.Flights.planner _ _ _ _ _ _ sent.log unit_done.log _ _ (s.paid + 1) 4 m0 there3 spared c.in-Ok-try_unit.ensures.packets c.in-Ok-try_unit.ensures.tries.further.calls c.in-Ok-try_unit.ensures.tries.later c.try_unit.ensures.keeps.same_limits c.try_unit.ensures.keeps.goes.limits in
+          let tried = has_grown g.F.Flights.planner _ _ _ _ _ _ sent.log unit_done.log _ _ (s.paid + 1) 4 m0 there3 spared c.in-Ok-try_unit.ensures.packets c.in-Ok-try_unit.ensures.tries.further.calls c.in-Ok-try_unit.ensures.tries.later c.try_unit.ensures.tries.step.keeps.same_limits c.try_unit.ensures.tries.step.keeps.goes.limits in
           let closed_all = spared_closed g.F.Flights.planner _ _ _ c.in-Ok-try_unit.tried.word unit_done.log c.close_call.new.log ((s.paid + 1) + 4) (s.paid + (5 + c.in-Ok-try_unit.tried.reads)) m0 tried c.close_call.ensures.answer unit_done.sound.confirmed_within (omega arith) in
           has_paid g.F.Flights.planner _ _ _ c.close_call.new.log c.need.new.self old.log.needs s.paid c.count_points.result _ left m0 (counted_spared g.F.Flights.planner _ _ _ c.close_call.new.log s.paid (5 + c.in-Ok-try_unit.tried.reads) c.count_points.result m0 closed_all c.count_points.ensures) s.covers needs c.need.ensures.answer;
       needs = λ m0 calls ask same h.
@@ -182,7 +182,7 @@ returns-in-Ok-try_unit-clause-small g c = λ m0 calls ask same h.
     let may = c.requires.may in
     let there3 = c.in-Ok-send.ensures.gives.on m0 _ there2 in
     let calls3 : sent.log.calls ≡ calls ++ unit_ask c.args.unit.now c.args.forgive ∷ [] = ap (λ (l : LogState). l.calls) c.in-Ok-send.ensures.log ∙ c.in-Ok.ensures.further.so.calls ∙ h.are ∙ ap (λ (a : Ask). calls ++ a ∷ []) same in
-    let managed3 : sent.managed ≡ settled old.managed = c.send.ensures.managed ∙ c.settle.ensures.managed in
+    let managed3 : sent.managed ≡ settled old.managed = c.send.ensures.exchanges.managed ∙ c.settle.ensures.further.managed in
     let whole3 : sent.log.whole ≡ length calls = (let w = ap (λ (l : LogState). l.whole) c.in-Ok-send.ensures.log in let f = c.in-Ok.ensures.further.so.whole in let o = c.requires.ready.whole in let l = ap length h.are ∙ length-append calls (ask ∷ []) in omega (arith, w, f, o, l)) in
     let came3 : sent.log.came ≡ length calls = (let w = ap (λ (l : LogState). l.came) c.in-Ok-send.ensures.log in let f = c.in-Ok.ensures.further.so.whole in let o = c.requires.ready.whole in let l = ap length h.are ∙ length-append calls (ask ∷ []) in omega (arith, w, f, o, l)) in
     let b = is_before g.F.Flights.planner _ sent.log calls (unit_ask c.args.unit.now c.args.forgive) _ m0 there3 calls3 came3 in
@@ -196,8 +196,8 @@ returns-in-Ok-try_unit-clause-small g c = λ m0 calls ask same h.
     let outcome = unit_outcome g.F.Flights.planner c.args.forgive _ unit_done.log old.managed calls c.args.unit.now c.in-Ok-try_unit.tried.small c.in-Ok-try_unit.tried.word c.in-Ok-try_unit.tried.reads unit_done.managed m0 h.kept_is c.requires.alone may b done in
     outcome.small_is ∙ ap (small_now (start_world (target_of m0.probe) None) calls) (sym same)
 
-pub returns-in-Ok-try_unit-clause-keeps : goal.returns-in-Ok-try_unit-clause-keeps
-returns-in-Ok-try_unit-clause-keeps g c =
+pub returns-in-Ok-try_unit-clause-step : goal.returns-in-Ok-try_unit-clause-step
+returns-in-Ok-try_unit-clause-step g c =
     let unit_done = c.try_unit.new.self in
     let word = c.in-Ok-try_unit.tried.word in
     let noted : c.need.new.self ≡ record c.close_call.new.log { needs = c.need.new.self.needs; fence = c.need.new.self.fence; room = c.need.new.self.room } = needs_new c.close_call.new.log c.need.new.self _ _ c.need.ensures.answer in
@@ -206,12 +206,15 @@ returns-in-Ok-try_unit-clause-keeps g c =
     let known : c.need.new.self.known ≡ length unit_done.log.calls = ap (λ (l : LogState). l.known) noted ∙ ap (λ (l : LogState). l.known) c.close_call.ensures.answer ∙ closed_known c.in-Ok-try_unit.tried.word unit_done.log in
     let calls : c.need.new.self.calls ≡ unit_done.log.calls = ap (λ (l : LogState). l.calls) noted ∙ ap (λ (l : LogState). l.calls) c.close_call.ensures.answer ∙ ap (λ (a : Asks). a.calls) (closed_asks word unit_done.log) in
     record {
-      same_bench = c.try_unit.ensures.keeps.same_bench ∙ c.send.ensures.keeps.same_bench ∙ c.settle.ensures.keeps.same_bench;
-      same_limits = c.try_unit.ensures.keeps.same_limits ∙ c.send.ensures.keeps.same_limits ∙ c.settle.ensures.keeps.same_limits;
-      calls = calls ∙ c.try_unit.ensures.keeps.calls ∙ c.send.ensures.keeps.calls ∙ c.settle.ensures.keeps.calls;
-      goes = goes_trans _ _ _ c.settle.ensures.keeps.goes (goes_trans _ _ _ c.send.ensures.keeps.goes (goes_trans _ _ _ c.try_unit.ensures.keeps.goes
-          (goes_later _ _ unit_done.log c.need.new.self _ _ _ _ c.in-Ok-try_unit.ensures.tries.further.end end
-          (let w = unit_done.sound.came_within in omega (arith, w, came)) (let w = unit_done.sound.known_within in omega (arith, w, known)))));
+      keeps = record {
+        same_bench = c.try_unit.ensures.tries.step.keeps.same_bench ∙ c.send.ensures.exchanges.step.keeps.same_bench ∙ c.settle.ensures.further.step.keeps.same_bench;
+        same_limits = c.try_unit.ensures.tries.step.keeps.same_limits ∙ c.send.ensures.exchanges.step.keeps.same_limits ∙ c.settle.ensures.further.step.keeps.same_limits;
+        calls = calls ∙ c.try_unit.ensures.tries.step.keeps.calls ∙ c.send.ensures.exchanges.step.keeps.calls ∙ c.settle.ensures.further.step.keeps.calls;
+        goes = goes_trans _ _ _ c.settle.ensures.further.step.keeps.goes (goes_trans _ _ _ c.send.ensures.exchanges.step.keeps.goes (goes_trans _ _ _ c.try_unit.ensures.tries.step.keeps.goes
+            (goes_later _ _ unit_done.log c.need.new.self _ _ _ _ c.in-Ok-try_unit.ensures.tries.further.end end
+            (let w = unit_done.sound.came_within in omega (arith, w, came)) (let w = unit_done.sound.known_within in omega (arith, w, known)))));
+      };
+      ends = record { no_end = end; ended = tt; memory = tt };
     }
 
 pub returns-in-Ok-try_unit-clause-fenced : goal.returns-in-Ok-try_unit-clause-fenced

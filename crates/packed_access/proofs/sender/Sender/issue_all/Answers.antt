@@ -6,6 +6,7 @@ use Rattle.target_calls.specs.Journal.{Entry}
 use Rattle.target_calls.specs.declared.calls.Ask.{Ask}
 use Rattle.access_calls.proofs.KeepLemmas.{goes_trans}
 use Rattle.packed_access.specs.Begun.{HasIssued, StopsThere, entries_of}
+use Rattle.packed_access.proofs.FrameLemmas.{asks_further, further_then}
 use Rattle.packed_access.proofs.sender.Sender.issue_all.Goals as goal
 
 pub returns-in-Err-clause-gives : goal.returns-in-Err-clause-gives
@@ -18,15 +19,24 @@ returns-in-Err-clause-gives g c = record {
       (c.in-Err.ensures.stops m0 _ answered (c.loop-access.invariant.on m0 rest h) left);
 }
 
-pub returns-in-Err-clause-keeps : goal.returns-in-Err-clause-keeps
-returns-in-Err-clause-keeps g c =
+pub returns-in-Err-clause-further : goal.returns-in-Err-clause-further
+returns-in-Err-clause-further g c =
     let before = c.loop-access.invariant in
-    let now = c.issue.ensures.keeps in
+    let now = c.issue.ensures.further in
+    let keeps = now.step.keeps in
     record {
-      same_bench = now.same_bench ∙ before.identity;
-      same_limits = now.same_limits ∙ before.limits;
-      calls = now.calls ∙ before.further.calls;
-      goes = goes_trans _ _ _ before.goes now.goes;
+      step = record {
+        keeps = record {
+          same_bench = keeps.same_bench ∙ before.identity;
+          same_limits = keeps.same_limits ∙ before.limits;
+          calls = keeps.calls ∙ before.further.calls;
+          goes = goes_trans _ _ _ before.goes keeps.goes;
+        };
+        ends = c.in-Err.ensures.further.step.ends;
+      };
+      asks = now.asks ∙ asks_further _ _ before.further;
+      so = tt;
+      managed = now.managed ∙ before.managed;
     }
 
 pub loop-access-preserved : goal.loop-access-preserved
@@ -47,20 +57,11 @@ loop-access-preserved g c =
           let there = at_drop_more (λ (l : List RegAccess). entries_of c.args.unit c.args.part l ++ rest) accesses i (record { ap = false; read = false; addr = 0; value = 0 }) c.loop-access-test.true in
           let due = subst (λ (l : List Entry). HasIssued g.F.Flights.planner (g.F.Flights.state mid.flights) mid.log (g.F.Flights.accesses mid.flights) l m0) there (before.on m0 rest h) in
           now.spare m0 entry (entries_of c.args.unit c.args.part (drop (i + 1) accesses) ++ rest) points due refl (before.spare m0 rest points h s);
-      goes = goes_trans _ _ _ before.goes c.issue.ensures.keeps.goes;
+      goes = goes_trans _ _ _ before.goes c.issue.ensures.further.step.keeps.goes;
       entries = (let a = before.entries in let n = ap length now.entries ∙ length-append mid.log.entries (record { unit = c.args.unit; part = c.args.part } ∷ []) in omega (arith, a, n));
-      further = record {
-        calls = now.further.so.calls ∙ before.further.calls;
-        places = now.further.so.places ∙ before.further.places;
-        whole = now.further.so.whole ∙ before.further.whole;
-        room = now.further.so.room ∙ before.further.room;
-        needs = now.further.so.needs ∙ before.further.needs;
-        fence = now.further.so.fence ∙ before.further.fence;
-        skipped = now.further.so.skipped ∙ before.further.skipped;
-        end = now.further.so.end;
-      };
+      further = further_then _ _ _ before.further now.further.so;
       pending = λ some. now.pending;
-      managed = c.issue.ensures.managed ∙ before.managed;
-      limits = c.issue.ensures.keeps.same_limits ∙ before.limits;
-      identity = c.issue.ensures.keeps.same_bench ∙ before.identity;
+      managed = c.issue.ensures.further.managed ∙ before.managed;
+      limits = c.issue.ensures.further.step.keeps.same_limits ∙ before.limits;
+      identity = c.issue.ensures.further.step.keeps.same_bench ∙ before.identity;
     }

@@ -27,8 +27,7 @@ returns-else-makes_alone g c =
         stops = λ m0 calls ask answered this h left. e.gives.stops m0 calls ask answered (ap (λ (a : Ask). a.call) this.1, ap is_forgiving this.1 ∙ mild) h left;
       };
       small = λ m0 calls ask set is h. e.small m0 calls ask (ap (λ (a : Ask). a.call) is) (ap is_forgiving is ∙ mild) h;
-      keeps = e.keeps;
-      ends = e.ends;
+      step = e.step;
       asks = e.asks;
       fenced = e.fenced;
     }

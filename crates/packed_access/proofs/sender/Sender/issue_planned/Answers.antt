@@ -89,26 +89,26 @@ returns-in-Ok-clause-gives g c =
       on = λ m0 calls ask this h. let is = this.0 in let mild = this.1 in
           let asked = c.args.unit.now in
           let first = settle_left g.F.Flights.planner _ old.log _ _ old.managed c.args.unit.now _ m0 before needs (planned_left g.F.Flights.planner _ old.log _ old.managed calls ask c.args.unit.now m0 is mild c.requires.planned h) in
-          let r = settled_ready g.F.Flights.planner _ _ old.log mid.log _ _ old.managed mid.managed c.args.unit.now _ m0 needs first (c.in-Ok.ensures.gives.on m0 _ first) c.in-Ok.ensures.further.so.calls c.settle.ensures.managed in
+          let r = settled_ready g.F.Flights.planner _ _ old.log mid.log _ _ old.managed mid.managed c.args.unit.now _ m0 needs first (c.in-Ok.ensures.gives.on m0 _ first) c.in-Ok.ensures.further.so.calls c.settle.ensures.further.managed in
           c.issue_by_cfg-in-Ok.ensures.gives.on m0 r.left;
       spare = λ m0 calls ask left this h s. let is = this.0 in let mild = this.1 in
           let first = settle_left g.F.Flights.planner _ old.log _ _ old.managed c.args.unit.now _ m0 before needs (planned_left g.F.Flights.planner _ old.log _ old.managed calls ask c.args.unit.now m0 is mild c.requires.planned h) in
-          let r = settled_ready g.F.Flights.planner _ _ old.log mid.log _ _ old.managed mid.managed c.args.unit.now _ m0 needs first (c.in-Ok.ensures.gives.on m0 _ first) c.in-Ok.ensures.further.so.calls c.settle.ensures.managed in
+          let r = settled_ready g.F.Flights.planner _ _ old.log mid.log _ _ old.managed mid.managed c.args.unit.now _ m0 needs first (c.in-Ok.ensures.gives.on m0 _ first) c.in-Ok.ensures.further.so.calls c.settle.ensures.further.managed in
           c.issue_by_cfg-in-Ok.ensures.gives.spare m0 left r.left (spared_same g.F.Flights.planner _ _ _ old.log mid.log s.paid left m0 s.covers c.in-Ok.ensures.further.so (c.in-Ok.ensures.gives.spare m0 _ s.paid first s.spared));
       needs = λ m0 calls ask this h. let is = this.0 in let mild = this.1 in
           let asked = c.args.unit.now in
           let first = settle_left g.F.Flights.planner _ old.log _ _ old.managed c.args.unit.now _ m0 before needs (planned_left g.F.Flights.planner _ old.log _ old.managed calls ask c.args.unit.now m0 is mild c.requires.planned h) in
-          let r = settled_ready g.F.Flights.planner _ _ old.log mid.log _ _ old.managed mid.managed c.args.unit.now _ m0 needs first (c.in-Ok.ensures.gives.on m0 _ first) c.in-Ok.ensures.further.so.calls c.settle.ensures.managed in
+          let r = settled_ready g.F.Flights.planner _ _ old.log mid.log _ _ old.managed mid.managed c.args.unit.now _ m0 needs first (c.in-Ok.ensures.gives.on m0 _ first) c.in-Ok.ensures.further.so.calls c.settle.ensures.further.managed in
           ok_then _ _ c.issue_by_cfg-in-Ok.result (needs_is g.F.Flights.planner _ _ old.log mid.log new.log _ _ old.managed mid.managed calls ask asked m0 is mild c.requires.no_poll c.requires.planned h r c.settle.ensures.further.asks) (c.issue_by_cfg-in-Ok.ensures.asks m0 r.left);
       broke = λ m0 calls ask this h. let is = this.0 in let mild = this.1 in
           let asked = c.args.unit.now in
           let first = settle_left g.F.Flights.planner _ old.log _ _ old.managed c.args.unit.now _ m0 before needs (planned_left g.F.Flights.planner _ old.log _ old.managed calls ask c.args.unit.now m0 is mild c.requires.planned h) in
-          let r = settled_ready g.F.Flights.planner _ _ old.log mid.log _ _ old.managed mid.managed c.args.unit.now _ m0 needs first (c.in-Ok.ensures.gives.on m0 _ first) c.in-Ok.ensures.further.so.calls c.settle.ensures.managed in
+          let r = settled_ready g.F.Flights.planner _ _ old.log mid.log _ _ old.managed mid.managed c.args.unit.now _ m0 needs first (c.in-Ok.ensures.gives.on m0 _ first) c.in-Ok.ensures.further.so.calls c.settle.ensures.further.managed in
           c.issue_by_cfg-in-Ok.ensures.gives.broke m0 r.left;
       stops = λ m0 calls ask answered this h left. let is = this.0 in let mild = this.1 in
           let asked = c.args.unit.now in
           let first = settle_left g.F.Flights.planner _ old.log _ _ old.managed c.args.unit.now _ m0 before needs (planned_left g.F.Flights.planner _ old.log _ old.managed calls ask c.args.unit.now m0 is mild c.requires.planned h) in
-          let r = settled_ready g.F.Flights.planner _ _ old.log mid.log _ _ old.managed mid.managed c.args.unit.now _ m0 needs first (c.in-Ok.ensures.gives.on m0 _ first) c.in-Ok.ensures.further.so.calls c.settle.ensures.managed in
+          let r = settled_ready g.F.Flights.planner _ _ old.log mid.log _ _ old.managed mid.managed c.args.unit.now _ m0 needs first (c.in-Ok.ensures.gives.on m0 _ first) c.in-Ok.ensures.further.so.calls c.settle.ensures.further.managed in
           subst (λ (l : List Ask). IfErr c.issue_by_cfg-in-Ok.result (StopsThere m0 answered l new.log.lines)) c.in-Ok.ensures.further.so.calls (c.issue_by_cfg-in-Ok.ensures.gives.stops m0 answered r.left left);
     }
 
@@ -121,7 +121,7 @@ returns-in-Ok-clause-kept g c = λ m0 calls ask is mild h.
     let needs : needs_settle old.managed c.args.unit.now ≡ true = search rules in
     let before : c.count-before.result - 1 ≡ length old.log.calls - 1 = ap (λ (n : ℕ). n - 1) c.count-before.ensures in
     let first = settle_left g.F.Flights.planner _ old.log _ _ old.managed c.args.unit.now _ m0 before needs (planned_left g.F.Flights.planner _ old.log _ old.managed calls ask c.args.unit.now m0 is mild c.requires.planned h) in
-    let r = settled_ready g.F.Flights.planner _ _ old.log mid.log _ _ old.managed mid.managed c.args.unit.now _ m0 needs first (c.in-Ok.ensures.gives.on m0 _ first) c.in-Ok.ensures.further.so.calls c.settle.ensures.managed in
+    let r = settled_ready g.F.Flights.planner _ _ old.log mid.log _ _ old.managed mid.managed c.args.unit.now _ m0 needs first (c.in-Ok.ensures.gives.on m0 _ first) c.in-Ok.ensures.further.so.calls c.settle.ensures.further.managed in
     ok_then _ _ c.issue_by_cfg-in-Ok.result (kept_is g.F.Flights.planner _ _ old.log mid.log _ _ old.managed mid.managed _ calls ask asked m0 is mild c.requires.planned h r) (c.issue_by_cfg-in-Ok.ensures.kept m0 r.left)
 
 pub returns-in-Ok-clause-small : goal.returns-in-Ok-clause-small
@@ -133,7 +133,7 @@ returns-in-Ok-clause-small g c = λ m0 calls ask is mild h.
     let needs : needs_settle old.managed c.args.unit.now ≡ true = search rules in
     let before : c.count-before.result - 1 ≡ length old.log.calls - 1 = ap (λ (n : ℕ). n - 1) c.count-before.ensures in
     let first = settle_left g.F.Flights.planner _ old.log _ _ old.managed c.args.unit.now _ m0 before needs (planned_left g.F.Flights.planner _ old.log _ old.managed calls ask c.args.unit.now m0 is mild c.requires.planned h) in
-    let r = settled_ready g.F.Flights.planner _ _ old.log mid.log _ _ old.managed mid.managed c.args.unit.now _ m0 needs first (c.in-Ok.ensures.gives.on m0 _ first) c.in-Ok.ensures.further.so.calls c.settle.ensures.managed in
+    let r = settled_ready g.F.Flights.planner _ _ old.log mid.log _ _ old.managed mid.managed c.args.unit.now _ m0 needs first (c.in-Ok.ensures.gives.on m0 _ first) c.in-Ok.ensures.further.so.calls c.settle.ensures.further.managed in
     at_ok_then _ _ c.issue_by_cfg-in-Ok.result (λ v. small_is g.F.Flights.planner _ _ old.log mid.log _ _ old.managed mid.managed calls ask asked v m0 is h r) (c.issue_by_cfg-in-Ok.ensures.small m0 calls ask (c.in-Ok.ensures.further.so.calls ∙ h.are) r.left)
 
 pub returns-in-Err-clause-gives : goal.returns-in-Err-clause-gives
@@ -154,4 +154,4 @@ returns-in-Err-clause-gives g c =
     }
 
 pub returns-in-Ok-clause-fenced : goal.returns-in-Ok-clause-fenced
-returns-in-Ok-clause-fenced g c = past_before c.args.self.now.log c.settle.new.self.log c.issue_by_cfg-in-Ok.new.self.log c.issue_by_cfg-in-Ok.result c.in-Ok.ensures.further.so c.settle.ensures.keeps.goes.known c.issue_by_cfg-in-Ok.ensures.fenced
+returns-in-Ok-clause-fenced g c = past_before c.args.self.now.log c.settle.new.self.log c.issue_by_cfg-in-Ok.new.self.log c.issue_by_cfg-in-Ok.result c.in-Ok.ensures.further.so c.settle.ensures.further.step.keeps.goes.known c.issue_by_cfg-in-Ok.ensures.fenced
