@@ -3,7 +3,7 @@ ghost use Rattle.std.specs.Prelude.{◌≡◌, ◌++◌, ◌∷◌, [], drop, ta
 ghost use Rattle.log_lines.specs.Places.{debug_spot, spot_in};
 
 use dap_base::{ItemList, NameText, OutOfMemory, Place};
-use sequence_trees::{Part, Spot, StepPath};
+use sequence_trees::{Part, Spot, StepPath, copy_path};
 use std::alloc::Global;
 use std::marker::Model;
 
@@ -23,17 +23,6 @@ impl Model for Places {
     ghost Value = { List Spot };
 
     ghost view = { λ places. reverse places.spots.items };
-}
-
-// A copy of a path.
-fn copy_path(alloc: Global, path: &[u64]) -> Result<StepPath, OutOfMemory>
-    ensures { IfOk result (λ copy. copy ≡ path.now) }
-{
-    let mut copy = ItemList::new(alloc);
-    for number in path {
-        copy.push(*number)?;
-    }
-    Ok(copy)
 }
 
 // A name, in the memory of an earlier one where that is the same.

@@ -13,7 +13,7 @@ use crate::keys::{FoundKey, key_of};
 use crate::lined::LinedFault;
 use crate::texts::copy_of;
 use dap_base::{ItemList, OutOfMemory};
-use sequence_trees::{Spot, StepPath};
+use sequence_trees::{Spot, copy_path};
 use set_faults::Fault;
 use set_lines::name_of;
 use std::alloc::Global;
@@ -37,16 +37,6 @@ impl<'k> Faults<'k> {
             places: BTreeMap::new(alloc),
         }
     }
-}
-
-fn copy_path(alloc: Global, path: &[u64]) -> Result<StepPath, OutOfMemory>
-    ensures { IfOk result (λ copy. copy ≡ path.now) }
-{
-    let mut copy = ItemList::new(alloc);
-    for number in path {
-        copy.push(*number)?;
-    }
-    Ok(copy)
 }
 
 fn copy_fault(alloc: Global, fault: &Fault) -> Result<Fault, OutOfMemory>

@@ -6,7 +6,6 @@ mod keys;
 pub mod laws;
 mod lined;
 mod merging;
-mod texts;
 mod warnings;
 
 pub use answer::{FoundWarning, PackWarning};

@@ -10,7 +10,7 @@ use crate::words::{if_words, statement_words, while_words};
 use dap_base::{ItemList, OutOfMemory, Place};
 use expr_grammar::{Expr, Stmt};
 use seq_check::Checked;
-use sequence_trees::{CheckedStep, StepPath};
+use sequence_trees::{CheckedStep, inner_path};
 use std::alloc::Global;
 use text_lines::Line;
 
@@ -31,18 +31,6 @@ pub fn place_of(statement: &Stmt) -> Place
         Stmt::Empty(at) | Stmt::Plain(at, _) => *at,
         Stmt::Declare(name, _) => name.at,
     }
-}
-
-// The path of a step inside the one at the path.
-fn inner_path(alloc: Global, path: &[u64], number: u64) -> Result<StepPath, OutOfMemory>
-    ensures { IfOk result (λ inner. inner ≡ path.now ++ number ∷ []) }
-{
-    let mut inner = ItemList::new(alloc);
-    for step in path {
-        inner.push(*step)?;
-    }
-    inner.push(number)?;
-    Ok(inner)
 }
 
 fn push_statement(

@@ -7,7 +7,7 @@ ghost use Rattle.run_coverage.specs.Items.{ran_words};
 ghost use Rattle.run_coverage.specs.Ran.{is_had, words_of};
 
 use dap_base::{ItemList, NameText, OutOfMemory, Place};
-use sequence_trees::StepPath;
+use sequence_trees::{StepPath, copy_path};
 use std::alloc::Global;
 
 // How many statements are remembered.
@@ -19,17 +19,6 @@ pub struct Ran {
     sequence: NameText,
     path: StepPath,
     place: Place,
-}
-
-// A copy of a path.
-fn copy_path(alloc: Global, path: &[u64]) -> Result<StepPath, OutOfMemory>
-    ensures { IfOk result (λ copy. copy ≡ path.now) }
-{
-    let mut copy = ItemList::new(alloc);
-    for number in path {
-        copy.push(*number)?;
-    }
-    Ok(copy)
 }
 
 impl Ran {

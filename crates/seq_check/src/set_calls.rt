@@ -8,11 +8,11 @@ ghost use Rattle.seq_check.specs.Calls.{sequence_calls, set_calls, call_graph};
 ghost use Rattle.seq_check.specs.Valid.{IsCallAt};
 
 use crate::sets::{name_of, steps_of};
-use crate::step_calls::{StepCall, copy_path, push_steps};
+use crate::step_calls::{StepCall, push_steps};
 use call_graph::{CallGraph, CallSpot};
 use code_check::Names;
 use dap_base::{ItemList, NameText, OutOfMemory};
-use sequence_trees::{CheckedStep, ReadSet, Spot};
+use sequence_trees::{CheckedStep, ReadSet, Spot, copy_path};
 use std::alloc::Global;
 
 /// The calls of one sequence, in the order of the text.

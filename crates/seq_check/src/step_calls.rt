@@ -9,7 +9,7 @@ use crate::calls::{TextCall, push_block, push_condition};
 use code_check::Names;
 use dap_base::{ItemList, OutOfMemory, Place};
 use expr_grammar::{Expr, Stmt};
-use sequence_trees::{CheckedStep, Part, StepPath};
+use sequence_trees::{CheckedStep, Part, StepPath, inner_path};
 use std::alloc::Global;
 
 /// A call of a sequence, and where it stands in the sequence that calls.
@@ -23,26 +23,6 @@ pub struct StepCall {
     pub place: Place,
     /// The number of the sequence that is called, counted from 0.
     pub callee: usize,
-}
-
-/// A copy of a path.
-pub fn copy_path(alloc: Global, path: &[u64]) -> Result<StepPath, OutOfMemory>
-    ensures { IfOk result (λ copy. copy ≡ path.now) }
-{
-    let mut copy = ItemList::new(alloc);
-    for number in path {
-        copy.push(*number)?;
-    }
-    Ok(copy)
-}
-
-// The path of a step inside the one at the path.
-fn inner_path(alloc: Global, path: &[u64], number: u64) -> Result<StepPath, OutOfMemory>
-    ensures { IfOk result (λ inner. inner ≡ path.now ++ number ∷ []) }
-{
-    let mut inner = copy_path(alloc, path)?;
-    inner.push(number)?;
-    Ok(inner)
 }
 
 // Appends the calls of a text as those of a part of the step of this number inside the one at the path. A path is made for each

@@ -4,7 +4,7 @@ ghost use Rattle.set_faults.specs.Sites.{name_now, site_step, spot_at, code_faul
 
 use code_check::{CodeFault, FaultKind};
 use dap_base::{ItemList, NameText, OutOfMemory, Place};
-use sequence_trees::{Part, Spot, StepPath};
+use sequence_trees::{Part, Spot, copy_path};
 use std::alloc::Global;
 
 /// A fault of a set.
@@ -21,25 +21,6 @@ pub struct Fault {
 pub struct Site<'a> {
     pub sequence: Option<&'a str>,
     pub path: &'a [u64],
-}
-
-fn copy_path(alloc: Global, path: &[u64]) -> Result<StepPath, OutOfMemory>
-    ensures { IfOk result (λ copy. copy ≡ path.now) }
-{
-    let mut copy = ItemList::new(alloc);
-    for number in path {
-        copy.push(*number)?;
-    }
-    Ok(copy)
-}
-
-/// The path of the step of this number inside the one at the path.
-pub fn inner_path(alloc: Global, path: &[u64], number: u64) -> Result<StepPath, OutOfMemory>
-    ensures { IfOk result (λ inner. inner ≡ path.now ++ number ∷ []) }
-{
-    let mut inner = copy_path(alloc, path)?;
-    inner.push(number)?;
-    Ok(inner)
 }
 
 fn copy_name(alloc: Global, name: Option<&str>) -> Result<Option<NameText>, OutOfMemory>

@@ -9,11 +9,11 @@ ghost use Rattle.set_faults.specs.Sites.{site_step, step_fault_at, Appends};
 
 use crate::blocks::block_faults;
 use crate::controls::add_own;
-use crate::site::{Fault, Site, add_part, inner_path};
+use crate::site::{Fault, Site, add_part};
 use code_check::{Names, Scope};
 use dap_base::{ItemList, OutOfMemory};
 use expr_grammar::Stmt;
-use sequence_trees::{CheckedStep, Part};
+use sequence_trees::{CheckedStep, Part, inner_path};
 use std::alloc::Global;
 
 // Adds the faults of a block, and makes the names visible that it declares.

@@ -7,12 +7,12 @@ ghost use Rattle.sequence_trees.specs.Outcomes.{step_texts};
 ghost use Rattle.set_faults.specs.Sites.{site_step};
 ghost use Rattle.set_faults.specs.Syntax.{IsFaultOf, syntax_fault, AreSyntaxFaults, AddsFaultsOf, inside};
 
-use crate::site::{Fault, Site, add_fault, inner_path};
+use crate::site::{Fault, Site, add_fault};
 use code_check::{CodeFault, FaultKind};
 use dap_base::{ItemList, NameText, OutOfMemory, Place};
 use device_tree::{Step, Steps};
 use sequence_resolve::{SeqEntry, SeqSet};
-use sequence_trees::{Part, TextFault, read_code, read_condition};
+use sequence_trees::{Part, TextFault, inner_path, read_code, read_condition};
 use std::alloc::Global;
 
 // The place of the first fault of a code; `None` where it has none.

@@ -7,13 +7,13 @@ ghost use Rattle.set_warnings.specs.Assigned.{block_warnings};
 ghost use Rattle.set_warnings.specs.Steps.{at_part, own_warnings, step_warnings, steps_warnings};
 
 use crate::assigned::{add_block, add_condition};
-use crate::site::{Site, inner_path};
+use crate::site::Site;
 use crate::waits::{add_long, add_wait};
 use crate::warning::Warning;
 use code_check::Names;
 use dap_base::{ItemList, OutOfMemory};
 use expr_grammar::Expr;
-use sequence_trees::{CheckedStep, Part};
+use sequence_trees::{CheckedStep, Part, inner_path};
 use std::alloc::Global;
 
 // Adds what a control has itself.

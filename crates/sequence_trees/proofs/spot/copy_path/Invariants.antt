@@ -1,5 +1,5 @@
 use Rattle.std.proofs.Common.{◌≡◌, take}
-use Rattle.logged_runs.proofs.places.copy_path.Given as goal
+use Rattle.sequence_trees.proofs.spot.copy_path.Given as goal
 
 abbrev pub invariant-loop-number : goal.invariant-loop-number
 invariant-loop-number l = l.copy ≡ take l.number-index l.path
