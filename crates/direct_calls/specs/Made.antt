@@ -1,5 +1,5 @@
 -- How the code of a call at once is the call.
-use Rattle.std.specs.Prelude.{◌≡◌, ℕ, Bool, false, List, Result, Ok, Err, if◌then◌else◌}
+use Rattle.std.specs.Prelude.{◌≡◌, ℕ, Bool, true, false, List, Result, Ok, Err, if◌then◌else◌}
 use Rattle.dap_base.specs.declared.text.OutOfMemory.{OutOfMemory}
 use Rattle.target_machine.specs.Plain.{CallDone, CallEnd, Answered, Skipped, Faulted, Small, from_lanes, given, is_fault, needs_cfg}
 use Rattle.target_machine.specs.declared.unit.Call.{Call}
@@ -32,6 +32,12 @@ takes_memory large _ = false
 abbrev pub MadeAs : CallDone → Result Made OutOfMemory → TargetState → List ℕ → Type 0
 MadeAs d (Ok m) next large = IsDone d (call_end_of m) next large
 MadeAs d (Err e) next large = Unit {0}
+
+-- Memory was refused where it has to be taken, and nothing was made.
+pub record IsRefused (takes : Bool) (old new : TargetState) (listed large : List ℕ) : Type 0 where
+  pub taking : takes ≡ true
+  pub same_target : new ≡ old
+  pub same_large : large ≡ listed
 
 -- how an access that is no memory access ends by what its last register access answered
 abbrev pub end_by : Outcome → CallEnd

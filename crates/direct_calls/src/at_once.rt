@@ -4,7 +4,7 @@ ghost use Rattle.target_calls.specs.World.{is_faulted};
 ghost use Rattle.target_machine.specs.Plain.{Answered, call_done, may_forgive};
 ghost use Rattle.target_machine.specs.Sound.{IsSound, IsSoundCall, IsSoundProbe};
 ghost use Rattle.target_machine.specs.declared.unit.Call.TheVariants as calls;
-ghost use Rattle.direct_calls.specs.Made.{IsDone, MadeAs, call_end_of, takes_memory};
+ghost use Rattle.direct_calls.specs.Made.{IsDone, IsRefused, MadeAs, call_end_of, takes_memory};
 
 use crate::commands::command_now;
 use crate::made::{Made, met_fault};
@@ -42,8 +42,7 @@ fn access_at_once(
 ) -> Result<Made, OutOfMemory>
     requires { IsSound unit }
     ensures made { MadeAs (call_done target.old large.old.items forgive (calls.Access unit)) result target.new large.new.items }
-    ensures cause { OnErr result (takes_memory large.old.items (calls.Access unit) ≡ true) }
-    ensures same { OnErr result ((target.new ≡ target.old) × (large.new.items ≡ large.old.items)) }
+    ensures refused { OnErr result (IsRefused (takes_memory large.old.items (calls.Access unit)) target.old target.new large.old.items large.new.items) }
 {
     let made = match make_plain(target, unit, large) {
         Ok(made) => made,
@@ -80,9 +79,8 @@ pub fn call_at_once(
     requires { IsSoundCall call }
     // The end, the target and the list are those of the call.
     ensures answer { MadeAs (call_done target.old large.old.items forgive call) result target.new large.new.items }
-    // Memory is refused only where CFG has to be read.
-    ensures cause { OnErr result (takes_memory large.old.items call ≡ true) }
-    ensures same { OnErr result ((target.new ≡ target.old) × (large.new.items ≡ large.old.items)) }
+    // Memory is refused only where CFG has to be read, and then nothing was made.
+    ensures refused { OnErr result (IsRefused (takes_memory large.old.items call) target.old target.new large.old.items large.new.items) }
 {
     match call {
         Call::Access(unit) => access_at_once(target, unit, forgive, large),

@@ -3,7 +3,7 @@ ghost use Rattle.std.specs.Prelude.{◌≡◌, ℕ, ◌<◌, ◌*◌, ◌^◌, �
 ghost use Rattle.target_machine.specs.Plain.{call_done, cfg_actions, contains, has_large, in_order, is_fault, memory_actions, needs_cfg};
 ghost use Rattle.target_machine.specs.Sound.{IsSound, IsSoundMemory};
 ghost use Rattle.target_machine.specs.declared.unit.Call.TheVariants as calls;
-ghost use Rattle.direct_calls.specs.Made.{IsDone, MadeAs, call_end_of, memory_end_by, takes_memory};
+ghost use Rattle.direct_calls.specs.Made.{IsDone, IsRefused, MadeAs, call_end_of, memory_end_by, takes_memory};
 
 use crate::accesses::{has_faulted, make_all, make_next, number_of};
 use crate::made::{Made, made_of};
@@ -121,7 +121,7 @@ fn make_wide_memory(
     requires sound { IsSoundMemory size read address value }
     requires wide { needs_cfg large.old.items ap address ≡ true }
     ensures made { MadeAs (call_done target.old large.old.items false (calls.Access (Unit.Memory size read ap address value))) result target.new large.new.items }
-    ensures same { OnErr result ((target.new ≡ target.old) × (large.new.items ≡ large.old.items)) }
+    ensures refused { OnErr result (IsRefused true target.old target.new large.old.items large.new.items) }
 {
     // The AP is listed first, so that nothing was made where memory is refused.
     let known = large.len();
@@ -153,8 +153,7 @@ fn make_plain_memory(
 ) -> Result<Made, OutOfMemory>
     requires { IsSoundMemory size read address value }
     ensures made { MadeAs (call_done target.old large.old.items false (calls.Access (Unit.Memory size read ap address value))) result target.new large.new.items }
-    ensures cause { OnErr result (needs_cfg large.old.items ap address ≡ true) }
-    ensures same { OnErr result ((target.new ≡ target.old) × (large.new.items ≡ large.old.items)) }
+    ensures refused { OnErr result (IsRefused (needs_cfg large.old.items ap address) target.old target.new large.old.items large.new.items) }
 {
     if reads_cfg(large, ap, address) {
         return make_wide_memory(target, large, size, read, ap, address, value);
@@ -196,8 +195,7 @@ pub(crate) fn make_plain(
 ) -> Result<Made, OutOfMemory>
     requires { IsSound unit }
     ensures made { MadeAs (call_done target.old large.old.items false (calls.Access unit)) result target.new large.new.items }
-    ensures cause { OnErr result (takes_memory large.old.items (calls.Access unit) ≡ true) }
-    ensures same { OnErr result ((target.new ≡ target.old) × (large.new.items ≡ large.old.items)) }
+    ensures refused { OnErr result (IsRefused (takes_memory large.old.items (calls.Access unit)) target.old target.new large.old.items large.new.items) }
 {
     match unit {
         Unit::Memory {
