@@ -1,6 +1,7 @@
 pub mod Answers
 pub mod Asking
 pub mod Bounds
+pub mod CallEnds
 pub mod Causes
 pub mod Copy
 pub mod Endings

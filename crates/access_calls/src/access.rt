@@ -1,5 +1,5 @@
 //! What a run asks of an access to the target.
-ghost use Rattle.std.specs.Prelude.{◌≡◌, ◌<◌, ◌≤◌, ◌^◌, ◌++◌, ◌∷◌, [], ℕ, Bool, List, Option, None, length, slice_index, OnOk, IfOk, IfErr, IfSome, Err};
+ghost use Rattle.std.specs.Prelude.{◌≡◌, ◌<◌, ◌≤◌, ◌^◌, ◌++◌, ◌∷◌, [], ℕ, Bool, List, Option, None, length, slice_index, OnOk, IfOk, IfErr};
 ghost use Rattle.target_machine.specs.Sound.{IsSound, IsSoundProbe};
 ghost use Rattle.target_machine.specs.State.{TargetState};
 ghost use Rattle.probe_core.specs.Bench.{BenchState};
@@ -9,14 +9,13 @@ ghost use Rattle.target_calls.specs.Journal.{Entry};
 ghost use Rattle.target_calls.specs.NeedPoints.{Costs, asked, finished, needed, used};
 ghost use Rattle.target_calls.specs.World.{results, small_now, stop};
 ghost use Rattle.target_calls.specs.declared.calls.Ask.{Ask};
-ghost use Rattle.access_calls.specs.Answers.{HasSlot, IsEnd, IsSmallOnly, IsSmallWhere, NoMemory, StopsCalls, StopsSettling};
-ghost use Rattle.access_calls.specs.Answers.{UnchangedByMemory, calls_after, calls_finished};
+ghost use Rattle.access_calls.specs.Answers.{HasSlot, IsSmallOnly, IsSmallWhere, StopsCalls, StopsSettling, calls_after, calls_finished};
 ghost use Rattle.access_calls.specs.Bounds.{KeepsBoundsIf};
+ghost use Rattle.access_calls.specs.CallEnds.{EndsAtAsk, EndsAtFlush, EndsAtValue, InEachOpenWorld, InEachWorld};
 ghost use Rattle.access_calls.specs.Causes.{KeepsReplyAt};
-ghost use Rattle.access_calls.specs.GoesOn.{GoesOn};
 ghost use Rattle.access_calls.specs.Growing.{JournalGrows, JournalSettles};
 ghost use Rattle.access_calls.specs.Left.{IsLeft};
-ghost use Rattle.access_calls.specs.Reported.{AccessView, began, world_from};
+ghost use Rattle.access_calls.specs.Reported.{AccessView, began};
 ghost use Rattle.access_calls.specs.Standing.{Stands};
 
 use crate::Stop;
@@ -63,20 +62,13 @@ pub trait Access {
         ensures slot { IfOk result (HasSlot (length (reported self.old).asks.calls)) }
         ensures wide { IfOk result (IsSmallOnly (is_wide unit)) }
         ensures calls { (reported self.new).asks.calls ≡ calls_after (reported self.old) (unit_ask unit forgive) result }
-        ensures needs { (m : BenchState) (answered : Option ℕ) → begun self.old m → IsLeft (reported self.new) answered
-            → OnOk result ((reported self.new).asks
-            ≡ asked (cost (target_of m.probe) (reported self.old).asks.calls (unit_ask unit forgive)) (unit_ask unit forgive) (reported self.old).asks) }
-        ensures small { (m : BenchState) (answered : Option ℕ) → begun self.old m → IsLeft (reported self.new) answered
-            → IfOk result (IsSmallWhere (small_now (world_from m answered) (reported self.old).asks.calls (unit_ask unit forgive))) }
-        ensures stops { (m : BenchState) (answered : Option ℕ) → begun self.old m → IsLeft (reported self.new) answered → (reported self.old).end ≡ None
-            → IfErr result (StopsCalls (world_from m answered) ((reported self.old).asks.calls ++ unit_ask unit forgive ∷ []) (reported self.new).lines) }
-        ensures open { OnOk result ((reported self.new).end ≡ None) }
-        ensures memory { IfErr result (UnchangedByMemory (reported self.old) (reported self.new)) }
-        ensures end { IfErr result (IsEnd (reported self.new).end) }
-        ensures ended { IfSome (reported self.old).end (λ s. result ≡ Err s) }
-        ensures on { (m : BenchState) → begun self.old m → begun self.new m }
-        ensures identity { identity self.new ≡ identity self.old }
-        ensures goes { GoesOn (reported self.old) (reported self.new) };
+        ensures needs { InEachWorld begun reported self.old self.new (λ w. OnOk result ((reported self.new).asks
+            ≡ asked (cost w.target (reported self.old).asks.calls (unit_ask unit forgive)) (unit_ask unit forgive) (reported self.old).asks)) }
+        ensures small { InEachWorld begun reported self.old self.new (λ w.
+            IfOk result (IsSmallWhere (small_now w (reported self.old).asks.calls (unit_ask unit forgive)))) }
+        ensures stops { InEachOpenWorld begun reported self.old self.new (λ w.
+            IfErr result (StopsCalls w ((reported self.old).asks.calls ++ unit_ask unit forgive ∷ []) (reported self.new).lines)) }
+        ensures ends { EndsAtAsk begun reported identity result self.old self.new };
 
     /// Makes all that was asked, and then a command of the probe. Fewer than 10,000,000 calls may
     /// have been asked before. Answers the result, which for pins is their levels and else 0. At an
@@ -86,81 +78,46 @@ pub trait Access {
         requires few { length (reported self.old).asks.calls < 10000000 }
         ensures bound { IfOk result (λ n. n < 2 ^ 32) }
         ensures calls { (reported self.new).asks.calls ≡ calls_after (reported self.old) (probe_ask call) result }
-        ensures needs { (m : BenchState) (answered : Option ℕ) → begun self.old m → IsLeft (reported self.new) answered
-            → OnOk result ((reported self.new).asks
-            ≡ asked (cost (target_of m.probe) (reported self.old).asks.calls (probe_ask call)) (probe_ask call) (reported self.old).asks) }
-        ensures value { (m : BenchState) (answered : Option ℕ) → begun self.old m → IsLeft (reported self.new) answered
-            → IfOk result (λ n. n ≡ slice_index (results (world_from m answered) ((reported self.old).asks.calls ++ probe_ask call ∷ []))
-            (length (reported self.old).asks.calls)) }
-        ensures whole { (m : BenchState) (answered : Option ℕ) → begun self.old m → IsLeft (reported self.new) answered
-            → OnOk result (stop (world_from m answered) ((reported self.old).asks.calls ++ probe_ask call ∷ []) ≡ None) }
-        ensures stops { (m : BenchState) (answered : Option ℕ) → begun self.old m → IsLeft (reported self.new) answered → (reported self.old).end ≡ None
-            → IfErr result (StopsCalls (world_from m answered) ((reported self.old).asks.calls ++ probe_ask call ∷ []) (reported self.new).lines) }
+        ensures needs { InEachWorld begun reported self.old self.new (λ w. OnOk result ((reported self.new).asks
+            ≡ asked (cost w.target (reported self.old).asks.calls (probe_ask call)) (probe_ask call) (reported self.old).asks)) }
+        ensures value { InEachWorld begun reported self.old self.new (λ w.
+            IfOk result (λ n. n ≡ slice_index (results w ((reported self.old).asks.calls ++ probe_ask call ∷ [])) (length (reported self.old).asks.calls))) }
+        ensures whole { InEachWorld begun reported self.old self.new (λ w. OnOk result (stop w ((reported self.old).asks.calls ++ probe_ask call ∷ []) ≡ None)) }
+        ensures stops { InEachOpenWorld begun reported self.old self.new (λ w.
+            IfErr result (StopsCalls w ((reported self.old).asks.calls ++ probe_ask call ∷ []) (reported self.new).lines)) }
         ensures known { OnOk result ((reported self.new).known ≡ length (reported self.new).asks.calls) }
-        ensures open { OnOk result ((reported self.new).end ≡ None) }
-        ensures memory { IfErr result (UnchangedByMemory (reported self.old) (reported self.new)) }
-        ensures end { IfErr result (IsEnd (reported self.new).end) }
-        ensures ended { IfSome (reported self.old).end (λ s. result ≡ Err s) }
-        ensures on { (m : BenchState) → begun self.old m → begun self.new m }
-        ensures identity { identity self.new ≡ identity self.old }
-        ensures goes { GoesOn (reported self.old) (reported self.new) };
+        ensures ends { EndsAtAsk begun reported identity result self.old self.new };
 
     /// The result of a call, below 2^32, and 0 for a place that was not answered by `ask`. Makes what
     /// was asked where the result has not come; a result that was answered once, or came before, is
     /// answered from then on, also after an end. Takes no memory, and answers no `OutOfMemory`.
     fn value(&mut self, slot: Slot) -> Result<u64, Stop>
         ensures bound { IfOk result (λ n. n < 2 ^ 32) }
-        ensures value { (m : BenchState) (answered : Option ℕ) → begun self.old m → IsLeft (reported self.new) answered
-            → IfOk result (λ n. n ≡ slice_index (results (world_from m answered) (reported self.old).asks.calls) slot.index) }
+        ensures value { InEachWorld begun reported self.old self.new (λ w. IfOk result (λ n. n ≡ slice_index (results w (reported self.old).asks.calls) slot.index)) }
         ensures came { slot.index < (reported self.old).known → IfErr result (λ s. ⊥) }
         ensures known { slot.index < length (reported self.old).asks.calls → OnOk result (slot.index < (reported self.new).known) }
         ensures asks { OnOk result ((reported self.new).asks ≡ used slot (reported self.old).asks) }
         ensures calls { (reported self.new).asks.calls ≡ (reported self.old).asks.calls }
-        ensures stops { (m : BenchState) (answered : Option ℕ) → begun self.old m → IsLeft (reported self.new) answered → (reported self.old).end ≡ None
-            → IfErr result (StopsCalls (world_from m answered) (reported self.old).asks.calls (reported self.new).lines) }
-        ensures open { (reported self.old).end ≡ None → OnOk result ((reported self.new).end ≡ None) }
-        ensures memory { IfErr result NoMemory }
-        ensures end { IfErr result (IsEnd (reported self.new).end) }
-        ensures ended { IfSome (reported self.old).end (λ s. IfErr result (λ t. t ≡ s)) }
-        ensures on { (m : BenchState) → begun self.old m → begun self.new m }
-        ensures identity { identity self.new ≡ identity self.old }
-        ensures goes { GoesOn (reported self.old) (reported self.new) };
+        ensures stops { InEachOpenWorld begun reported self.old self.new (λ w. IfErr result (StopsCalls w (reported self.old).asks.calls (reported self.new).lines)) }
+        ensures ends { EndsAtValue begun reported identity result self.old self.new };
 
     /// Makes all that was asked. Takes no memory, and answers no `OutOfMemory`.
     fn flush(&mut self) -> Result<(), Stop>
-        ensures whole { (m : BenchState) (answered : Option ℕ) → begun self.old m → IsLeft (reported self.new) answered
-            → OnOk result (stop (world_from m answered) (reported self.old).asks.calls ≡ None) }
+        ensures whole { InEachWorld begun reported self.old self.new (λ w. OnOk result (stop w (reported self.old).asks.calls ≡ None)) }
         ensures asks { OnOk result ((reported self.new).asks ≡ needed (reported self.old).asks) }
         ensures calls { (reported self.new).asks.calls ≡ (reported self.old).asks.calls }
-        ensures stops { (m : BenchState) (answered : Option ℕ) → begun self.old m → IsLeft (reported self.new) answered → (reported self.old).end ≡ None
-            → IfErr result (StopsCalls (world_from m answered) (reported self.old).asks.calls (reported self.new).lines) }
-        ensures known { OnOk result ((reported self.new).known ≡ length (reported self.new).asks.calls) }
-        ensures open { OnOk result ((reported self.new).end ≡ None) }
-        ensures memory { IfErr result NoMemory }
-        ensures end { IfErr result (IsEnd (reported self.new).end) }
-        ensures ended { IfSome (reported self.old).end (λ s. result ≡ Err s) }
-        ensures on { (m : BenchState) → begun self.old m → begun self.new m }
-        ensures identity { identity self.new ≡ identity self.old }
-        ensures goes { GoesOn (reported self.old) (reported self.new) };
+        ensures stops { InEachOpenWorld begun reported self.old self.new (λ w. IfErr result (StopsCalls w (reported self.old).asks.calls (reported self.new).lines)) }
+        ensures ends { EndsAtFlush begun reported identity result self.old self.new };
 
     /// Makes all that was asked, and leaves the target as the calls do, CSW and TAR among it. Takes no
     /// memory, and answers no `OutOfMemory`. At an end the last call is marked all the same, except
     /// where the end came before.
     fn finish(&mut self) -> Result<(), Stop>
-        ensures whole { (m : BenchState) (answered : Option ℕ) → begun self.old m → IsLeft (reported self.new) answered
-            → OnOk result (stop (world_from m answered) (reported self.old).asks.calls ≡ None) }
+        ensures whole { InEachWorld begun reported self.old self.new (λ w. OnOk result (stop w (reported self.old).asks.calls ≡ None)) }
         ensures asks { OnOk result ((reported self.new).asks ≡ needed (finished (reported self.old).asks)) }
         ensures calls { (reported self.new).asks.calls ≡ calls_finished (reported self.old) }
-        ensures stops { (m : BenchState) (answered : Option ℕ) → begun self.old m → IsLeft (reported self.new) answered → (reported self.old).end ≡ None
-            → IfErr result (StopsSettling (world_from m answered) (reported self.old).asks.calls (reported self.new).lines) }
-        ensures known { OnOk result ((reported self.new).known ≡ length (reported self.new).asks.calls) }
-        ensures open { OnOk result ((reported self.new).end ≡ None) }
-        ensures memory { IfErr result NoMemory }
-        ensures end { IfErr result (IsEnd (reported self.new).end) }
-        ensures ended { IfSome (reported self.old).end (λ s. result ≡ Err s) }
-        ensures on { (m : BenchState) → begun self.old m → begun self.new m }
-        ensures identity { identity self.new ≡ identity self.old }
-        ensures goes { GoesOn (reported self.old) (reported self.new) };
+        ensures stops { InEachOpenWorld begun reported self.old self.new (λ w. IfErr result (StopsSettling w (reported self.old).asks.calls (reported self.new).lines)) }
+        ensures ends { EndsAtFlush begun reported identity result self.old self.new };
 
     /// The packet of the exchange that ended it, at most 1,024 bytes: at a `Cut` or `ReplyBad` the one
     /// that the reply answers, and else nothing.

@@ -1,13 +1,15 @@
 //! Copies a word of memory, and says so in a line.
-ghost use Rattle.std.specs.Prelude.{◌≡◌, ◌<◌, ◌^◌, ◌%◌, ◌++◌, ◌∷◌, [], ℕ, Option, None, Some, false, length, slice_index, OnOk, IfOk, IfErr};
+ghost use Rattle.std.specs.Prelude.{◌≡◌, ◌<◌, ◌%◌, ◌++◌, ◌∷◌, [], None, false, length, OnOk, IfOk, IfErr};
 ghost use Rattle.target_machine.specs.Sound.{IsSound};
 ghost use Rattle.probe_core.specs.Bench.{BenchState};
 ghost use Rattle.target_calls.specs.Asks.{is_wide, unit_ask};
 ghost use Rattle.target_calls.specs.NeedPoints.{nothing_asked};
-ghost use Rattle.access_calls.specs.Answers.{IsEnd, StopsCalls};
+ghost use Rattle.access_calls.specs.Answers.{StopsCalls};
+ghost use Rattle.access_calls.specs.Asking.{MayAsk};
+ghost use Rattle.access_calls.specs.CallEnds.{EndsAtAsk, InEachWorld};
 ghost use Rattle.access_calls.specs.Copy.{AccessEndsAs, HasSinkCause, IsCopyEnd, copied, read_word, write_word};
 ghost use Rattle.access_calls.specs.Keeps.{Keeps};
-ghost use Rattle.access_calls.specs.Left.{IsLeft, answered_by};
+ghost use Rattle.access_calls.specs.Left.{answered_by};
 ghost use Rattle.access_calls.specs.Reported.{world_from};
 
 use crate::{Access, Stop};
@@ -60,15 +62,12 @@ fn write_word(address: u32, value: u32) -> Unit
 fn ask<A: Access>(unit: Unit, access: &mut A) -> Result<Slot, Stop>
     requires sound { IsSound unit }
     requires narrow { is_wide unit ≡ false }
-    requires few { length (A.reported access.old).asks.calls < 10000000 }
-    requires open { (A.reported access.old).end ≡ None }
+    requires may { MayAsk 9999999 (A.reported access.old) }
     ensures slot { IfOk result (λ slot. slot.index ≡ length (A.reported access.old).asks.calls) }
     ensures calls { OnOk result ((A.reported access.new).asks.calls ≡ (A.reported access.old).asks.calls ++ unit_ask unit false ∷ []) }
-    ensures stops { (m : BenchState) (answered : Option ℕ) → A.begun access.old m → IsLeft (A.reported access.new) answered
-        → IfErr result (StopsCalls (world_from m answered) ((A.reported access.old).asks.calls ++ unit_ask unit false ∷ []) (A.reported access.new).lines) }
-    ensures open { OnOk result ((A.reported access.new).end ≡ None) }
-    ensures end { IfErr result (IsEnd (A.reported access.new).end) }
-    ensures keeps { Keeps A.begun A.reported A.identity access.old access.new }
+    ensures stops { InEachWorld A.begun A.reported access.old access.new (λ w.
+        IfErr result (StopsCalls w ((A.reported access.old).asks.calls ++ unit_ask unit false ∷ []) (A.reported access.new).lines)) }
+    ensures ends { EndsAtAsk A.begun A.reported A.identity result access.old access.new }
 {
     match access.ask(unit, false) {
         Ok(Asked::Slot(slot)) => Ok(slot),

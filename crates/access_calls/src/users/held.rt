@@ -2,8 +2,8 @@
 ghost use Rattle.std.specs.Prelude.{◌≡◌, OnOk, IfErr, IfSome, Err};
 ghost use Rattle.target_calls.specs.NeedPoints.{needed};
 ghost use Rattle.access_calls.specs.Answers.{IsEnd, NoMemory};
+ghost use Rattle.access_calls.specs.CallEnds.{EndsAtFlush};
 ghost use Rattle.access_calls.specs.GoesOn.{GoesOn};
-ghost use Rattle.access_calls.specs.Keeps.{Keeps};
 
 use crate::{Access, Stop};
 
@@ -25,10 +25,7 @@ impl<A: Access> AccessOwner<A> {
     /// that had ended answers its end again.
     pub fn flush(&mut self) -> Result<(), Stop>
         ensures asks { OnOk result ((A.reported self.new.access).asks ≡ needed (A.reported self.old.access).asks) }
-        ensures memory { IfErr result NoMemory }
-        ensures end { IfErr result (IsEnd (A.reported self.new.access).end) }
-        ensures ended { IfSome (A.reported self.old.access).end (λ s. result ≡ Err s) }
-        ensures keeps { Keeps A.begun A.reported A.identity self.old.access self.new.access }
+        ensures ends { EndsAtFlush A.begun A.reported A.identity result self.old.access self.new.access }
     {
         self.access.flush()
     }

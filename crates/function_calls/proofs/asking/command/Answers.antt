@@ -13,5 +13,5 @@ returns-in-Ok-clause-gives g c = λ m answered written b l.
 pub returns-in-Err-clause-gives : goal.returns-in-Err-clause-gives
 returns-in-Err-clause-gives g c = λ m answered written b l.
     let some : nat_lt c.args.held.now.units 1000000 ≡ true = grind arith in
-    ends_command g.A.Access.cost (world_from m answered) c.args.call (state_of c.args.held.now (g.A.Access.reported c.args.access.now).asks written) (g.A.Access.reported c.args.access.now) (g.A.Access.reported c.command.new.self) c.in-Err.stop _ c.from.ensures c.in-Err.ensures.end refl some c.requires.ready.no_end
+    ends_command g.A.Access.cost (world_from m answered) c.args.call (state_of c.args.held.now (g.A.Access.reported c.args.access.now).asks written) (g.A.Access.reported c.args.access.now) (g.A.Access.reported c.command.new.self) c.in-Err.stop _ c.from.ensures c.in-Err.ensures.ends.end refl some c.requires.ready.no_end
     c.in-Err.ensures.calls (c.in-Err.ensures.stops m answered b l c.requires.ready.no_end)

@@ -5,4 +5,4 @@ use Rattle.function_calls.proofs.uses.use_value.Goals as goal
 
 pub returns-in-Err-clause-gives : goal.returns-in-Err-clause-gives
 returns-in-Err-clause-gives g c = λ m answered globals locals units lines steps written b l.
-    rw c.in-Pending.is (ends_use g.A.Access.cost (world_from m answered) c.in-Pending.slot (state_with globals locals units lines steps (g.A.Access.reported c.args.access.now).asks written) (g.A.Access.reported c.value.new.self) c.in-Err.stop _ c.from.ensures c.in-Err.ensures.end c.in-Err.ensures.calls (c.in-Err.ensures.stops m answered b l c.requires.open))
+    rw c.in-Pending.is (ends_use g.A.Access.cost (world_from m answered) c.in-Pending.slot (state_with globals locals units lines steps (g.A.Access.reported c.args.access.now).asks written) (g.A.Access.reported c.value.new.self) c.in-Err.stop _ c.from.ensures c.in-Err.ensures.ends.end c.in-Err.ensures.calls (c.in-Err.ensures.stops m answered b l c.requires.open))

@@ -18,8 +18,18 @@ use Rattle.packed_access.proofs.SmallLemmas.{small_left, small_wide}
 use Rattle.packed_access.proofs.calls.PackedAccessAccess.ask.Goals as goal
 use Rattle.packed_access.proofs.calls.PackedAccessAccess.ask.Goals.{then-small, else-small}
 
-pub returns-then-is_err-clause-on : goal.returns-then-is_err-clause-on
-returns-then-is_err-clause-on g c = λ m h. record { sparing = sparing_refused g.F.Flights.planner _ _ _ c.args.self.now.sender.log c.ask.new.self _ _ _ _ m h.sparing (search rules); set = h.set }
+pub returns-then-is_err-clause-ends : goal.returns-then-is_err-clause-ends
+returns-then-is_err-clause-ends g c = record {
+  no_end = search rules;
+  memory = search rules;
+  end = search rules;
+  ended = search rules;
+  keeps = record {
+    on = λ m h. record { sparing = sparing_refused g.F.Flights.planner _ _ _ c.args.self.now.sender.log c.ask.new.self _ _ _ _ m h.sparing (search rules); set = h.set };
+    same_bench = search rules;
+    goes = search rules;
+  };
+}
 
 pub returns-after-small-clause-needs : goal.returns-after-small-clause-needs
 returns-after-small-clause-needs g c = λ m answered h left.
@@ -47,24 +57,34 @@ returns-after-small-clause-small g c = λ m answered h left.
     ∙ sym (small_left g.F.Flights.planner _ _ new.log _ _ _ _ old.log.calls (unit_ask c.args.unit c.args.forgive) m answered (c.in-Ok.ensures.gives.on m old.log.calls (unit_ask c.args.unit c.args.forgive) (h.set, refl) there) c.in-Ok.ensures.step.ends.no_end calls left) in
     subst (λ (b : Bool). IsSmallWhere b c.answer.result) is c.answer.ensures.small
 
-pub returns-after-small-clause-on : goal.returns-after-small-clause-on
-returns-after-small-clause-on g c = λ m h.
-    let none : c.args.self.now.sender.log.end ≡ None = search rules in
-    let old = c.args.self.now.sender in
-    let is_asked : c.ask.new.self ≡ with_call old.log (unit_ask c.args.unit c.args.forgive) c.ask.new.self.room = search rules in
-    let ok : IsAskable (unit_ask c.args.unit c.args.forgive) = record { sound = c.requires.sound; range = c.ask_of-ask.ensures.range } in
-    let there = begins_asked g.F.Flights.planner _ _ old.log c.ask.new.self _ _ _ _ (unit_ask c.args.unit c.args.forgive) m h.sparing.begun none ok refl old.sound.results_long old.sound.places_long is_asked in
-    record {
-      sparing = record {
-        begun = c.in-Ok.ensures.gives.on m old.log.calls (unit_ask c.args.unit c.args.forgive) (h.set, refl) there;
-        paid = λ open_. paid_upto g.F.Flights.planner _ _ _ old.log c.issue_asked.new.self.log m
-            (c.in-Ok.ensures.gives.spare m old.log.calls (unit_ask c.args.unit c.args.forgive) (left_of old.log) (h.set, refl) there (paid_asked g.F.Flights.planner _ _ _ old.log c.ask.new.self (unit_ask c.args.unit c.args.forgive) (left_of old.log) m (h.sparing.paid none) is_asked))
-            (λ past. (let p = c.in-Ok.ensures.fenced past in let k = ap (λ (l : LogState). l.known) is_asked in let f = ap (λ (l : LogState). l.fence) is_asked in omega (arith, p, k, f)));
-        needed = λ open_. needed_by g.F.Flights.planner (target_of m.probe) (asks_of old.log) (asks_of c.issue_asked.new.self.log) (unit_ask c.args.unit c.args.forgive) (h.sparing.needed none) refl
-            (c.in-Ok.ensures.gives.needs m old.log.calls (unit_ask c.args.unit c.args.forgive) (h.set, refl) there ∙ ap (λ (l : LogState). asked (cost_by g.F.Flights.planner (target_of m.probe) old.log.calls (unit_ask c.args.unit c.args.forgive)) (unit_ask c.args.unit c.args.forgive) (record { calls = old.log.calls; needs = l.needs; fence = l.fence })) is_asked);
-      };
-      set = h.set;
-    }
+pub returns-after-small-clause-ends : goal.returns-after-small-clause-ends
+returns-after-small-clause-ends g c = record {
+  no_end = search rules;
+  memory = search rules;
+  end = search rules;
+  ended = search rules;
+  keeps = record {
+    on = λ m h.
+        let none : c.args.self.now.sender.log.end ≡ None = search rules in
+        let old = c.args.self.now.sender in
+        let is_asked : c.ask.new.self ≡ with_call old.log (unit_ask c.args.unit c.args.forgive) c.ask.new.self.room = search rules in
+        let ok : IsAskable (unit_ask c.args.unit c.args.forgive) = record { sound = c.requires.sound; range = c.ask_of-ask.ensures.range } in
+        let there = begins_asked g.F.Flights.planner _ _ old.log c.ask.new.self _ _ _ _ (unit_ask c.args.unit c.args.forgive) m h.sparing.begun none ok refl old.sound.results_long old.sound.places_long is_asked in
+        record {
+          sparing = record {
+            begun = c.in-Ok.ensures.gives.on m old.log.calls (unit_ask c.args.unit c.args.forgive) (h.set, refl) there;
+            paid = λ open_. paid_upto g.F.Flights.planner _ _ _ old.log c.issue_asked.new.self.log m
+                (c.in-Ok.ensures.gives.spare m old.log.calls (unit_ask c.args.unit c.args.forgive) (left_of old.log) (h.set, refl) there (paid_asked g.F.Flights.planner _ _ _ old.log c.ask.new.self (unit_ask c.args.unit c.args.forgive) (left_of old.log) m (h.sparing.paid none) is_asked))
+                (λ past. (let p = c.in-Ok.ensures.fenced past in let k = ap (λ (l : LogState). l.known) is_asked in let f = ap (λ (l : LogState). l.fence) is_asked in omega (arith, p, k, f)));
+            needed = λ open_. needed_by g.F.Flights.planner (target_of m.probe) (asks_of old.log) (asks_of c.issue_asked.new.self.log) (unit_ask c.args.unit c.args.forgive) (h.sparing.needed none) refl
+                (c.in-Ok.ensures.gives.needs m old.log.calls (unit_ask c.args.unit c.args.forgive) (h.set, refl) there ∙ ap (λ (l : LogState). asked (cost_by g.F.Flights.planner (target_of m.probe) old.log.calls (unit_ask c.args.unit c.args.forgive)) (unit_ask c.args.unit c.args.forgive) (record { calls = old.log.calls; needs = l.needs; fence = l.fence })) is_asked);
+          };
+          set = h.set;
+        };
+    same_bench = search rules;
+    goes = search rules;
+  };
+}
 
 pub returns-in-Err-clause-stops : goal.returns-in-Err-clause-stops
 returns-in-Err-clause-stops g c = λ m answered h left none.
@@ -76,11 +96,21 @@ returns-in-Err-clause-stops g c = λ m answered h left none.
     (subst (λ (calls : List Ask). StopsThere m answered calls c.issue_asked.new.self.log.lines c.in-Err.stop) (ap (λ (l : LogState). l.calls) is_asked)
     (c.in-Err.ensures.gives.stops m old.log.calls (unit_ask c.args.unit c.args.forgive) answered (h.set, refl) there left))
 
-pub returns-in-Err-clause-on : goal.returns-in-Err-clause-on
-returns-in-Err-clause-on g c = λ m h.
-    let none : c.args.self.now.sender.log.end ≡ None = search rules in
-    let old = c.args.self.now.sender in
-    let is_asked : c.ask.new.self ≡ with_call old.log (unit_ask c.args.unit c.args.forgive) c.ask.new.self.room = search rules in
-    let ok : IsAskable (unit_ask c.args.unit c.args.forgive) = record { sound = c.requires.sound; range = c.ask_of-ask.ensures.range } in
-    let there = begins_asked g.F.Flights.planner _ _ old.log c.ask.new.self _ _ _ _ (unit_ask c.args.unit c.args.forgive) m h.sparing.begun none ok refl old.sound.results_long old.sound.places_long is_asked in
-    record { sparing = sparing_ended g.F.Flights.planner _ _ _ c.issue_asked.new.self.log _ _ _ _ m c.in-Err.stop (c.in-Err.ensures.gives.broke m old.log.calls (unit_ask c.args.unit c.args.forgive) (h.set, refl) there) c.in-Err.ensures.step.ends.ended; set = h.set }
+pub returns-in-Err-clause-ends : goal.returns-in-Err-clause-ends
+returns-in-Err-clause-ends g c = record {
+  no_end = search rules;
+  memory = search rules;
+  end = search rules;
+  ended = search rules;
+  keeps = record {
+    on = λ m h.
+        let none : c.args.self.now.sender.log.end ≡ None = search rules in
+        let old = c.args.self.now.sender in
+        let is_asked : c.ask.new.self ≡ with_call old.log (unit_ask c.args.unit c.args.forgive) c.ask.new.self.room = search rules in
+        let ok : IsAskable (unit_ask c.args.unit c.args.forgive) = record { sound = c.requires.sound; range = c.ask_of-ask.ensures.range } in
+        let there = begins_asked g.F.Flights.planner _ _ old.log c.ask.new.self _ _ _ _ (unit_ask c.args.unit c.args.forgive) m h.sparing.begun none ok refl old.sound.results_long old.sound.places_long is_asked in
+        record { sparing = sparing_ended g.F.Flights.planner _ _ _ c.issue_asked.new.self.log _ _ _ _ m c.in-Err.stop (c.in-Err.ensures.gives.broke m old.log.calls (unit_ask c.args.unit c.args.forgive) (h.set, refl) there) c.in-Err.ensures.step.ends.ended; set = h.set };
+    same_bench = search rules;
+    goes = search rules;
+  };
+}

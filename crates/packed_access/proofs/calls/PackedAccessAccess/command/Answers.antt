@@ -17,8 +17,18 @@ use Rattle.packed_access.proofs.PaidLemmas.{paid_asked, paid_flushed, sparing_en
 use Rattle.packed_access.specs.Sparing.{HasSpared, counted, left_of}
 use Rattle.packed_access.proofs.calls.PackedAccessAccess.command.Goals as goal
 
-pub returns-then-is_err-clause-on : goal.returns-then-is_err-clause-on
-returns-then-is_err-clause-on g c = λ m h. record { sparing = sparing_refused g.F.Flights.planner _ _ _ c.args.self.now.sender.log c.ask.new.self _ _ _ _ m h.sparing (search rules); set = h.set }
+pub returns-then-is_err-clause-ends : goal.returns-then-is_err-clause-ends
+returns-then-is_err-clause-ends g c = record {
+  no_end = search rules;
+  memory = search rules;
+  end = search rules;
+  ended = search rules;
+  keeps = record {
+    on = λ m h. record { sparing = sparing_refused g.F.Flights.planner _ _ _ c.args.self.now.sender.log c.ask.new.self _ _ _ _ m h.sparing (search rules); set = h.set };
+    same_bench = search rules;
+    goes = search rules;
+  };
+}
 
 pub returns-in-Err-clause-stops : goal.returns-in-Err-clause-stops
 returns-in-Err-clause-stops g c = λ m answered h left none.
@@ -29,14 +39,24 @@ returns-in-Err-clause-stops g c = λ m answered h left none.
     stops_asked m answered old.log.calls (probe_ask c.args.call) _ c.in-Err.stop refl
     (subst (λ (calls : List Ask). StopsThere m answered calls c.send.new.self.log.lines c.in-Err.stop) (ap (λ (l : LogState). l.calls) asked) (c.in-Err.ensures.gives.stops m _ answered there left))
 
-pub returns-in-Err-clause-on : goal.returns-in-Err-clause-on
-returns-in-Err-clause-on g c = λ m h.
-    let old = c.args.self.now.sender in
-    let none : old.log.end ≡ None = search rules in
-    let asked : c.ask.new.self ≡ with_call old.log (probe_ask c.args.call) c.ask.new.self.room = search rules in
-    let ok : IsAskable (probe_ask c.args.call) = record { sound = c.requires.sound; range = c.points_of-points.ensures.range } in
-    let there = begun_asked g.F.Flights.planner _ _ old.log c.ask.new.self _ _ _ _ (probe_ask c.args.call) m h.sparing.begun none ok refl old.sound.results_long old.sound.places_long asked in
-    record { sparing = sparing_ended g.F.Flights.planner _ _ _ c.send.new.self.log _ _ _ _ m c.in-Err.stop (c.in-Err.ensures.gives.broke m _ there) (ap (λ (l : LogState). l.end) c.in-Err.ensures.ended); set = h.set }
+pub returns-in-Err-clause-ends : goal.returns-in-Err-clause-ends
+returns-in-Err-clause-ends g c = record {
+  no_end = search rules;
+  memory = search rules;
+  end = search rules;
+  ended = search rules;
+  keeps = record {
+    on = λ m h.
+        let old = c.args.self.now.sender in
+        let none : old.log.end ≡ None = search rules in
+        let asked : c.ask.new.self ≡ with_call old.log (probe_ask c.args.call) c.ask.new.self.room = search rules in
+        let ok : IsAskable (probe_ask c.args.call) = record { sound = c.requires.sound; range = c.points_of-points.ensures.range } in
+        let there = begun_asked g.F.Flights.planner _ _ old.log c.ask.new.self _ _ _ _ (probe_ask c.args.call) m h.sparing.begun none ok refl old.sound.results_long old.sound.places_long asked in
+        record { sparing = sparing_ended g.F.Flights.planner _ _ _ c.send.new.self.log _ _ _ _ m c.in-Err.stop (c.in-Err.ensures.gives.broke m _ there) (ap (λ (l : LogState). l.end) c.in-Err.ensures.ended); set = h.set };
+    same_bench = search rules;
+    goes = search rules;
+  };
+}
 
 pub returns-in-Err-make_last-clause-stops : goal.returns-in-Err-make_last-clause-stops
 returns-in-Err-make_last-clause-stops g c = λ m answered h left none.
@@ -49,50 +69,70 @@ returns-in-Err-make_last-clause-stops g c = λ m answered h left none.
     stops_asked m answered old.log.calls (probe_ask c.args.call) _ c.in-Err-make_last.stop refl
     (subst (λ (calls : List Ask). StopsThere m answered calls c.make_last.new.self.log.lines c.in-Err-make_last.stop) calls (c.in-Err-make_last.ensures.stops m old.log.calls answered calls sent left))
 
-pub returns-in-Err-make_last-clause-on : goal.returns-in-Err-make_last-clause-on
-returns-in-Err-make_last-clause-on g c = λ m h.
-    let old = c.args.self.now.sender in
-    let none : old.log.end ≡ None = search rules in
-    let asked : c.ask.new.self ≡ with_call old.log (probe_ask c.args.call) c.ask.new.self.room = search rules in
-    let ok : IsAskable (probe_ask c.args.call) = record { sound = c.requires.sound; range = c.points_of-points.ensures.range } in
-    let there = begun_asked g.F.Flights.planner _ _ old.log c.ask.new.self _ _ _ _ (probe_ask c.args.call) m h.sparing.begun none ok refl old.sound.results_long old.sound.places_long asked in
-    let sent = c.in-Ok.ensures.gives.on m _ there in
-    let calls : c.send.new.self.log.calls ≡ old.log.calls ++ probe_ask c.args.call ∷ [] = ap (λ (l : LogState). l.calls) c.in-Ok.ensures.log ∙ ap (λ (l : LogState). l.calls) asked in
-    record { sparing = sparing_ended g.F.Flights.planner _ _ _ c.make_last.new.self.log _ _ _ _ m _ (c.in-Err-make_last.ensures.broke m old.log.calls calls sent) c.in-Err-make_last.ensures.exchanges.step.ends.ended; set = h.set }
+pub returns-in-Err-make_last-clause-ends : goal.returns-in-Err-make_last-clause-ends
+returns-in-Err-make_last-clause-ends g c = record {
+  no_end = search rules;
+  memory = search rules;
+  end = search rules;
+  ended = search rules;
+  keeps = record {
+    on = λ m h.
+        let old = c.args.self.now.sender in
+        let none : old.log.end ≡ None = search rules in
+        let asked : c.ask.new.self ≡ with_call old.log (probe_ask c.args.call) c.ask.new.self.room = search rules in
+        let ok : IsAskable (probe_ask c.args.call) = record { sound = c.requires.sound; range = c.points_of-points.ensures.range } in
+        let there = begun_asked g.F.Flights.planner _ _ old.log c.ask.new.self _ _ _ _ (probe_ask c.args.call) m h.sparing.begun none ok refl old.sound.results_long old.sound.places_long asked in
+        let sent = c.in-Ok.ensures.gives.on m _ there in
+        let calls : c.send.new.self.log.calls ≡ old.log.calls ++ probe_ask c.args.call ∷ [] = ap (λ (l : LogState). l.calls) c.in-Ok.ensures.log ∙ ap (λ (l : LogState). l.calls) asked in
+        record { sparing = sparing_ended g.F.Flights.planner _ _ _ c.make_last.new.self.log _ _ _ _ m _ (c.in-Err-make_last.ensures.broke m old.log.calls calls sent) c.in-Err-make_last.ensures.exchanges.step.ends.ended; set = h.set };
+    same_bench = search rules;
+    goes = search rules;
+  };
+}
 
-pub returns-in-Ok-make_last-clause-on : goal.returns-in-Ok-make_last-clause-on
-returns-in-Ok-make_last-clause-on g c = λ m h.
-    let old = c.args.self.now.sender in
-    let mid = c.send.new.self in
-    let new = c.make_last.new.self in
-    let none : old.log.end ≡ None = search rules in
-    let asked : c.ask.new.self ≡ with_call old.log (probe_ask c.args.call) c.ask.new.self.room = search rules in
-    let ok : IsAskable (probe_ask c.args.call) = record { sound = c.requires.sound; range = c.points_of-points.ensures.range } in
-    let there = begun_asked g.F.Flights.planner _ _ old.log c.ask.new.self _ _ _ _ (probe_ask c.args.call) m h.sparing.begun none ok refl old.sound.results_long old.sound.places_long asked in
-    let sent = c.in-Ok.ensures.gives.on m _ there in
-    let calls : mid.log.calls ≡ old.log.calls ++ probe_ask c.args.call ∷ [] = ap (λ (l : LogState). l.calls) c.in-Ok.ensures.log ∙ ap (λ (l : LogState). l.calls) asked in
-    let done = c.in-Ok-make_last.ensures.on m old.log.calls calls sent in
-    let same : new.log.calls ≡ mid.log.calls = ap (λ (l : LogState). l.calls) c.in-Ok-make_last.ensures.log in
-    let end : new.log.end ≡ None = ap (λ (l : LogState). l.end) c.in-Ok-make_last.ensures.log ∙ ap (λ (l : LogState). l.end) c.in-Ok.ensures.log ∙ ap (λ (l : LogState). l.end) asked ∙ none in
-    let whole : new.log.whole ≡ length new.log.calls = ap (λ (l : LogState). l.whole) c.in-Ok-make_last.ensures.log ∙ ap length (sym same) in
-    let paid = paid_asked g.F.Flights.planner _ _ _ old.log c.ask.new.self (probe_ask c.args.call) (left_of old.log) m (h.sparing.paid none) asked in
-    let made = c.in-Ok-make_last.ensures.spare m old.log.calls paid.paid calls sent (c.in-Ok.ensures.gives.spare m _ paid.paid there paid.spared) in
-    let needs : new.log.needs ≡ c.ask.new.self.needs = ap (λ (l : LogState). l.needs) c.in-Ok-make_last.ensures.log ∙ ap (λ (l : LogState). l.needs) c.in-Ok.ensures.log in
-    let noted = needs_new new.log c.need.new.self c.count_points.result c.count-count.result c.need.ensures.answer in
-    let known : new.log.known ≡ length c.need.new.self.calls = ap (λ (l : LogState). l.known) c.in-Ok-make_last.ensures.log ∙ ap length (sym same) ∙ sym (ap (λ (l : LogState). length l.calls) noted) in
-    record {
-      sparing = record {
-        begun = begun_needs g.F.Flights.planner _ _ new.log c.need.new.self _ _ _ _ _ _ m
-            (begun_made g.F.Flights.planner _ _ _ _ old.log new.log _ _ _ _ _ _ _ _ (probe_ask c.args.call) m h.sparing.begun none refl done end (same ∙ calls) whole (c.make_last.ensures.exchanges.managed ∙ c.send.ensures.exchanges.managed) c.in-Ok-make_last.ensures.empty)
-            refl refl noted;
-        paid = λ open_. paid_flushed g.F.Flights.planner _ _ _ new.log c.need.new.self c.ask.new.self.needs paid.paid c.count_points.result c.count-count.result (left_of old.log) m
-            (counted_spared g.F.Flights.planner _ _ _ new.log paid.paid c.points_of-points.result c.count_points.result m
-            (subst (λ (n : ℕ). HasSpared g.F.Flights.planner (g.F.Flights.limits new.flights) (g.F.Flights.reported new.flights).limits (g.F.Flights.state new.flights) new.log (paid.paid + n) m) (sym c.points_of-points.ensures.answer) made) c.count_points.ensures)
-            paid.covers needs c.need.ensures.answer known c.need.ensures.sound.fence_within (ap (λ (l : LogState). l.known) noted);
-        needed = λ open_. needed_command g.F.Flights.planner (target_of m.probe) (asks_of old.log) new.log c.need.new.self c.args.call c.count_points.result c.count-count.result (h.sparing.needed none) (same ∙ calls) (needs ∙ ap (λ (l : LogState). l.needs) asked) c.need.ensures.answer;
-      };
-      set = h.set;
-    }
+pub returns-in-Ok-make_last-clause-ends : goal.returns-in-Ok-make_last-clause-ends
+returns-in-Ok-make_last-clause-ends g c = record {
+  no_end = search rules;
+  memory = search rules;
+  end = search rules;
+  ended = search rules;
+  keeps = record {
+    on = λ m h.
+        let old = c.args.self.now.sender in
+        let mid = c.send.new.self in
+        let new = c.make_last.new.self in
+        let none : old.log.end ≡ None = search rules in
+        let asked : c.ask.new.self ≡ with_call old.log (probe_ask c.args.call) c.ask.new.self.room = search rules in
+        let ok : IsAskable (probe_ask c.args.call) = record { sound = c.requires.sound; range = c.points_of-points.ensures.range } in
+        let there = begun_asked g.F.Flights.planner _ _ old.log c.ask.new.self _ _ _ _ (probe_ask c.args.call) m h.sparing.begun none ok refl old.sound.results_long old.sound.places_long asked in
+        let sent = c.in-Ok.ensures.gives.on m _ there in
+        let calls : mid.log.calls ≡ old.log.calls ++ probe_ask c.args.call ∷ [] = ap (λ (l : LogState). l.calls) c.in-Ok.ensures.log ∙ ap (λ (l : LogState). l.calls) asked in
+        let done = c.in-Ok-make_last.ensures.on m old.log.calls calls sent in
+        let same : new.log.calls ≡ mid.log.calls = ap (λ (l : LogState). l.calls) c.in-Ok-make_last.ensures.log in
+        let end : new.log.end ≡ None = ap (λ (l : LogState). l.end) c.in-Ok-make_last.ensures.log ∙ ap (λ (l : LogState). l.end) c.in-Ok.ensures.log ∙ ap (λ (l : LogState). l.end) asked ∙ none in
+        let whole : new.log.whole ≡ length new.log.calls = ap (λ (l : LogState). l.whole) c.in-Ok-make_last.ensures.log ∙ ap length (sym same) in
+        let paid = paid_asked g.F.Flights.planner _ _ _ old.log c.ask.new.self (probe_ask c.args.call) (left_of old.log) m (h.sparing.paid none) asked in
+        let made = c.in-Ok-make_last.ensures.spare m old.log.calls paid.paid calls sent (c.in-Ok.ensures.gives.spare m _ paid.paid there paid.spared) in
+        let needs : new.log.needs ≡ c.ask.new.self.needs = ap (λ (l : LogState). l.needs) c.in-Ok-make_last.ensures.log ∙ ap (λ (l : LogState). l.needs) c.in-Ok.ensures.log in
+        let noted = needs_new new.log c.need.new.self c.count_points.result c.count-count.result c.need.ensures.answer in
+        let known : new.log.known ≡ length c.need.new.self.calls = ap (λ (l : LogState). l.known) c.in-Ok-make_last.ensures.log ∙ ap length (sym same) ∙ sym (ap (λ (l : LogState). length l.calls) noted) in
+        record {
+          sparing = record {
+            begun = begun_needs g.F.Flights.planner _ _ new.log c.need.new.self _ _ _ _ _ _ m
+                (begun_made g.F.Flights.planner _ _ _ _ old.log new.log _ _ _ _ _ _ _ _ (probe_ask c.args.call) m h.sparing.begun none refl done end (same ∙ calls) whole (c.make_last.ensures.exchanges.managed ∙ c.send.ensures.exchanges.managed) c.in-Ok-make_last.ensures.empty)
+                refl refl noted;
+            paid = λ open_. paid_flushed g.F.Flights.planner _ _ _ new.log c.need.new.self c.ask.new.self.needs paid.paid c.count_points.result c.count-count.result (left_of old.log) m
+                (counted_spared g.F.Flights.planner _ _ _ new.log paid.paid c.points_of-points.result c.count_points.result m
+                (subst (λ (n : ℕ). HasSpared g.F.Flights.planner (g.F.Flights.limits new.flights) (g.F.Flights.reported new.flights).limits (g.F.Flights.state new.flights) new.log (paid.paid + n) m) (sym c.points_of-points.ensures.answer) made) c.count_points.ensures)
+                paid.covers needs c.need.ensures.answer known c.need.ensures.sound.fence_within (ap (λ (l : LogState). l.known) noted);
+            needed = λ open_. needed_command g.F.Flights.planner (target_of m.probe) (asks_of old.log) new.log c.need.new.self c.args.call c.count_points.result c.count-count.result (h.sparing.needed none) (same ∙ calls) (needs ∙ ap (λ (l : LogState). l.needs) asked) c.need.ensures.answer;
+          };
+          set = h.set;
+        };
+    same_bench = search rules;
+    goes = search rules;
+  };
+}
 
 pub returns-in-Ok-make_last-clause-whole : goal.returns-in-Ok-make_last-clause-whole
 returns-in-Ok-make_last-clause-whole g c = λ m answered h left.

@@ -8,27 +8,38 @@ use Rattle.packed_access.proofs.PaidLemmas.{paid_flushed, sparing_ended}
 use Rattle.packed_access.specs.Sparing.{left_of}
 use Rattle.packed_access.proofs.calls.PackedAccessAccess.flush.Goals as goal
 
-pub returns-in-Ok-clause-on : goal.returns-in-Ok-clause-on
-returns-in-Ok-clause-on g c = λ m h.
-    let old = c.args.self.now.sender in
-    let none : old.log.end ≡ None = search rules in
-    let there = c.in-Ok.ensures.gives.on m [] (begun_issued g.F.Flights.planner _ _ old.log _ _ _ _ m h.sparing.begun none) in
-    let mid = c.send.new.self.log in
-    let paid = h.sparing.paid none in
-    let noted = needs_new mid c.need.new.self 1 c.count-count.result c.need.ensures.answer in
-    let whole : old.log.whole ≡ length old.log.calls = c.args.self.now.whole none in
-    let known : mid.known ≡ length c.need.new.self.calls = ap (λ (l : LogState). l.known) c.in-Ok.ensures.log ∙ whole ∙ sym (ap (λ (l : LogState). length l.calls) c.in-Ok.ensures.log) ∙ sym (ap (λ (l : LogState). length l.calls) noted) in
-    record {
-      sparing = record {
-        begun = begun_needs g.F.Flights.planner _ _ mid c.need.new.self _ _ _ _ _ _ m
-            (begun_flushed g.F.Flights.planner _ _ _ _ old.log mid _ _ _ _ _ _ _ _ _ m h.sparing.begun none whole there c.in-Ok.ensures.log c.send.ensures.empty c.send.ensures.exchanges.managed)
-            refl refl noted;
-        paid = λ open_. paid_flushed g.F.Flights.planner _ _ _ mid c.need.new.self old.log.needs paid.paid 1 c.count-count.result (left_of old.log) m
-            (c.in-Ok.ensures.gives.spare m [] paid.paid (begun_issued g.F.Flights.planner _ _ old.log _ _ _ _ m h.sparing.begun none) paid.spared) paid.covers (ap (λ (l : LogState). l.needs) c.in-Ok.ensures.log) c.need.ensures.answer known c.need.ensures.sound.fence_within (ap (λ (l : LogState). l.known) noted);
-        needed = λ open_. needed_points g.F.Flights.planner (target_of m.probe) (asks_of old.log) mid c.need.new.self 1 c.count-count.result (h.sparing.needed none) (ap (λ (l : LogState). l.calls) c.in-Ok.ensures.log) (ap (λ (l : LogState). l.needs) c.in-Ok.ensures.log) c.need.ensures.answer;
-      };
-      set = h.set;
-    }
+pub returns-in-Ok-clause-ends : goal.returns-in-Ok-clause-ends
+returns-in-Ok-clause-ends g c = record {
+  known = search rules;
+  no_end = search rules;
+  memory = search rules;
+  end = search rules;
+  ended = search rules;
+  keeps = record {
+    on = λ m h.
+        let old = c.args.self.now.sender in
+        let none : old.log.end ≡ None = search rules in
+        let there = c.in-Ok.ensures.gives.on m [] (begun_issued g.F.Flights.planner _ _ old.log _ _ _ _ m h.sparing.begun none) in
+        let mid = c.send.new.self.log in
+        let paid = h.sparing.paid none in
+        let noted = needs_new mid c.need.new.self 1 c.count-count.result c.need.ensures.answer in
+        let whole : old.log.whole ≡ length old.log.calls = c.args.self.now.whole none in
+        let known : mid.known ≡ length c.need.new.self.calls = ap (λ (l : LogState). l.known) c.in-Ok.ensures.log ∙ whole ∙ sym (ap (λ (l : LogState). length l.calls) c.in-Ok.ensures.log) ∙ sym (ap (λ (l : LogState). length l.calls) noted) in
+        record {
+          sparing = record {
+            begun = begun_needs g.F.Flights.planner _ _ mid c.need.new.self _ _ _ _ _ _ m
+                (begun_flushed g.F.Flights.planner _ _ _ _ old.log mid _ _ _ _ _ _ _ _ _ m h.sparing.begun none whole there c.in-Ok.ensures.log c.send.ensures.empty c.send.ensures.exchanges.managed)
+                refl refl noted;
+            paid = λ open_. paid_flushed g.F.Flights.planner _ _ _ mid c.need.new.self old.log.needs paid.paid 1 c.count-count.result (left_of old.log) m
+                (c.in-Ok.ensures.gives.spare m [] paid.paid (begun_issued g.F.Flights.planner _ _ old.log _ _ _ _ m h.sparing.begun none) paid.spared) paid.covers (ap (λ (l : LogState). l.needs) c.in-Ok.ensures.log) c.need.ensures.answer known c.need.ensures.sound.fence_within (ap (λ (l : LogState). l.known) noted);
+            needed = λ open_. needed_points g.F.Flights.planner (target_of m.probe) (asks_of old.log) mid c.need.new.self 1 c.count-count.result (h.sparing.needed none) (ap (λ (l : LogState). l.calls) c.in-Ok.ensures.log) (ap (λ (l : LogState). l.needs) c.in-Ok.ensures.log) c.need.ensures.answer;
+          };
+          set = h.set;
+        };
+    same_bench = search rules;
+    goes = search rules;
+  };
+}
 
 pub returns-in-Ok-clause-whole : goal.returns-in-Ok-clause-whole
 returns-in-Ok-clause-whole g c = λ m answered h left.
@@ -43,8 +54,19 @@ returns-in-Err-clause-stops g c = λ m answered h left none.
     let old = c.args.self.now.sender in
     stops_flushed g.F.Flights.planner _ _ old.log _ _ _ _ m answered _ c.in-Err.stop h.sparing.begun none c.in-Err.ensures.some (c.in-Err.ensures.gives.stops m [] answered (begun_issued g.F.Flights.planner _ _ old.log _ _ _ _ m h.sparing.begun none) left)
 
-pub returns-in-Err-clause-on : goal.returns-in-Err-clause-on
-returns-in-Err-clause-on g c = λ m h.
-    let old = c.args.self.now.sender in
-    let none : old.log.end ≡ None = search rules in
-    record { sparing = sparing_ended g.F.Flights.planner _ _ _ c.send.new.self.log _ _ _ _ m c.in-Err.stop (c.in-Err.ensures.gives.broke m [] (begun_issued g.F.Flights.planner _ _ old.log _ _ _ _ m h.sparing.begun none)) (ap (λ (l : LogState). l.end) c.in-Err.ensures.ended); set = h.set }
+pub returns-in-Err-clause-ends : goal.returns-in-Err-clause-ends
+returns-in-Err-clause-ends g c = record {
+  known = search rules;
+  no_end = search rules;
+  memory = search rules;
+  end = search rules;
+  ended = search rules;
+  keeps = record {
+    on = λ m h.
+        let old = c.args.self.now.sender in
+        let none : old.log.end ≡ None = search rules in
+        record { sparing = sparing_ended g.F.Flights.planner _ _ _ c.send.new.self.log _ _ _ _ m c.in-Err.stop (c.in-Err.ensures.gives.broke m [] (begun_issued g.F.Flights.planner _ _ old.log _ _ _ _ m h.sparing.begun none)) (ap (λ (l : LogState). l.end) c.in-Err.ensures.ended); set = h.set };
+    same_bench = search rules;
+    goes = search rules;
+  };
+}

@@ -18,37 +18,57 @@ returns-then-is_known-clause-value g c = λ m answered h left.
     let within : old.log.known ≤ length old.log.results = (let s = old.sound in let k = s.known_within in let l = s.results_long in omega (arith, k, l)) in
     c.use_slot.ensures.value ∙ known_result g.F.Flights.planner _ _ old.log _ _ _ _ m answered c.args.slot.index h.sparing.begun (left_needs _ _ old.log c.use_slot.new.self _ _ _ _ answered (used_new old.log _ c.args.slot c.use_slot.ensures.answer) left) within (inl known)
 
-pub returns-then-is_known-clause-on : goal.returns-then-is_known-clause-on
-returns-then-is_known-clause-on g c = λ m h.
-    let old = c.args.self.now.sender in
-    let known : c.args.slot.index < old.log.known = is_under c.args.slot.index old.log.known c.is_known.result c.is_known.ensures c.if-is_known.true in
-    let noted = used_new old.log c.use_slot.new.self c.args.slot c.use_slot.ensures.answer in
-    record {
-      sparing = record {
-        begun = begun_needs g.F.Flights.planner _ _ old.log c.use_slot.new.self _ _ _ _ _ _ m h.sparing.begun (search rules) (search rules) noted;
-        paid = λ open_. paid_known g.F.Flights.planner _ _ _ old.log c.use_slot.new.self c.args.slot m (h.sparing.paid (ap (λ (l : LogState). l.end) (sym noted) ∙ open_)) c.use_slot.ensures.answer known;
-        needed = λ open_. needed_used g.F.Flights.planner (target_of m.probe) (asks_of old.log) old.log c.use_slot.new.self c.args.slot (h.sparing.needed (ap (λ (l : LogState). l.end) (sym noted) ∙ open_)) refl refl c.use_slot.ensures.answer;
-      };
-      set = h.set;
-    }
+pub returns-then-is_known-clause-ends : goal.returns-then-is_known-clause-ends
+returns-then-is_known-clause-ends g c = record {
+  no_end = search rules;
+  memory = search rules;
+  end = search rules;
+  ended = search rules;
+  keeps = record {
+    on = λ m h.
+        let old = c.args.self.now.sender in
+        let known : c.args.slot.index < old.log.known = is_under c.args.slot.index old.log.known c.is_known.result c.is_known.ensures c.if-is_known.true in
+        let noted = used_new old.log c.use_slot.new.self c.args.slot c.use_slot.ensures.answer in
+        record {
+          sparing = record {
+            begun = begun_needs g.F.Flights.planner _ _ old.log c.use_slot.new.self _ _ _ _ _ _ m h.sparing.begun (search rules) (search rules) noted;
+            paid = λ open_. paid_known g.F.Flights.planner _ _ _ old.log c.use_slot.new.self c.args.slot m (h.sparing.paid (ap (λ (l : LogState). l.end) (sym noted) ∙ open_)) c.use_slot.ensures.answer known;
+            needed = λ open_. needed_used g.F.Flights.planner (target_of m.probe) (asks_of old.log) old.log c.use_slot.new.self c.args.slot (h.sparing.needed (ap (λ (l : LogState). l.end) (sym noted) ∙ open_)) refl refl c.use_slot.ensures.answer;
+          };
+          set = h.set;
+        };
+    same_bench = search rules;
+    goes = search rules;
+  };
+}
 
-pub returns-in-Ok-clause-on : goal.returns-in-Ok-clause-on
-returns-in-Ok-clause-on g c = λ m h.
-    let old = c.args.self.now.sender in
-    let none : old.log.end ≡ None = search rules in
-    let there = c.in-Ok.ensures.gives.on m [] (begun_issued g.F.Flights.planner _ _ old.log _ _ _ _ m h.sparing.begun none) in
-    let not : old.log.known ≤ c.args.slot.index = is_past c.args.slot.index old.log.known c.is_known.result c.is_known.ensures c.if-is_known.false in
-    record {
-      sparing = record {
-        begun = begun_needs g.F.Flights.planner _ _ c.send.new.self.log c.use_slot-in-Ok.new.self _ _ _ _ _ _ m
-            (begun_flushed g.F.Flights.planner _ _ _ _ old.log c.send.new.self.log _ _ _ _ _ _ _ _ _ m h.sparing.begun none (c.args.self.now.whole none) there c.in-Ok.ensures.log c.send.ensures.empty c.send.ensures.exchanges.managed)
-            refl refl (used_new c.send.new.self.log _ c.args.slot c.use_slot-in-Ok.ensures.answer);
-        paid = λ open_. paid_sent g.F.Flights.planner _ _ _ _ _ _ old.log c.send.new.self.log c.use_slot-in-Ok.new.self _ c.args.slot m (h.sparing.paid none) (λ points s. c.in-Ok.ensures.gives.spare m [] points (begun_issued g.F.Flights.planner _ _ old.log _ _ _ _ m h.sparing.begun none) s)
-            c.in-Ok.ensures.log (c.args.self.now.whole none) old.sound.fence_within not c.use_slot-in-Ok.ensures.answer;
-        needed = λ open_. needed_used g.F.Flights.planner (target_of m.probe) (asks_of old.log) c.send.new.self.log c.use_slot-in-Ok.new.self c.args.slot (h.sparing.needed none) (ap (λ (l : LogState). l.calls) c.in-Ok.ensures.log) (ap (λ (l : LogState). l.needs) c.in-Ok.ensures.log) c.use_slot-in-Ok.ensures.answer;
-      };
-      set = h.set;
-    }
+pub returns-in-Ok-clause-ends : goal.returns-in-Ok-clause-ends
+returns-in-Ok-clause-ends g c = record {
+  no_end = search rules;
+  memory = search rules;
+  end = search rules;
+  ended = search rules;
+  keeps = record {
+    on = λ m h.
+        let old = c.args.self.now.sender in
+        let none : old.log.end ≡ None = search rules in
+        let there = c.in-Ok.ensures.gives.on m [] (begun_issued g.F.Flights.planner _ _ old.log _ _ _ _ m h.sparing.begun none) in
+        let not : old.log.known ≤ c.args.slot.index = is_past c.args.slot.index old.log.known c.is_known.result c.is_known.ensures c.if-is_known.false in
+        record {
+          sparing = record {
+            begun = begun_needs g.F.Flights.planner _ _ c.send.new.self.log c.use_slot-in-Ok.new.self _ _ _ _ _ _ m
+                (begun_flushed g.F.Flights.planner _ _ _ _ old.log c.send.new.self.log _ _ _ _ _ _ _ _ _ m h.sparing.begun none (c.args.self.now.whole none) there c.in-Ok.ensures.log c.send.ensures.empty c.send.ensures.exchanges.managed)
+                refl refl (used_new c.send.new.self.log _ c.args.slot c.use_slot-in-Ok.ensures.answer);
+            paid = λ open_. paid_sent g.F.Flights.planner _ _ _ _ _ _ old.log c.send.new.self.log c.use_slot-in-Ok.new.self _ c.args.slot m (h.sparing.paid none) (λ points s. c.in-Ok.ensures.gives.spare m [] points (begun_issued g.F.Flights.planner _ _ old.log _ _ _ _ m h.sparing.begun none) s)
+                c.in-Ok.ensures.log (c.args.self.now.whole none) old.sound.fence_within not c.use_slot-in-Ok.ensures.answer;
+            needed = λ open_. needed_used g.F.Flights.planner (target_of m.probe) (asks_of old.log) c.send.new.self.log c.use_slot-in-Ok.new.self c.args.slot (h.sparing.needed none) (ap (λ (l : LogState). l.calls) c.in-Ok.ensures.log) (ap (λ (l : LogState). l.needs) c.in-Ok.ensures.log) c.use_slot-in-Ok.ensures.answer;
+          };
+          set = h.set;
+        };
+    same_bench = search rules;
+    goes = search rules;
+  };
+}
 
 pub returns-in-Ok-clause-value : goal.returns-in-Ok-clause-value
 returns-in-Ok-clause-value g c = λ m answered h left.
@@ -71,8 +91,18 @@ returns-in-Err-clause-stops g c = λ m answered h left none.
     let old = c.args.self.now.sender in
     stops_flushed g.F.Flights.planner _ _ old.log _ _ _ _ m answered _ c.in-Err.stop h.sparing.begun none c.in-Err.ensures.some (c.in-Err.ensures.gives.stops m [] answered (begun_issued g.F.Flights.planner _ _ old.log _ _ _ _ m h.sparing.begun none) left)
 
-pub returns-in-Err-clause-on : goal.returns-in-Err-clause-on
-returns-in-Err-clause-on g c = λ m h.
-    let old = c.args.self.now.sender in
-    let none : old.log.end ≡ None = search rules in
-    record { sparing = sparing_ended g.F.Flights.planner _ _ _ c.send.new.self.log _ _ _ _ m c.in-Err.stop (c.in-Err.ensures.gives.broke m [] (begun_issued g.F.Flights.planner _ _ old.log _ _ _ _ m h.sparing.begun none)) (ap (λ (l : LogState). l.end) c.in-Err.ensures.ended); set = h.set }
+pub returns-in-Err-clause-ends : goal.returns-in-Err-clause-ends
+returns-in-Err-clause-ends g c = record {
+  no_end = search rules;
+  memory = search rules;
+  end = search rules;
+  ended = search rules;
+  keeps = record {
+    on = λ m h.
+        let old = c.args.self.now.sender in
+        let none : old.log.end ≡ None = search rules in
+        record { sparing = sparing_ended g.F.Flights.planner _ _ _ c.send.new.self.log _ _ _ _ m c.in-Err.stop (c.in-Err.ensures.gives.broke m [] (begun_issued g.F.Flights.planner _ _ old.log _ _ _ _ m h.sparing.begun none)) (ap (λ (l : LogState). l.end) c.in-Err.ensures.ended); set = h.set };
+    same_bench = search rules;
+    goes = search rules;
+  };
+}
