@@ -6,6 +6,7 @@ mod checked;
 mod controls;
 mod faulty;
 pub mod laws;
+pub mod sequences;
 pub mod set_calls;
 mod set_check;
 mod sets;

@@ -7,7 +7,7 @@ ghost use Rattle.seq_check.specs.SetFaults.{names_of};
 ghost use Rattle.seq_check.specs.Calls.{sequence_calls, set_calls, call_graph};
 ghost use Rattle.seq_check.specs.Valid.{IsCallAt};
 
-use crate::sets::{name_of, steps_of};
+use crate::sequences::{name_of, steps_of};
 use crate::step_calls::{StepCall, push_steps};
 use call_graph::{CallGraph, CallSpot};
 use code_check::Names;

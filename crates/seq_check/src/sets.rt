@@ -14,44 +14,13 @@ ghost use Rattle.seq_check.specs.SetFaults.{is_set_before, Of, names_of, FaultIn
 ghost use Rattle.seq_check.specs.Views.{held_view};
 
 use crate::faulty::{HeldFault, Holder, at_own_step, in_part};
+use crate::sequences::steps_of;
 use crate::steps::inner_fault;
 use code_check::{Names, block_fault};
 use dap_base::OutOfMemory;
 use expr_grammar::Stmt;
 use sequence_trees::{CheckedSteps, Part, ReadSet};
 use std::alloc::Global;
-
-pub fn name_of(set: &ReadSet, index: usize) -> &str
-    requires { index < length (set_trees set.now).sequences }
-    ensures { slice_get (names_of (set_trees set.now)) index ≡ Some result.now }
-{
-    match set.name_at(index) {
-        Some(name) => name,
-        None => unreachable!(),
-    }
-}
-
-pub fn steps_of(set: &ReadSet, index: usize) -> &CheckedSteps
-    requires { index < length (set_trees set.now).sequences }
-    ensures { slice_get (map (λ s. s.steps) (set_trees set.now).sequences) index ≡ Some (steps_tree result.now) }
-{
-    match set.steps_at(index) {
-        Some(steps) => steps,
-        None => unreachable!(),
-    }
-}
-
-/// The names of the sequences, in order.
-pub fn sequence_names(alloc: Global, set: &ReadSet) -> Result<Names, OutOfMemory>
-    requires { IsDistinct bytes_eq (names_of (set_trees set.now)) }
-    ensures { IfOk result (λ names. names ≡ names_of (set_trees set.now)) }
-{
-    let mut names = Names::new(alloc);
-    for index in 0..set.len() {
-        names.add(alloc, name_of(set, index))?;
-    }
-    Ok(names)
-}
 
 fn debugvars_fault(
     alloc: Global,

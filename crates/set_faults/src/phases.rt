@@ -8,25 +8,13 @@ ghost use Rattle.set_faults.specs.Answers.{AreSetFaults, AreReadSetFaults};
 
 use crate::call_faults::call_faults;
 use crate::phase::{Phase, SetFaults};
-use crate::sets::{name_of, rule_faults};
+use crate::sets::rule_faults;
 use crate::texts::syntax_faults;
-use code_check::Names;
 use dap_base::OutOfMemory;
+use seq_check::sequences::sequence_names;
 use sequence_resolve::SeqSet;
 use sequence_trees::{ReadSet, SetFault, read_set};
 use std::alloc::Global;
-
-// The names of the sequences, in order.
-fn sequence_names(alloc: Global, set: &ReadSet) -> Result<Names, OutOfMemory>
-    requires { IsDistinct bytes_eq (names_of (set_trees set.now)) }
-    ensures { IfOk result (λ names. names ≡ names_of (set_trees set.now)) }
-{
-    let mut names = Names::new(alloc);
-    for index in 0..set.len() {
-        names.add(alloc, name_of(set, index))?;
-    }
-    Ok(names)
-}
 
 // The faults of a set that was read.
 fn read_faults(alloc: Global, set: &ReadSet) -> Result<SetFaults, OutOfMemory>

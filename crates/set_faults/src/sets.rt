@@ -15,28 +15,9 @@ use crate::site::{Fault, Site, add_part};
 use crate::steps::add_inner;
 use code_check::Names;
 use dap_base::{ItemList, OutOfMemory};
-use sequence_trees::{CheckedSteps, Part, ReadSet};
+use seq_check::sequences::{name_of, steps_of};
+use sequence_trees::{Part, ReadSet};
 use std::alloc::Global;
-
-pub fn name_of(set: &ReadSet, index: usize) -> &str
-    requires { index < length (set_trees set.now).sequences }
-    ensures { slice_get (names_of (set_trees set.now)) index ≡ Some result.now }
-{
-    match set.name_at(index) {
-        Some(name) => name,
-        None => unreachable!(),
-    }
-}
-
-fn steps_of(set: &ReadSet, index: usize) -> &CheckedSteps
-    requires { index < length (set_trees set.now).sequences }
-    ensures { slice_get (map (λ s. s.steps) (set_trees set.now).sequences) index ≡ Some (steps_tree result.now) }
-{
-    match set.steps_at(index) {
-        Some(steps) => steps,
-        None => unreachable!(),
-    }
-}
 
 // Adds the faults of the debug variables, and makes the names visible that they declare.
 fn add_debugvars(

@@ -17,32 +17,11 @@ use crate::warning::{Warning, WarningKind};
 use code_check::Names;
 use dap_base::{ItemList, OutOfMemory, Place};
 use expr_grammar::Stmt;
+use seq_check::sequences::sequence_names;
 use seq_check::set_calls::set_calls;
 use sequence_resolve::SeqEntry;
 use sequence_trees::{Part, ReadSet};
 use std::alloc::Global;
-
-fn name_of(set: &ReadSet, index: usize) -> &str
-    requires { index < length (set_trees set.now).sequences }
-    ensures { slice_get (names_of (set_trees set.now)) index ≡ Some result.now }
-{
-    match set.name_at(index) {
-        Some(name) => name,
-        None => unreachable!(),
-    }
-}
-
-// The names of the sequences, in order.
-fn sequence_names(alloc: Global, set: &ReadSet) -> Result<Names, OutOfMemory>
-    requires { IsDistinct bytes_eq (names_of (set_trees set.now)) }
-    ensures { IfOk result (λ names. names ≡ names_of (set_trees set.now)) }
-{
-    let mut names = Names::new(alloc);
-    for index in 0..set.len() {
-        names.add(alloc, name_of(set, index))?;
-    }
-    Ok(names)
-}
 
 // For each of the first so many sequences whether a sequence of the set calls it.
 fn called_in(alloc: Global, set: &ReadSet, count: usize) -> Result<Vec<bool>, OutOfMemory>

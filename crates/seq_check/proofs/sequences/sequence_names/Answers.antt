@@ -3,7 +3,7 @@ use Rattle.std.proofs.lemmas.List.{length-map}
 use Rattle.sequence_trees.specs.SetView.{set_trees}
 use Rattle.seq_check.specs.SetFaults.{names_of}
 use Rattle.seq_check.proofs.SetLemmas.{added, added-distinct, drop-at, drop-past}
-use Rattle.set_warnings.proofs.sequences.sequence_names.Goals as goal
+use Rattle.seq_check.proofs.sequences.sequence_names.Goals as goal
 
 pub loop-index-preserved : goal.loop-index-preserved
 loop-index-preserved c =
