@@ -1,6 +1,9 @@
 -- The frame of a function that asks calls of an access: when it may be called, and how it ends.
-use Rattle.std.specs.Prelude.{◌≡◌, ℕ, ◌≤◌, length, Option, Some, None, Result, Ok, Err}
+use Rattle.std.specs.Prelude.{◌≡◌, ℕ, ◌+◌, ◌≤◌, false, length, Option, Some, None, Result, Ok, Err}
+use Rattle.target_machine.specs.Sound.{IsSound}
+use Rattle.target_machine.specs.declared.unit.Unit.{Unit as AccessUnit}
 use Rattle.probe_core.specs.Bench.{BenchState}
+use Rattle.target_calls.specs.Asks.{is_wide}
 use Rattle.access_calls.specs.Keeps.{Keeps}
 use Rattle.access_calls.specs.Reported.{AccessView}
 use Rattle.access_calls.specs.declared.stop.Stop.{Stop}
@@ -10,6 +13,16 @@ use Rattle.access_calls.specs.declared.stop.Stop.TheVariants.{Cut, BenchFault, R
 pub record MayAsk (most : ℕ) (a : AccessView) : Type 0 where
   pub few : length a.asks.calls ≤ most
   pub no_end : a.end ≡ None
+
+-- So many calls more may be asked: the access has no end, and with them it was asked at most so many calls.
+pub record MayAskMore (count most : ℕ) (a : AccessView) : Type 0 where
+  pub few : length a.asks.calls + count ≤ most
+  pub no_end : a.end ≡ None
+
+-- The unit may be asked, and is no memory access of an address over 0xFFFFFFFF.
+pub record IsSoundNarrow (unit : AccessUnit) : Type 0 where
+  pub sound : IsSound unit
+  pub narrow : is_wide unit ≡ false
 
 -- The end of an access that stopped so. Refused memory is no end.
 abbrev pub EndsBy : Stop → Option Stop → Type 0

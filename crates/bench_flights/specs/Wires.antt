@@ -4,6 +4,8 @@ use Rattle.target_machine.specs.Attempt.{attempt, bank}
 use Rattle.target_machine.specs.InRange.{IsInRange}
 use Rattle.target_machine.specs.Lines.{delayed}
 use Rattle.target_machine.specs.Plain.{Action, acted, dp_read_of, given, is_fault, polled}
+use Rattle.target_machine.specs.Sound.{IsSoundProbe}
+use Rattle.target_machine.specs.declared.unit.ProbeCall.{ProbeCall}
 use Rattle.target_machine.specs.declared.access.Outcome.TheVariants.{Value}
 use Rattle.target_machine.specs.declared.access.RegAccess.{RegAccess}
 use Rattle.dap_transfer.specs.State.{grown}
@@ -12,9 +14,10 @@ use Rattle.probe_core.specs.Probe.{ended_retries_of, target_of, work_of}
 use Rattle.probe_core.specs.declared.job.Limits.{Limits}
 use Rattle.access_calls.specs.Standing.{IsOver, idle_cycles_of, number_of, pending_of, setting_of}
 use Rattle.flight_forms.specs.Forms.{form_of}
-use Rattle.batch_packer.specs.Actions.{Acts}
+use Rattle.batch_packer.specs.Actions.{Acts, is_one}
 use Rattle.batch_packer.specs.FlightStates.{FlightState, item_at}
 use Rattle.batch_packer.specs.Flying.{CanFly, transfers_of}
+use Rattle.batch_packer.specs.Polling.{AreTurns}
 use Rattle.batch_packer.specs.declared.ends.FlightEnd.{FlightEnd}
 use Rattle.batch_packer.specs.declared.ends.FlightEnd.TheVariants as ends
 use Rattle.bench_flights.specs.Flown.{BenchGoesOn, HasEndCause}
@@ -23,6 +26,21 @@ use Rattle.bench_flights.specs.Flown.{BenchGoesOn, HasEndCause}
 pub record IsFree (flight : FlightState) : Type 0 where
   pub usable : flight.end ≡ None
   pub empty : flight.accesses ≡ []
+
+-- The command needs only one packet, and its numbers are in their ranges.
+pub record IsOneCommand (call : ProbeCall) : Type 0 where
+  pub sound : IsSoundProbe call
+  pub one : is_one call ≡ true
+
+-- The command may be made by a flight that nothing was pushed to, in one packet.
+pub record MaySendCommand (flight : FlightState) (call : ProbeCall) : Type 0 where
+  pub free : IsFree flight
+  pub command : IsOneCommand call
+
+-- So many turns of a poll may be made by a flight that nothing was pushed to, in one packet.
+pub record MaySendPoll (flight : FlightState) (count : ℕ) : Type 0 where
+  pub free : IsFree flight
+  pub turns : AreTurns count
 
 -- What each function of a wire keeps, and how it ends. Nothing is left that was pushed, the bench goes on as each call of it does, and it is the
 -- same loan. Where it answers there is no end, and the bench counts no fault more. An end that it answers has its cause.
@@ -75,6 +93,13 @@ abbrev pub IsNoCut : FlightEnd → Type 0
 IsNoCut ends.BenchFault = Unit {0}
 IsNoCut ends.ReplyBad = Unit {0}
 IsNoCut (ends.Cut cut) = ⊥
+
+-- What a function of a wire keeps that makes a command and leaves the limits of the flight. No cut ends it.
+pub record KeepsUncut {B T : Type 0} (reported : B → Reported) (state : B → Option BenchState) (identity : B → ℕ) (result : Result T FlightEnd)
+    (old new : B) (before flight : FlightState) : Type 0 where
+  pub uncut : IfErr result IsNoCut
+  pub on : KeepsWire reported state identity result old new flight
+  pub limits : flight.limits ≡ before.limits
 
 -- so many delays of 65,535 microseconds were made
 pub record HasDelayed (count : ℕ) (m o : BenchState) : Type 0 where

@@ -5,18 +5,17 @@ ghost use Rattle.target_machine.specs.Sound.{IsSoundProbe};
 ghost use Rattle.target_machine.specs.declared.unit.ProbeCall.TheVariants as probe;
 ghost use Rattle.dap_messages.specs.Commands.{IsCommand, command_value};
 ghost use Rattle.probe_core.specs.Ranges.{AreLimits};
-ghost use Rattle.batch_packer.specs.Actions.{command_of, is_one};
+ghost use Rattle.batch_packer.specs.Actions.{command_of};
 ghost use Rattle.batch_packer.specs.Commands.{DoneBy, IsSingle};
 ghost use Rattle.batch_packer.specs.Exchanges.{IsOpen, StepsWhere};
 ghost use Rattle.batch_packer.specs.FlightStates.{item_at, new_flight};
 ghost use Rattle.batch_packer.specs.Flying.{CanFly, IsWithin, TakesFlights};
-ghost use Rattle.batch_packer.specs.Polling.{AreTurns};
 ghost use Rattle.batch_packer.specs.SlotList.{slot_room};
 ghost use Rattle.bench_flights.specs.Flown.{IsTargetInRange, IsUnnamed, LeftOff, StepsMatching, matched_word};
 ghost use Rattle.bench_flights.specs.Opening.{least_of};
 ghost use Rattle.bench_flights.specs.Flown.{SendsFew};
-ghost use Rattle.bench_flights.specs.Wires.{AreHeld, AreSmall, HasMade, HasRead, IsFree, IsNoCut};
-ghost use Rattle.bench_flights.specs.Wires.{KeepsWireWhole, MadeOrNot, ReadOrNot, unnamed};
+ghost use Rattle.bench_flights.specs.Wires.{AreHeld, AreSmall, HasMade, HasRead, IsFree, IsOneCommand, KeepsUncut, KeepsWireWhole};
+ghost use Rattle.bench_flights.specs.Wires.{MadeOrNot, MaySendCommand, MaySendPoll, ReadOrNot, unnamed};
 
 use crate::flights::{Flights, Polled};
 use batch_packer::{Config as PollConfig, Cut, Flight, FlightEnd, PollAsk, Slots};
@@ -45,8 +44,7 @@ pub struct Wire<B: Bench> {
 
 // The command of a call that needs only one.
 fn command_of(call: ProbeCall) -> Command<'static>
-    requires sound { IsSoundProbe call }
-    requires one { is_one call ≡ true }
+    requires one { IsOneCommand call }
     ensures value { command_value result ≡ command_of call }
     ensures command { IsCommand (command_of call) }
 {
@@ -119,24 +117,20 @@ impl<B: Bench> Wire<B> {
         ensures done { StepsWhere IsTargetInRange (DoneBy (command_value command.now) result)
             (B.state self.old.bench) (B.state self.new.bench) }
         ensures least { IfOk result (λ number. least_of (command_value command.now) ≤ number) }
-        ensures uncut { IfErr result IsNoCut }
-        ensures keeps { KeepsWireWhole B.reported B.state B.identity result self.old.bench self.new.bench self.old.flight self.new.flight }
+        ensures keeps { KeepsUncut B.reported B.state B.identity result self.old.bench self.new.bench self.old.flight self.new.flight }
     {
         self.flight.command(&mut self.bench, command)
     }
 
     // Makes a command that needs only one packet.
     fn command_once(&mut self, call: ProbeCall) -> Result<u32, FlightEnd>
-        requires free { IsFree self.old.flight }
-        requires sound { IsSoundProbe call }
-        requires one { is_one call ≡ true }
+        requires may { MaySendCommand self.old.flight call }
         ensures done { IfOk result (λ word. StepsWhere IsTargetInRange (HasMade (Commands call) word)
             (B.state self.old.bench) (B.state self.new.bench)) }
         ensures packets { OnOk result (StepsWhere IsTargetInRange (SendsFew 1) (B.state self.old.bench) (B.state self.new.bench)) }
         ensures left { IfErr result (λ end. StepsWhere IsTargetInRange (MadeOrNot (Commands call) end)
             (B.state self.old.bench) (B.state self.new.bench)) }
-        ensures uncut { IfErr result IsNoCut }
-        ensures keeps { KeepsWireWhole B.reported B.state B.identity result self.old.bench self.new.bench self.old.flight self.new.flight }
+        ensures keeps { KeepsUncut B.reported B.state B.identity result self.old.bench self.new.bench self.old.flight self.new.flight }
     {
         self.exchange(&command_of(call))
     }
@@ -151,8 +145,7 @@ impl<B: Bench> Wire<B> {
             (B.state self.old.bench) (B.state self.new.bench)) }
         ensures left { IfErr result (λ end. StepsWhere CanFly (LeftOff (Commands (probe.Delay micros)) end)
             (B.state self.old.bench) (B.state self.new.bench)) }
-        ensures uncut { IfErr result IsNoCut }
-        ensures keeps { KeepsWireWhole B.reported B.state B.identity result self.old.bench self.new.bench self.old.flight self.new.flight }
+        ensures keeps { KeepsUncut B.reported B.state B.identity result self.old.bench self.new.bench self.old.flight self.new.flight }
     {
         let mut left = micros;
         while left > 0xFFFF {
@@ -167,8 +160,7 @@ impl<B: Bench> Wire<B> {
 
     // One portion of a poll: at most 65,536 turns, in one packet.
     fn poll_portion(&mut self, config: PollConfig, ask: PollAsk) -> Result<bool, FlightEnd>
-        requires free { IsFree self.old.flight }
-        requires turns { AreTurns ask.turns }
+        requires may { MaySendPoll self.old.flight ask.turns }
         ensures done { IfOk result (λ matched. StepsMatching config.idle config.retry
             (HasMade (Polls ask.mask ask.value ask.turns) (matched_word matched)) (B.state self.old.bench) (B.state self.new.bench)) }
         ensures packets { OnOk result (StepsMatching config.idle config.retry (SendsFew 1)

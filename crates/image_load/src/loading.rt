@@ -1,12 +1,12 @@
 //! The load of an image over an access.
-ghost use Rattle.std.specs.Prelude.{◌≡◌, ◌+◌, ◌<◌, ◌≤◌, ◌++◌, ◌∷◌, [], ℕ, Option, None, false, true, length, slice_index, OnOk, IfOk, IfErr};
+ghost use Rattle.std.specs.Prelude.{◌≡◌, ◌+◌, ◌<◌, ◌≤◌, ◌∷◌, [], Option, None, false, true, length, slice_index, IfOk};
 ghost use Rattle.std.specs.List.{All};
-ghost use Rattle.target_machine.specs.Sound.{IsSound};
-ghost use Rattle.target_calls.specs.Asks.{is_wide, unit_ask};
+ghost use Rattle.target_calls.specs.Asks.{unit_ask};
 ghost use Rattle.target_calls.specs.World.{results};
-ghost use Rattle.access_calls.specs.Asking.{MayAsk};
+ghost use Rattle.access_calls.specs.Asking.{IsSoundNarrow, MayAsk, MayAskMore};
+ghost use Rattle.access_calls.specs.CallEnds.{InEachWorld};
 ghost use Rattle.access_calls.specs.Keeps.{Keeps};
-ghost use Rattle.image_load.specs.Frame.{AsksCalls, EndsLoad, EndsPart, InWorlds};
+ghost use Rattle.image_load.specs.Frame.{AsksCalls, EndsLoad, EndsPart, MayLoadPieces};
 ghost use Rattle.image_load.specs.Loading.{AsksLoad, ReadsBack, StopsLoad};
 ghost use Rattle.image_load.specs.Pieces.{IsPiece, asked_all, first_difference, load_calls, piece_ask, pieces};
 
@@ -24,8 +24,7 @@ use target_machine::Unit;
 fn unit_of(read: bool, ap: u8, piece: Piece) -> Unit
     requires { IsPiece piece }
     ensures asks { unit_ask result false ≡ piece_ask read ap piece }
-    ensures sound { IsSound result }
-    ensures narrow { is_wide result ≡ false }
+    ensures narrow { IsSoundNarrow result }
 {
     Unit::Memory {
         size: piece.size,
@@ -38,8 +37,7 @@ fn unit_of(read: bool, ap: u8, piece: Piece) -> Unit
 
 // Asks for an access at an address of 32 bits, whose fault is not forgiven.
 fn ask<A: Access>(unit: Unit, access: &mut A) -> Result<Slot, Stop>
-    requires sound { IsSound unit }
-    requires narrow { is_wide unit ≡ false }
+    requires narrow { IsSoundNarrow unit }
     requires may { MayAsk 9999999 (A.reported access.old) }
     ensures slot { IfOk result (λ slot. slot.index ≡ length (A.reported access.old).asks.calls) }
     ensures asks { AsksCalls (unit_ask unit false ∷ []) result (A.reported access.old).asks.calls (A.reported access.new).asks.calls }
@@ -56,8 +54,7 @@ fn ask<A: Access>(unit: Unit, access: &mut A) -> Result<Slot, Stop>
 #[tactic(auto, using(access_calls::proofs::KeepLemmas::goes_trans, access_calls::proofs::KeepLemmas::goes_same))]
 fn ask_all<A: Access>(read: bool, ap: u8, pieces: &[Piece], access: &mut A) -> Result<u32, Stop>
     requires pieces { All IsPiece pieces.now }
-    requires few { length (A.reported access.old).asks.calls + length pieces.now ≤ 9000000 }
-    requires open { (A.reported access.old).end ≡ None }
+    requires may { MayAskMore (length pieces.now) 9000000 (A.reported access.old) }
     ensures first { IfOk result (λ first. 0 < length pieces.now → first ≡ length (A.reported access.old).asks.calls) }
     ensures none { IfOk result (λ first. length pieces.now ≡ 0 → first ≡ 0) }
     ensures asks { AsksCalls (asked_all read ap pieces.now) result (A.reported access.old).asks.calls (A.reported access.new).asks.calls }
@@ -84,7 +81,7 @@ fn compare_all<A: Access>(pieces: &[Piece], first: u32, access: &mut A) -> Optio
     requires few { first + length pieces.now ≤ 9000000 }
     requires known { first + length pieces.now ≤ (A.reported access.old).known }
     requires open { (A.reported access.old).end ≡ None }
-    ensures differs { InWorlds A.begun A.reported access.old access.new (λ w. result
+    ensures differs { InEachWorld A.begun A.reported access.old access.new (λ w. result
         ≡ first_difference pieces.now (λ i. slice_index (results w (A.reported access.old).asks.calls) (first + i))) }
     ensures calls { (A.reported access.new).asks.calls ≡ (A.reported access.old).asks.calls }
     ensures open { (A.reported access.new).end ≡ None }
@@ -109,9 +106,7 @@ fn compare_all<A: Access>(pieces: &[Piece], first: u32, access: &mut A) -> Optio
 // Asks for all writes, and then for all reads. Answers the place of the result of the first read, 0 where there is no piece.
 #[tactic(auto, using(crate::proofs::CallLemmas::count_all, access_calls::proofs::KeepLemmas::goes_trans, access_calls::proofs::KeepLemmas::goes_same))]
 fn ask_both<A: Access>(ap: u8, pieces: &[Piece], access: &mut A) -> Result<u32, Stop>
-    requires pieces { All IsPiece pieces.now }
-    requires many { length pieces.now ≤ 262144 }
-    requires may { MayAsk 1000000 (A.reported access.old) }
+    requires may { MayLoadPieces pieces.now (A.reported access.old) }
     ensures first { IfOk result (λ first. 0 < length pieces.now → first ≡ length (A.reported access.old).asks.calls + length pieces.now) }
     ensures none { IfOk result (λ first. length pieces.now ≡ 0 → first ≡ 0) }
     ensures asks { AsksCalls (load_calls ap pieces.now) result (A.reported access.old).asks.calls (A.reported access.new).asks.calls }
@@ -126,13 +121,11 @@ fn ask_both<A: Access>(ap: u8, pieces: &[Piece], access: &mut A) -> Result<u32, 
 // Writes pieces in order, reads them back in the same order, and finishes.
 #[tactic(auto, using(access_calls::proofs::KeepLemmas::goes_trans, access_calls::proofs::KeepLemmas::goes_same))]
 fn load_pieces<A: Access>(ap: u8, pieces: &[Piece], access: &mut A) -> Result<(), LoadEnd>
-    requires pieces { All IsPiece pieces.now }
-    requires many { length pieces.now ≤ 262144 }
-    requires may { MayAsk 1000000 (A.reported access.old) }
+    requires may { MayLoadPieces pieces.now (A.reported access.old) }
     ensures asks { AsksLoad result (load_calls ap pieces.now) (A.reported access.old).asks.calls (A.reported access.new).asks.calls }
-    ensures loads { InWorlds A.begun A.reported access.old access.new
+    ensures loads { InEachWorld A.begun A.reported access.old access.new
         (λ w. ReadsBack w (A.reported access.old).asks.calls ap pieces.now result) }
-    ensures stops { InWorlds A.begun A.reported access.old access.new (λ w. StopsLoad w result (load_calls ap pieces.now)
+    ensures stops { InEachWorld A.begun A.reported access.old access.new (λ w. StopsLoad w result (load_calls ap pieces.now)
         (A.reported access.old).asks.calls (A.reported access.new).asks.calls (A.reported access.new).lines) }
     ensures ends { EndsLoad A.begun A.reported A.identity result access.old access.new }
 {
@@ -183,9 +176,9 @@ pub fn load<A: Access>(
 ) -> Result<Loaded, LoadEnd>
     requires may { MayAsk 1000000 (A.reported access.old) }
     ensures asks { AsksLoad result (load_calls ap (pieces image.now)) (A.reported access.old).asks.calls (A.reported access.new).asks.calls }
-    ensures loads { InWorlds A.begun A.reported access.old access.new
+    ensures loads { InEachWorld A.begun A.reported access.old access.new
         (λ w. ReadsBack w (A.reported access.old).asks.calls ap (pieces image.now) result) }
-    ensures stops { InWorlds A.begun A.reported access.old access.new (λ w. StopsLoad w result (load_calls ap (pieces image.now))
+    ensures stops { InEachWorld A.begun A.reported access.old access.new (λ w. StopsLoad w result (load_calls ap (pieces image.now))
         (A.reported access.old).asks.calls (A.reported access.new).asks.calls (A.reported access.new).lines) }
     ensures counts { IfOk result (λ l. (l.bytes ≡ length image.now) × (l.writes ≡ length (pieces image.now))) }
     ensures few { IfOk result (λ l. l.writes ≤ 262144) }

@@ -98,6 +98,11 @@ pub record IsSoundState (log : LogState) : Type 0 where
   pub open_order : log.end ≡ None → log.came ≤ log.whole
   pub open_known : log.end ≡ None → log.known ≡ log.came
 
+-- What is kept became this, and its numbers are sound.
+pub record Becomes (new this : LogState) : Type 0 where
+  pub so : new ≡ this
+  pub sound : IsSoundState new
+
 -- nothing was asked
 abbrev pub nothing_logged : LogState
 nothing_logged = record {

@@ -1,12 +1,11 @@
 //! Asking a unit that forgives nothing and is no poll.
 ghost use Rattle.std.specs.Prelude.{◌&&◌, ◌≡◌, ◌<◌, ◌+◌, ◌-◌, ◌++◌, ◌∷◌, [], List, None, false, true, length, IfOk, OnOk};
-ghost use Rattle.target_machine.specs.Sound.{IsSound};
 ghost use Rattle.probe_core.specs.Bench.{BenchState};
 ghost use Rattle.access_regs.specs.Entries.{target_by};
 ghost use Rattle.access_regs.specs.Journal.{by_cfg, is_alone, issue_of};
 ghost use Rattle.target_machine.specs.Plain.{may_forgive};
 ghost use Rattle.packed_access.specs.Planned.{HasShown, reads_before};
-ghost use Rattle.packed_access.specs.Begun.{IsNoPoll, steps_left, target_issued};
+ghost use Rattle.packed_access.specs.Begun.{steps_left, target_issued};
 ghost use Rattle.packed_access.specs.Logs.{asks_of, most_entries, with_needs};
 ghost use Rattle.target_calls.specs.World.{small_now, start_world};
 ghost use Rattle.target_calls.specs.declared.calls.Ask.{Ask};
@@ -14,7 +13,7 @@ ghost use Rattle.target_calls.specs.Asks.{is_forgiving};
 ghost use Rattle.probe_core.specs.Probe.{target_of};
 ghost use Rattle.target_machine.specs.declared.unit.Call.TheVariants.{Access};
 ghost use Rattle.packed_access.specs.Gives.{AsksFor, Plans};
-ghost use Rattle.packed_access.specs.Frame.{AsksWhole, CanIssue, IssuesFew, Steps};
+ghost use Rattle.packed_access.specs.Frame.{AsksWhole, CanIssue, IsSoundAccess, IssuesFew, Steps};
 ghost use Rattle.packed_access.specs.Views.{IsAsked, IsBegun, IsToIssue};
 
 use crate::seen::Seen;
@@ -29,8 +28,7 @@ impl<F: Flights> Sender<F> {
     #[tactic(auto, using(crate::proofs::FrameLemmas::keeps_on))]
     fn issue_by_cfg(&mut self, unit: &Unit) -> Result<bool, Stop>
         requires ready { CanIssue 9 (⟦<Self as Seen>⟧.view self.old) }
-        requires sound { IsSound unit.now }
-        requires no_poll { IsNoPoll unit.now }
+        requires sound { IsSoundAccess unit.now }
         ensures gives { Plans result (⟦<Self as Seen>⟧.view self.old) (⟦<Self as Seen>⟧.view self.new)
             (λ m0. by_cfg (target_issued F.planner self.old.log m0) self.old.managed unit.now) }
         ensures kept { (m0 : BenchState)
@@ -46,7 +44,6 @@ impl<F: Flights> Sender<F> {
         ensures issues { IssuesFew result 9 (⟦<Self as Seen>⟧.view self.old) (⟦<Self as Seen>⟧.view self.new) }
         ensures empty { IfOk result (λ small. small ≡ true → F.accesses self.new.flights ≡ []) }
         ensures pending { IfOk result (λ small. small ≡ false → self.new.log.confirmed < length self.new.log.entries) }
-        ensures fenced { OnOk result (self.new.log.known < self.new.log.fence → self.old.log.known < self.old.log.fence) }
     {
         if !self.managed.needs_cfg(unit) {
             return match self.issue_by_csw(unit) {
@@ -72,8 +69,7 @@ impl<F: Flights> Sender<F> {
     #[tactic(auto, using(crate::proofs::FrameLemmas::keeps_on, access_regs::proofs::LightLemmas::settle_short))]
     fn issue_planned(&mut self, unit: &Unit) -> Result<bool, Stop>
         requires ready { CanIssue 11 (⟦<Self as Seen>⟧.view self.old) }
-        requires sound { IsSound unit.now }
-        requires no_poll { IsNoPoll unit.now }
+        requires sound { IsSoundAccess unit.now }
         requires planned { (is_alone F.planner false && may_forgive (Access unit.now)) ≡ false }
         ensures gives { AsksFor result (⟦<Self as Seen>⟧.view self.old) (⟦<Self as Seen>⟧.view self.new)
             (λ m0 ask. (ask.call ≡ Access unit.now) × (is_forgiving ask ≡ false)) (λ s m0. IsToIssue s [] m0) }
@@ -86,7 +82,6 @@ impl<F: Flights> Sender<F> {
         ensures issues { IssuesFew result 11 (⟦<Self as Seen>⟧.view self.old) (⟦<Self as Seen>⟧.view self.new) }
         ensures empty { IfOk result (λ small. small ≡ true → F.accesses self.new.flights ≡ []) }
         ensures pending { IfOk result (λ small. small ≡ false → self.new.log.confirmed < length self.new.log.entries) }
-        ensures fenced { OnOk result (self.new.log.known < self.new.log.fence → self.old.log.known < self.old.log.fence) }
     {
         let before = self.log.count() - 1;
         if before == 0 || !self.managed.needs_settle(unit) {
@@ -103,8 +98,7 @@ impl<F: Flights> Sender<F> {
     #[tactic(auto, using(crate::proofs::FrameLemmas::keeps_on, crate::proofs::FrameLemmas::keeps_still, access_regs::proofs::LightLemmas::settle_short))]
     pub(crate) fn ask_planned(&mut self, unit: &Unit) -> Result<bool, Stop>
         requires ready { CanIssue most_entries (⟦<Self as Seen>⟧.view self.old) }
-        requires sound { IsSound unit.now }
-        requires no_poll { IsNoPoll unit.now }
+        requires sound { IsSoundAccess unit.now }
         requires planned { (is_alone F.planner false && may_forgive (Access unit.now)) ≡ false }
         ensures gives { AsksFor result (⟦<Self as Seen>⟧.view self.old) (⟦<Self as Seen>⟧.view self.new)
             (λ m0 ask. (ask.call ≡ Access unit.now) × (is_forgiving ask ≡ false)) IsBegun }
@@ -112,8 +106,7 @@ impl<F: Flights> Sender<F> {
             → IsAsked (⟦<Self as Seen>⟧.view self.old) calls ask m0
             → IfOk result (λ small. small ≡ small_now (start_world (target_of m0.probe) None) calls ask) }
         ensures step { Steps result (⟦<Self as Seen>⟧.view self.old) (⟦<Self as Seen>⟧.view self.new) }
-        ensures asks { AsksWhole result (⟦<Self as Seen>⟧.view self.new) }
-        ensures fenced { OnOk result (self.new.log.known < self.new.log.fence → self.old.log.known < self.old.log.fence) }
+        ensures asks { AsksWhole result (⟦<Self as Seen>⟧.view self.old) (⟦<Self as Seen>⟧.view self.new) }
     {
         match self.issue_planned(unit) {
             Ok(false) => {

@@ -1,5 +1,5 @@
 //! The calls of the access.
-ghost use Rattle.std.specs.Prelude.{◌&&◌, ◌<◌, ◌≡◌, List, None, IfOk, OnOk};
+ghost use Rattle.std.specs.Prelude.{◌&&◌, ◌<◌, ◌≡◌, List, None, IfOk};
 ghost use Rattle.target_machine.specs.Plain.{may_forgive};
 ghost use Rattle.target_machine.specs.Sound.{IsSound};
 ghost use Rattle.target_machine.specs.declared.unit.Call.TheVariants.{Access};
@@ -102,8 +102,7 @@ impl<F: Flights> Sender<F> {
         ensures small { (m0 : BenchState) (calls : List Ask) (ask : Ask) → IsSetTo config.idle config.retry m0 → ask ≡ unit_ask unit.now forgive
             → IsAsked (⟦<Self as Seen>⟧.view self.old) calls ask m0 → IfOk result (λ small. small ≡ small_now (start_world (target_of m0.probe) None) calls ask) }
         ensures step { Steps result (⟦<Self as Seen>⟧.view self.old) (⟦<Self as Seen>⟧.view self.new) }
-        ensures asks { AsksWhole result (⟦<Self as Seen>⟧.view self.new) }
-        ensures fenced { OnOk result (self.new.log.known < self.new.log.fence → self.old.log.known < self.old.log.fence) }
+        ensures asks { AsksWhole result (⟦<Self as Seen>⟧.view self.old) (⟦<Self as Seen>⟧.view self.new) }
     {
         match *unit {
             Unit::Poll { mask, value, turns } => match self.ask_poll(config, mask, value, turns) {

@@ -3,7 +3,7 @@ ghost use Rattle.std.specs.Prelude.{◌≡◌, ◌<◌, ◌≤◌, ◌+◌, [], 
 ghost use Rattle.std.specs.List.{list_any};
 ghost use Rattle.target_machine.specs.Lists.{after};
 ghost use Rattle.target_machine.specs.Plain.{Action, may_forgive, memory_actions};
-ghost use Rattle.target_machine.specs.Sound.{IsSound, IsSoundMemory};
+ghost use Rattle.target_machine.specs.Sound.{IsSoundMemory};
 ghost use Rattle.target_machine.specs.State.{TargetState};
 ghost use Rattle.target_machine.specs.declared.access.RegAccess.{RegAccess};
 ghost use Rattle.target_machine.specs.declared.unit.Unit.TheVariants as unit;
@@ -17,12 +17,12 @@ ghost use Rattle.target_calls.specs.declared.calls.Ask.{Ask};
 ghost use Rattle.target_calls.specs.Asks.{unit_ask};
 ghost use Rattle.probe_core.specs.Probe.{target_of};
 ghost use Rattle.target_machine.specs.declared.unit.Call.TheVariants.{Access};
-ghost use Rattle.access_regs.specs.Journal.{is_alone, is_end, making};
+ghost use Rattle.access_regs.specs.Journal.{is_end, making};
 ghost use Rattle.access_regs.specs.Kept.{Kept, known, selected};
 ghost use Rattle.access_regs.specs.Plan.{needs_cfg, select_value};
 ghost use Rattle.access_regs.specs.declared.planner.Planner.TheVariants.{Managed};
 ghost use Rattle.packed_access.specs.Gives.{AsksFor};
-ghost use Rattle.packed_access.specs.Frame.{AsksWhole, CanIssue, CanTry, Steps, Tries};
+ghost use Rattle.packed_access.specs.Frame.{AsksWhole, CanIssue, CanTry, CanTryUnit, IsMadeAlone, Steps, Tries};
 ghost use Rattle.packed_access.specs.Views.{IsAsked, IsBegun, IsBroken, IsTried};
 
 use crate::log::CallLog;
@@ -186,8 +186,7 @@ impl<F: Flights> Sender<F> {
     // Makes the accesses of a unit.
     fn try_unit(&mut self, unit: &Unit, forgive: bool) -> Result<Attempt, Stop>
         requires ready { CanTry 11 (⟦<Self as Seen>⟧.view self.old) }
-        requires calm { self.old.managed.unsettled ≡ None }
-        requires sound { IsSound unit.now }
+        requires unit { CanTryUnit self.old.managed unit.now }
         ensures on { (m0 : BenchState) (t : TargetState) (rest : List Action) → may_forgive (Access unit.now) ≡ true → length self.old.managed.ports ≡ 256
             → IsTried (⟦<Self as Seen>⟧.view self.old) forgive unit.now self.old.managed t [] rest m0
             → IfOk result (λ r. IsDoneBy F.planner forgive r.small r.word r.reads self.new.managed (F.state self.new.flights) self.new.log
@@ -236,15 +235,12 @@ impl<F: Flights> Sender<F> {
     // Asks a unit that is made alone, and forgives a fault or not. Answers whether its access port has no large addresses.
     pub(crate) fn ask_alone(&mut self, unit: &Unit, forgive: bool) -> Result<bool, Stop>
         requires ready { CanIssue most_entries (⟦<Self as Seen>⟧.view self.old) }
-        requires sound { IsSound unit.now }
-        requires may { may_forgive (Access unit.now) ≡ true }
-        requires alone { is_alone F.planner forgive ≡ true }
+        requires alone { IsMadeAlone F.planner forgive unit.now }
         ensures gives { AsksFor result (⟦<Self as Seen>⟧.view self.old) (⟦<Self as Seen>⟧.view self.new) (λ m0 ask. ask ≡ unit_ask unit.now forgive) IsBegun }
         ensures small { (m0 : BenchState) (calls : List Ask) (ask : Ask) → ask ≡ unit_ask unit.now forgive → IsAsked (⟦<Self as Seen>⟧.view self.old) calls ask m0
             → IfOk result (λ small. small ≡ small_now (start_world (target_of m0.probe) None) calls ask) }
         ensures step { Steps result (⟦<Self as Seen>⟧.view self.old) (⟦<Self as Seen>⟧.view self.new) }
-        ensures asks { AsksWhole result (⟦<Self as Seen>⟧.view self.new) }
-        ensures fenced { OnOk result (self.new.log.known < self.new.log.fence → self.old.log.known < self.old.log.fence) }
+        ensures asks { AsksWhole result (⟦<Self as Seen>⟧.view self.old) (⟦<Self as Seen>⟧.view self.new) }
     {
         let count = self.log.count();
         // there is something to settle only after an earlier call

@@ -8,7 +8,6 @@ ghost use Rattle.probe_core.specs.Probe.{target_of};
 ghost use Rattle.batch_packer.specs.SlotList.{slot_at};
 ghost use Rattle.access_regs.specs.Costs.{command_cost};
 ghost use Rattle.access_regs.specs.Journal.{gives, issued};
-ghost use Rattle.target_machine.specs.Sound.{IsSoundProbe};
 ghost use Rattle.target_calls.specs.Asks.{probe_ask};
 ghost use Rattle.target_calls.specs.declared.calls.Ask.{Ask};
 ghost use Rattle.flight_forms.specs.Packing.{IsTaken};
@@ -26,7 +25,7 @@ ghost use Rattle.packed_access.specs.Begun.{StopsThere, entries_of, target_issue
 ghost use Rattle.packed_access.specs.Actions.{entry_of, log_done};
 ghost use Rattle.packed_access.specs.Logs.{IsOfCall, IsSoundState, all_confirmed, all_taken, ended_by, result_for};
 ghost use Rattle.packed_access.specs.Gives.{Issues, Sends};
-ghost use Rattle.packed_access.specs.Frame.{CanAdd, Exchanges, Further};
+ghost use Rattle.packed_access.specs.Frame.{CanAdd, CanCommandLast, Exchanges, Further};
 ghost use Rattle.packed_access.specs.Views.{HasSpace, IsAtEnd, IsSparing, IsToIssue, IsToIssueNext, access_view};
 
 use crate::log::CallLog;
@@ -196,10 +195,7 @@ impl<F: Flights> Sender<F> {
     // Makes the last call, which is a command of the probe, where all calls before it came.
     #[tactic(auto, using(crate::proofs::FrameLemmas::keeps_on, crate::proofs::FrameLemmas::keeps_still))]
     pub(crate) fn make_last(&mut self, call: ProbeCall) -> Result<u32, Stop>
-        requires ready { CanAdd 1 (⟦<Self as Seen>⟧.view self.old) }
-        requires sound { IsSoundProbe call }
-        requires rest { F.accesses self.old.flights ≡ [] }
-        requires last { self.old.log.came + 1 ≡ length self.old.log.calls }
+        requires may { CanCommandLast call (⟦<Self as Seen>⟧.view self.old) }
         ensures on { (m0 : BenchState) (calls : List Ask) → self.old.log.calls ≡ calls ++ probe_ask call ∷ []
             → IsToIssueNext (⟦<Self as Seen>⟧.view self.old) (entry_of calls (Commands call) ∷ []) m0
             → OnOk result (IsToIssueNext (⟦<Self as Seen>⟧.view self.new) [] m0) }
@@ -214,7 +210,6 @@ impl<F: Flights> Sender<F> {
         ensures exchanges { Exchanges result (⟦<Self as Seen>⟧.view self.old) (⟦<Self as Seen>⟧.view self.new) }
         ensures log { IfOk result (λ word. self.new.log ≡ log_done self.old.log (record { unit = length self.old.log.calls; part = Ends }) (self.old.log.came)
             (result_for (slice_get self.old.log.calls self.old.log.came) word)) }
-        ensures empty { OnOk result (F.accesses self.new.flights ≡ []) }
     {
         let unit = self.log.count();
         self.log.issue(unit, Part::Ends);

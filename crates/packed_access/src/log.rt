@@ -1,5 +1,5 @@
 //! What an access keeps of its calls: what was asked, the results, the journal, and the end.
-ghost use Rattle.std.specs.Prelude.{◌≡◌, ℕ, ◌+◌, ◌-◌, ◌<◌, ◌≤◌, ◌++◌, ◌∷◌, [], Some, None, length, take, slice_get, ◌^◌, ◌*◌, min, nat_lt, IfSome, OnOk, OnErr};
+ghost use Rattle.std.specs.Prelude.{◌≡◌, ◌+◌, ◌-◌, ◌<◌, ◌≤◌, Some, None, length, take, slice_get, ◌^◌, ◌*◌, min, nat_lt, OnOk, OnErr};
 ghost use Rattle.target_machine.specs.Sound.{IsSoundCall};
 ghost use Rattle.target_calls.specs.Asks.{settled_last};
 ghost use Rattle.target_calls.specs.NeedPoints.{used};
@@ -7,7 +7,7 @@ ghost use Rattle.access_calls.specs.Issued.{lines_before_kept};
 ghost use Rattle.access_calls.specs.declared.stop.Stop.TheVariants as Stop;
 ghost use Rattle.batch_packer.specs.FlightEnds.{IsShort};
 ghost use Rattle.packed_access.specs.Tails.{IsRoomier};
-ghost use Rattle.packed_access.specs.Logs.{IsLogCut, IsOfCall, IsSoundState, IsStopped, all_confirmed, all_issued, asks_of};
+ghost use Rattle.packed_access.specs.Logs.{Becomes, IsLogCut, IsOfCall, IsSoundState, IsStopped, all_confirmed, all_issued, asks_of};
 ghost use Rattle.packed_access.specs.Logs.{entries_confirmed, most_entries, nothing_logged, pending, pending_place, result_at, result_for};
 ghost use Rattle.packed_access.specs.Logs.{with_asks, with_call, with_entry, with_needs, with_result};
 
@@ -197,8 +197,7 @@ impl CallLog {
         requires unit { IsOfCall (length self.old.calls) (record { unit = unit; part = part }) }
         requires room { length self.old.entries < self.old.room }
         requires bounded { length self.old.entries < most_entries * length self.old.calls }
-        ensures answer { self.new ≡ with_entry self.old (record { unit = unit; part = part }) }
-        ensures sound { IsSoundState self.new }
+        ensures answer { Becomes self.new (with_entry self.old (record { unit = unit; part = part })) }
     {
         self.entries.push(Issued { unit, part });
     }
@@ -206,8 +205,7 @@ impl CallLog {
     // All entries of the calls that were asked are issued. The last of them gives the result of the last call.
     pub(crate) fn note_all_issued(&mut self)
         requires some { 0 < length self.old.calls }
-        ensures answer { self.new ≡ all_issued self.old }
-        ensures sound { IsSoundState self.new }
+        ensures answer { Becomes self.new (all_issued self.old) }
     {
         self.whole = self.asks.len();
         self.places
@@ -229,8 +227,7 @@ impl CallLog {
     pub(crate) fn take(&mut self, index: u32, word: u32)
         requires within { index < length self.old.calls }
         requires later { self.old.came ≤ index + 1 }
-        ensures answer { self.new ≡ with_result self.old index (result_for (slice_get self.old.calls index) word) }
-        ensures sound { IsSoundState self.new }
+        ensures answer { Becomes self.new (with_result self.old index (result_for (slice_get self.old.calls index) word)) }
     {
         self.results[index as usize] = result_of(&self.asks.get(index).call, word);
     }
@@ -238,8 +235,7 @@ impl CallLog {
     // All entries are confirmed, and all calls that were issued whole came.
     pub(crate) fn confirm(&mut self)
         requires { self.old.end ≡ None }
-        ensures answer { self.new ≡ all_confirmed self.old }
-        ensures sound { IsSoundState self.new }
+        ensures answer { Becomes self.new (all_confirmed self.old) }
     {
         self.let_entries_go();
         let last = self.whole.saturating_sub(1);
@@ -251,8 +247,7 @@ impl CallLog {
 
     // All entries are confirmed, and what they count for is kept alone.
     fn let_entries_go(&mut self)
-        ensures answer { self.new ≡ entries_confirmed self.old }
-        ensures sound { IsSoundState self.new }
+        ensures answer { Becomes self.new (entries_confirmed self.old) }
     {
         self.confirmed.add(self.entries.kept_items());
         let count = self.entries.len();
@@ -261,8 +256,7 @@ impl CallLog {
 
     // All entries are confirmed: their replies were received. The last call has not come.
     pub(crate) fn confirm_entries(&mut self)
-        ensures answer { self.new ≡ entries_confirmed self.old }
-        ensures sound { IsSoundState self.new }
+        ensures answer { Becomes self.new (entries_confirmed self.old) }
     {
         self.let_entries_go();
     }
@@ -270,8 +264,7 @@ impl CallLog {
     // So many need points come, where so many calls have been asked.
     pub(crate) fn need(&mut self, points: u64, calls: u32)
         requires within { calls ≤ length self.old.calls }
-        ensures answer { self.new ≡ with_needs self.old points calls }
-        ensures sound { IsSoundState self.new }
+        ensures answer { Becomes self.new (with_needs self.old points calls) }
     {
         if points > 0 {
             self.needs = self.needs.saturating_add(points);
@@ -281,10 +274,9 @@ impl CallLog {
 
     // The value of a slot is used: the result of its call where it is known, and else 0.
     pub(crate) fn use_slot(&mut self, slot: Slot) -> u64
-        ensures answer { self.new ≡ with_asks self.old (used slot (asks_of self.old)) }
+        ensures answer { Becomes self.new (with_asks self.old (used slot (asks_of self.old))) }
         ensures value { result ≡ result_at self.old slot.index }
         ensures bound { result < 2 ^ 32 }
-        ensures sound { IsSoundState self.new }
     {
         if slot.index >= self.fence {
             let count = self.asks.len();
@@ -299,8 +291,7 @@ impl CallLog {
 
     // One more call was skipped. The count stays at its last value.
     pub(crate) fn skip(&mut self)
-        ensures answer { self.new ≡ record self.old { skipped = min (self.old.skipped + 1) (2 ^ 32 - 1) } }
-        ensures sound { IsSoundState self.new }
+        ensures answer { Becomes self.new (record self.old { skipped = min (self.old.skipped + 1) (2 ^ 32 - 1) }) }
     {
         self.skipped = self.skipped.saturating_add(1);
     }

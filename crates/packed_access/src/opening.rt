@@ -1,5 +1,5 @@
 //! How an access begins over a bench.
-ghost use Rattle.std.specs.Prelude.{◌≡◌, ◌⊎◌, ◌≤◌, length, take, IfErr, IfOk};
+ghost use Rattle.std.specs.Prelude.{◌≡◌, ◌≤◌, take, IfErr, IfOk};
 ghost use Rattle.access_calls.specs.declared.stop.Stop.TheVariants as Stop;
 ghost use Rattle.probe_core.specs.Bench.{StepsTo};
 ghost use Rattle.batch_packer.specs.Exchanges.{IsOpen};

@@ -11,12 +11,12 @@ ghost use Rattle.target_machine.specs.Counts.{one_if};
 ghost use Rattle.access_regs.specs.Journal.{by_csw, gives, port_of};
 ghost use Rattle.access_regs.specs.Plan.{cfg_plan, first_plan, last_access, leads, learned, learned_cfg, made, needs_cfg, needs_csw};
 ghost use Rattle.bench_flights.specs.Flown.{IsSetTo};
-ghost use Rattle.packed_access.specs.Begun.{IsNoPoll, entries_of, steps_left, target_issued};
+ghost use Rattle.packed_access.specs.Begun.{entries_of, steps_left, target_issued};
 ghost use Rattle.packed_access.specs.Logs.{asks_of, most_entries, with_needs};
 ghost use Rattle.target_machine.specs.declared.unit.Call.TheVariants.{Access};
 ghost use Rattle.target_machine.specs.declared.unit.Unit.TheVariants as unit;
 ghost use Rattle.packed_access.specs.Gives.{AsksFor, Issues, Plans, Reads};
-ghost use Rattle.packed_access.specs.Frame.{AsksWhole, CanIssue, Further, IssuesFew, Steps};
+ghost use Rattle.packed_access.specs.Frame.{AsksWhole, CanIssue, Further, IsSoundAccess, IssuesFew, Steps};
 ghost use Rattle.packed_access.specs.Views.{IsBegun, IsPaid, IsToIssue};
 
 use crate::issuing::list_accesses;
@@ -131,8 +131,7 @@ impl<F: Flights> Sender<F> {
     #[tactic(auto, using(crate::proofs::FrameLemmas::keeps_on))]
     pub(crate) fn issue_by_csw(&mut self, unit: &Unit) -> Result<(), Stop>
         requires ready { CanIssue 7 (⟦<Self as Seen>⟧.view self.old) }
-        requires sound { IsSound unit.now }
-        requires no_poll { IsNoPoll unit.now }
+        requires sound { IsSoundAccess unit.now }
         ensures gives { Plans result (⟦<Self as Seen>⟧.view self.old) (⟦<Self as Seen>⟧.view self.new)
             (λ m0. by_csw (target_issued F.planner self.old.log m0) self.old.managed unit.now) }
         ensures kept { (m0 : BenchState)
@@ -142,7 +141,6 @@ impl<F: Flights> Sender<F> {
         ensures pending { OnOk result (self.new.log.confirmed < length self.new.log.entries) }
         ensures asks { OnOk result (asks_of self.new.log
             ≡ asks_of (with_needs self.old.log (one_if (needs_csw self.old.managed unit.now)) (length self.old.log.calls - 1))) }
-        ensures fenced { OnOk result (self.new.log.known < self.new.log.fence → self.old.log.known < self.old.log.fence) }
     {
         if !self.managed.needs_csw(unit) {
             return self.issue_unit(unit);
@@ -167,8 +165,7 @@ impl<F: Flights> Sender<F> {
         ensures gives { AsksFor result (⟦<Self as Seen>⟧.view self.old) (⟦<Self as Seen>⟧.view self.new)
             (λ m0 ask. (IsSetTo config.idle config.retry m0) × (ask.call ≡ Access (unit.Poll mask requested turns))) IsBegun }
         ensures step { Steps result (⟦<Self as Seen>⟧.view self.old) (⟦<Self as Seen>⟧.view self.new) }
-        ensures asks { AsksWhole result (⟦<Self as Seen>⟧.view self.new) }
-        ensures fenced { OnOk result (self.new.log.known < self.new.log.fence → self.old.log.known < self.old.log.fence) }
+        ensures asks { AsksWhole result (⟦<Self as Seen>⟧.view self.old) (⟦<Self as Seen>⟧.view self.new) }
     {
         match self.send() {
             Ok(()) => {}

@@ -119,7 +119,6 @@ impl<F: Flights> Sender<F> {
         ensures whole { OnOk result (self.new.log.whole ≡ length self.new.log.calls) }
         ensures entries { OnOk result (length self.new.log.entries ≡ length self.old.log.entries + 1) }
         ensures room_same { OnOk result (self.new.log.room ≡ self.old.log.room) }
-        ensures empty { OnOk result (F.accesses self.new.flights ≡ []) }
     {
         let unit = self.log.count();
         let zero = self.polls_by_matches();

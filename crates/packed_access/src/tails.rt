@@ -1,5 +1,5 @@
 //! Lists that keep their last elements alone.
-ghost use Rattle.std.specs.Prelude.{◌≡◌, ◌<◌, ◌≤◌, ◌+◌, ◌^◌, ◌++◌, ◌∷◌, [], List, ℕ, Some, length, slice_get, slice_set, take, drop, IsOk, OnErr, OnOk};
+ghost use Rattle.std.specs.Prelude.{◌≡◌, ◌<◌, ◌≤◌, ◌+◌, ◌^◌, ◌++◌, ◌∷◌, [], List, Some, length, slice_get, slice_set, drop, OnOk};
 
 use dap_base::OutOfMemory;
 use std::alloc::Global;

@@ -2,6 +2,7 @@ pub mod Words
 pub mod Calls
 pub mod Lines
 pub mod Endings
+pub mod Shown
 pub mod Target
 pub mod Views
 pub mod Audit

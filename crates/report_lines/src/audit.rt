@@ -1,11 +1,10 @@
 //! The text of an audit: the target that an accepted trace leads to, or the first entry that cannot come.
 ghost use Rattle.std.specs.Prelude.{◌≡◌, IfOk};
 ghost use Rattle.std.specs.List.{All};
-ghost use Rattle.probe_core.specs.Ranges.{IsBenchJob};
-ghost use Rattle.job_text.specs.Ranges.{AreWatched};
 ghost use Rattle.report_lines.specs.Audit.{audit_fault_line, audit_ok_line, audited_lines, refusal_word, refused_line};
 ghost use Rattle.report_lines.specs.Frame.{PutsLines};
 ghost use Rattle.report_lines.specs.Target.{IsLow, target_lines};
+ghost use Rattle.report_lines.specs.Shown.{IsShownJob};
 
 use crate::put::{TextEnd, put_line};
 use crate::target::write_target;
@@ -63,8 +62,7 @@ pub fn audit_text<K: Sink>(
     job: &Job,
     sink: &mut K,
 ) -> Result<(), TextEnd>
-    requires bench { IsBenchJob job.now.bench }
-    requires watch { AreWatched job.now.bench.target.memory job.now.watch }
+    requires { IsShownJob job.now }
     ensures puts { PutsLines (audited_lines audited.now job.now) result K.written K.faults sink.old sink.new }
 {
     match put_line(audit_ok_text(alloc, audited), sink) {

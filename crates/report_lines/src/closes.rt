@@ -1,11 +1,10 @@
 //! The text of what followed a sequence: a load, or a scan.
 ghost use Rattle.std.specs.Prelude.{◌≡◌, IfOk};
 ghost use Rattle.probe_core.specs.Probe.{target_of};
-ghost use Rattle.probe_core.specs.Ranges.{IsBenchJob};
-ghost use Rattle.job_text.specs.Ranges.{AreWatched};
 ghost use Rattle.report_lines.specs.Closes.{differs_line, differs_lines, full_line, full_lines, loaded_line};
 ghost use Rattle.report_lines.specs.Frame.{PutsFirst, PutsLines, PutsShown};
 ghost use Rattle.report_lines.specs.Target.{target_lines};
+ghost use Rattle.report_lines.specs.Shown.{IsShownJob};
 
 use crate::put::{TextEnd, put, put_line};
 use crate::target::write_target;
@@ -27,8 +26,7 @@ pub fn target_lines<K: Sink, B: Bench>(
     bench: &mut B,
     sink: &mut K,
 ) -> Result<(), TextEnd>
-    requires bench { IsBenchJob job.now.bench }
-    requires watch { AreWatched job.now.bench.target.memory job.now.watch }
+    requires shown { IsShownJob job.now }
     ensures puts { PutsShown (λ m. target_lines (target_of m.probe) job.now.bench.target.aps job.now.watch) result
         B.reported B.state B.identity K.written K.faults bench.old bench.new sink.old sink.new }
 {
@@ -90,8 +88,7 @@ pub fn differs_text<K: Sink, B: Bench>(
     bench: &mut B,
     sink: &mut K,
 ) -> Result<(), TextEnd>
-    requires bench { IsBenchJob job.now.bench }
-    requires watch { AreWatched job.now.bench.target.memory job.now.watch }
+    requires shown { IsShownJob job.now }
     ensures puts { PutsShown (λ m. differs_lines address wanted found job.now (target_of m.probe)) result
         B.reported B.state B.identity K.written K.faults bench.old bench.new sink.old sink.new }
     ensures front { PutsFirst (differs_line address wanted found) (K.written sink.old) (K.written sink.new) result }
@@ -113,8 +110,7 @@ pub fn full_text<K: Sink, B: Bench>(
     bench: &mut B,
     sink: &mut K,
 ) -> Result<(), TextEnd>
-    requires bench { IsBenchJob job.now.bench }
-    requires watch { AreWatched job.now.bench.target.memory job.now.watch }
+    requires shown { IsShownJob job.now }
     ensures puts { PutsShown (λ m. full_lines job.now (target_of m.probe)) result
         B.reported B.state B.identity K.written K.faults bench.old bench.new sink.old sink.new }
     ensures front { PutsFirst full_line (K.written sink.old) (K.written sink.new) result }

@@ -5,12 +5,11 @@ ghost use Rattle.std.specs.Prelude.{◌≡◌, ◌≢◌, Ok, false, IfErr};
 ghost use Rattle.std.specs.List.{All};
 ghost use Rattle.dap_base.specs.Streams.{PutAppends};
 ghost use Rattle.probe_core.specs.Probe.{target_of};
-ghost use Rattle.probe_core.specs.Ranges.{IsBenchJob};
-ghost use Rattle.job_text.specs.Ranges.{AreWatched};
 ghost use Rattle.report_lines.specs.Endings.{ending_lines, shows_target};
 ghost use Rattle.report_lines.specs.Frame.{PutsFirst, PutsShown};
 ghost use Rattle.report_lines.specs.Report.{report, target_part};
 ghost use Rattle.report_lines.specs.Target.{IsLow};
+ghost use Rattle.report_lines.specs.Shown.{IsShownJob};
 
 use crate::head::write_ending;
 use crate::put::TextEnd;
@@ -74,8 +73,7 @@ pub fn report_text<K: Sink, B: Bench>(
     bench: &mut B,
     sink: &mut K,
 ) -> Result<(), TextEnd>
-    requires bench { IsBenchJob job.now.bench }
-    requires watch { AreWatched job.now.bench.target.memory job.now.watch }
+    requires shown { IsShownJob job.now }
     ensures puts { PutsShown (λ m. report ended.now sent.now got.now job.now (target_of m.probe)) result
         B.reported B.state B.identity K.written K.faults bench.old bench.new sink.old sink.new }
     ensures alone { shows_target ended.now.ending ≡ false

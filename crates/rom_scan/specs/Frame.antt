@@ -3,6 +3,7 @@ use Rattle.std.specs.Prelude.{◌≡◌, ℕ, ◌+◌, ◌≤◌, List, length, 
 use Rattle.probe_core.specs.Bench.{BenchState}
 use Rattle.target_calls.specs.World.{World, stop}
 use Rattle.target_calls.specs.declared.calls.Ask.{Ask}
+use Rattle.access_calls.specs.Asking.{MayAsk}
 use Rattle.access_calls.specs.Keeps.{Keeps}
 use Rattle.access_calls.specs.Left.{IsLeft}
 use Rattle.access_calls.specs.Reported.{AccessView, world_from}
@@ -41,3 +42,14 @@ pub record EndsScan {S K : Type 0} (begun : S → BenchState → Type 0) (report
   pub lines : WritesComponents result (written sink_old) (written sink_new)
   pub cause : HasSinkCause result (faults sink_old) (faults sink_new)
   pub keeps : Keeps begun reported identity old new
+
+-- How a part with a sink ends that counts its units: at most so many were asked, and `Ok` has their number.
+pub record EndsCounting {S K : Type 0} (most : ℕ) (begun : S → BenchState → Type 0) (reported : S → AccessView) (identity : S → ℕ)
+    (written : K → Option (List ℕ)) (faults : K → ℕ) (result : Result ℕ ScanEnd) (old new : S) (sink_old sink_new : K) : Type 0 where
+  pub counts : CountsUnits most result (reported old).asks.calls (reported new).asks.calls
+  pub ends : EndsScan begun reported identity written faults result old new sink_old sink_new
+
+-- A scan may begin: so many units were counted before, at most 100, and its first call may be asked.
+pub record MayScan (units : ℕ) (a : AccessView) : Type 0 where
+  pub room : units ≤ 100
+  pub may : MayAsk 1000000 a

@@ -1,8 +1,7 @@
 //! Accesses whose results are answered at once.
-ghost use Rattle.std.specs.Prelude.{◌≡◌, ◌+◌, ◌*◌, ◌≤◌, ◌%◌, ◌^◌, false, true, [], length, IfOk, OnOk};
-ghost use Rattle.target_machine.specs.Sound.{IsSound};
-ghost use Rattle.target_calls.specs.Asks.{is_wide, unit_ask};
-ghost use Rattle.access_calls.specs.Asking.{EndsAsking, MayAsk};
+ghost use Rattle.std.specs.Prelude.{◌≡◌, ◌+◌, ◌*◌, ◌≤◌, ◌%◌, ◌^◌, true, [], length, IfOk, OnOk};
+ghost use Rattle.target_calls.specs.Asks.{unit_ask};
+ghost use Rattle.access_calls.specs.Asking.{EndsAsking, IsSoundNarrow, MayAsk};
 ghost use Rattle.sequels.specs.Sequel.{asks};
 ghost use Rattle.rom_scan.specs.Components.{base_ask, word_ask, words};
 ghost use Rattle.rom_scan.specs.Frame.{GivesAsking};
@@ -17,8 +16,7 @@ use target_machine::Unit;
 pub(crate) fn word_unit(ap: u8, address: u32) -> Unit
     requires { address % 4 ≡ 0 }
     ensures asks { unit_ask result true ≡ word_ask ap address }
-    ensures sound { IsSound result }
-    ensures narrow { is_wide result ≡ false }
+    ensures narrow { IsSoundNarrow result }
 {
     Unit::Memory {
         size: 4,
@@ -32,8 +30,7 @@ pub(crate) fn word_unit(ap: u8, address: u32) -> Unit
 // The base of the components of an access port.
 pub(crate) fn base_unit(ap: u8) -> Unit
     ensures asks { unit_ask result true ≡ base_ask ap }
-    ensures sound { IsSound result }
-    ensures narrow { is_wide result ≡ false }
+    ensures narrow { IsSoundNarrow result }
 {
     Unit::Ap {
         read: true,
@@ -46,8 +43,7 @@ pub(crate) fn base_unit(ap: u8) -> Unit
 // An access that forgives a fault, and its result at once.
 #[tactic(auto, using(access_calls::proofs::KeepLemmas::goes_trans))]
 pub(crate) fn ask_now<A: Access>(unit: Unit, access: &mut A) -> Result<u32, Stop>
-    requires sound { IsSound unit }
-    requires narrow { is_wide unit ≡ false }
+    requires narrow { IsSoundNarrow unit }
     requires may { MayAsk 9999999 (A.reported access.old) }
     ensures gives { GivesAsking A.begun A.reported access.old access.new (λ w lines. Gives w lines (asks (unit_ask unit true)) result) }
     ensures count { OnOk result (length (A.reported access.new).asks.calls ≡ length (A.reported access.old).asks.calls + 1) }

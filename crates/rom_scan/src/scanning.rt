@@ -3,7 +3,7 @@ ghost use Rattle.std.specs.Prelude.{◌≡◌, ◌+◌, ◌≤◌, ◌%◌, [], 
 ghost use Rattle.access_calls.specs.Asking.{MayAsk};
 ghost use Rattle.rom_scan.specs.Arrivals.{AtFull};
 ghost use Rattle.rom_scan.specs.Components.{is_no_base, page};
-ghost use Rattle.rom_scan.specs.Frame.{CountsUnits, EndsScan, GivesWriting};
+ghost use Rattle.rom_scan.specs.Frame.{EndsCounting, GivesWriting, MayScan};
 ghost use Rattle.rom_scan.specs.Scans.{Lists, Scans};
 ghost use Rattle.rom_scan.specs.Walk.{component, scanned};
 
@@ -43,12 +43,10 @@ fn list_from<A: Access, K: Sink>(
     requires room { units.old ≤ 100 }
     requires page { address % 4096 ≡ 0 }
     requires may { MayAsk 1000001 (A.reported access.old) }
-    ensures gives { GivesWriting A.begun A.reported K.written access.old access.new sink.old sink.new
-        (λ w lines. Lists w lines (component 1024 ap 7 address []) result) }
-    ensures counts { CountsUnits 993280 result (A.reported access.old).asks.calls (A.reported access.new).asks.calls }
+    ensures gives { GivesWriting A.begun A.reported K.written access.old access.new sink.old sink.new (λ w lines. Lists w lines (component 1024 ap 7 address []) result) }
     ensures full { AtFull result (length (A.reported access.new).asks.calls + units.old ≡ length (A.reported access.old).asks.calls + units.new) }
     ensures most { units.new ≤ units.old + 7000010 }
-    ensures ends { EndsScan A.begun A.reported A.identity K.written K.faults result access.old access.new sink.old sink.new }
+    ensures ends { EndsCounting 993280 A.begun A.reported A.identity K.written K.faults result access.old access.new sink.old sink.new }
 {
     let mut tables = OpenTables::new();
     let mut listed = ItemList::new(alloc);
@@ -74,13 +72,11 @@ fn list_all<A: Access, K: Sink>(
     sink: &mut K,
     units: &mut u32,
 ) -> Result<u32, ScanEnd>
-    requires room { units.old ≤ 100 }
-    requires may { MayAsk 1000000 (A.reported access.old) }
+    requires may { MayScan units.old (A.reported access.old) }
     ensures gives { GivesWriting A.begun A.reported K.written access.old access.new sink.old sink.new (λ w lines. Lists w lines (scanned 1024 ap) result) }
-    ensures counts { CountsUnits 993281 result (A.reported access.old).asks.calls (A.reported access.new).asks.calls }
     ensures full { AtFull result (length (A.reported access.new).asks.calls + units.old ≡ length (A.reported access.old).asks.calls + units.new) }
     ensures most { units.new ≤ units.old + 7000011 }
-    ensures ends { EndsScan A.begun A.reported A.identity K.written K.faults result access.old access.new sink.old sink.new }
+    ensures ends { EndsCounting 993281 A.begun A.reported A.identity K.written K.faults result access.old access.new sink.old sink.new }
 {
     let base = match ask_now(base_unit(ap), access) {
         Ok(base) => base,
@@ -108,13 +104,11 @@ pub fn scan_counting<A: Access, K: Sink>(
     sink: &mut K,
     units: &mut u32,
 ) -> Result<u32, ScanEnd>
-    requires room { units.old ≤ 100 }
-    requires may { MayAsk 1000000 (A.reported access.old) }
+    requires may { MayScan units.old (A.reported access.old) }
     ensures gives { GivesWriting A.begun A.reported K.written access.old access.new sink.old sink.new (λ w lines. Scans w lines ap result) }
-    ensures counts { CountsUnits 993281 result (A.reported access.old).asks.calls (A.reported access.new).asks.calls }
     ensures full { AtFull result (length (A.reported access.new).asks.calls + units.old ≡ length (A.reported access.old).asks.calls + units.new) }
     ensures most { units.new ≤ units.old + 7000011 }
-    ensures ends { EndsScan A.begun A.reported A.identity K.written K.faults result access.old access.new sink.old sink.new }
+    ensures ends { EndsCounting 993281 A.begun A.reported A.identity K.written K.faults result access.old access.new sink.old sink.new }
 {
     match list_all(alloc, ap, access, sink, units) {
         Ok(units) => match access.finish() {
@@ -147,8 +141,7 @@ pub fn scan<A: Access, K: Sink>(
 ) -> Result<u32, ScanEnd>
     requires may { MayAsk 1000000 (A.reported access.old) }
     ensures gives { GivesWriting A.begun A.reported K.written access.old access.new sink.old sink.new (λ w lines. Scans w lines ap result) }
-    ensures counts { CountsUnits 993281 result (A.reported access.old).asks.calls (A.reported access.new).asks.calls }
-    ensures ends { EndsScan A.begun A.reported A.identity K.written K.faults result access.old access.new sink.old sink.new }
+    ensures ends { EndsCounting 993281 A.begun A.reported A.identity K.written K.faults result access.old access.new sink.old sink.new }
 {
     let mut units = 0;
     scan_counting(alloc, ap, access, sink, &mut units)

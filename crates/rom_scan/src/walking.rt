@@ -1,10 +1,10 @@
 //! The walk through the tables that are open.
 ghost use Rattle.std.specs.Prelude.{◌≡◌, ◌+◌, ◌≤◌, ◌%◌, ◌<◌, ◌∷◌, [], None, length, OnOk};
 ghost use Rattle.std.specs.List.{All};
-ghost use Rattle.access_calls.specs.Asking.{MayAsk};
+ghost use Rattle.access_calls.specs.Asking.{MayAsk, MayAskMore};
 ghost use Rattle.rom_scan.specs.Arrivals.{AtFull, IsOpen, Walks, left_of};
 ghost use Rattle.rom_scan.specs.Components.{is_table, named_by};
-ghost use Rattle.rom_scan.specs.Frame.{CountsUnits, EndsScan, GivesWriting};
+ghost use Rattle.rom_scan.specs.Frame.{EndsCounting, GivesWriting};
 ghost use Rattle.rom_scan.specs.Walk.{is_listed};
 ghost use Rattle.rom_scan.specs.Tables.{opened, reached, unwound};
 
@@ -62,9 +62,8 @@ pub(crate) fn arrive<A: Access, K: Sink>(
     ensures open { OnOk result (All IsOpen tables.old → All IsOpen tables.new) }
     ensures deep { OnOk result (length tables.new ≤ 7) }
     ensures less { OnOk result (left_of tables.new listed.new < left_of tables.old listed.old) }
-    ensures counts { CountsUnits 9 result (A.reported access.old).asks.calls (A.reported access.new).asks.calls }
     ensures full { AtFull result (length (A.reported access.new).asks.calls ≡ length (A.reported access.old).asks.calls) }
-    ensures ends { EndsScan A.begun A.reported A.identity K.written K.faults result access.old access.new sink.old sink.new }
+    ensures ends { EndsCounting 9 A.begun A.reported A.identity K.written K.faults result access.old access.new sink.old sink.new }
 {
     if listed.len() >= 1024 {
         return Err(ScanEnd::Full);
@@ -125,9 +124,8 @@ fn step<A: Access, K: Sink>(
     ensures less { OnOk result (left_of tables.new listed.new < left_of (table ∷ tables.old) listed.old) }
     ensures open { OnOk result (All IsOpen tables.old → All IsOpen tables.new) }
     ensures deep { OnOk result (length tables.new ≤ 7) }
-    ensures counts { CountsUnits 10 result (A.reported access.old).asks.calls (A.reported access.new).asks.calls }
     ensures full { AtFull result (length (A.reported access.new).asks.calls ≡ length (A.reported access.old).asks.calls + 1) }
-    ensures ends { EndsScan A.begun A.reported A.identity K.written K.faults result access.old access.new sink.old sink.new }
+    ensures ends { EndsCounting 10 A.begun A.reported A.identity K.written K.faults result access.old access.new sink.old sink.new }
 {
     let place = table.address + 4 * (960 - table.left) as u32;
     let entry = match ask_now(word_unit(ap, place), access) {
@@ -168,16 +166,14 @@ pub(crate) fn walk<A: Access, K: Sink>(
     requires room { units.old ≤ 1000 }
     requires tables { All IsOpen tables.old }
     requires deep { length tables.old ≤ 7 }
-    requires few { length (A.reported access.old).asks.calls + left_of tables.old listed.old ≤ 7000000 }
-    requires open { (A.reported access.old).end ≡ None }
+    requires may { MayAskMore (left_of tables.old listed.old) 7000000 (A.reported access.old) }
     ensures gives { GivesWriting A.begun A.reported K.written access.old access.new sink.old sink.new
         (λ w lines. Walks w lines ap (unwound 1024 ap tables.old listed.old) result tables.new listed.new) }
     ensures none { OnOk result (tables.new ≡ []) }
     ensures count { OnOk result (length (A.reported access.new).asks.calls ≤ length (A.reported access.old).asks.calls + left_of tables.old listed.old) }
-    ensures counts { CountsUnits 7000000 result (A.reported access.old).asks.calls (A.reported access.new).asks.calls }
     ensures full { AtFull result (length (A.reported access.new).asks.calls + units.old ≡ length (A.reported access.old).asks.calls + units.new) }
     ensures most { units.new ≤ units.old + 7000001 }
-    ensures ends { EndsScan A.begun A.reported A.identity K.written K.faults result access.old access.new sink.old sink.new }
+    ensures ends { EndsCounting 7000000 A.begun A.reported A.identity K.written K.faults result access.old access.new sink.old sink.new }
 {
     let mut asked = 0;
     'tables: loop {

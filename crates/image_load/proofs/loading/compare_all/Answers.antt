@@ -10,7 +10,7 @@ pub returns-in-Some-clause-differs : goal.returns-in-Some-clause-differs
 returns-in-Some-clause-differs g c = λ m answered b l.
     let inv = c.loop-i.invariant in
     let old = (g.A.Access.reported c.args.access.now).asks.calls in
-    sym (inv.so_far m answered b (c.in-Ok.ensures.goes.left answered l)
+    sym (inv.so_far m answered b (c.in-Ok.ensures.ends.keeps.goes.left answered l)
     ∙ differs_at c.args.pieces.now c.loop-i.i _ (λ (k : ℕ). slice_index (results (world_from m answered) old) (c.args.first + k)) c.in-Some.differs c.in-Ok.value c.difference.result c.loop-i-test.true
     (c.in-Ok.ensures.value m answered (inv.keeps.on m b) l ∙ ap (λ (x : List Ask). slice_index (results (world_from m answered) x) (c.args.first + c.loop-i.i)) inv.calls)
     c.difference.ensures c.in-Some.is)
@@ -22,14 +22,14 @@ loop-i-preserved g c =
     let old = (g.A.Access.reported c.args.access.now).asks.calls in
     record {
       so_far = λ m answered b l.
-          inv.so_far m answered b (e.goes.left answered l)
+          inv.so_far m answered b (e.ends.keeps.goes.left answered l)
           ∙ next_at c.args.pieces.now c.loop-i.i _ (λ (k : ℕ). slice_index (results (world_from m answered) old) (c.args.first + k)) c.in-Ok.value c.difference.result c.loop-i-test.true
           (e.value m answered (inv.keeps.on m b) l ∙ ap (λ (x : List Ask). slice_index (results (world_from m answered) x) (c.args.first + c.loop-i.i)) inv.calls)
           c.difference.ensures c.in-None.is;
       calls = e.calls ∙ inv.calls;
-      known = (let a = inv.known in let d = e.goes.known in omega (arith, a, d));
-      ended = e.open inv.ended;
-      keeps = keeps_on _ _ _ _ _ _ inv.keeps (record { on = e.on; same_bench = e.identity; goes = e.goes });
+      known = (let a = inv.known in let d = e.ends.keeps.goes.known in omega (arith, a, d));
+      ended = e.ends.no_end inv.ended;
+      keeps = keeps_on _ _ _ _ _ _ inv.keeps e.ends.keeps;
     }
 
 pub returns-clause-differs : goal.returns-clause-differs

@@ -24,7 +24,7 @@ compare_all-requires-clause-known g c =
     let now : (g.A.Access.reported c.finish.new.self).asks.calls ≡ settled_last ((g.A.Access.reported c.args.access.now).asks.calls ++ load_calls c.args.ap c.args.pieces.now) =
     c.in-Ok-finish.ensures.calls ∙ finish_calls (g.A.Access.reported c.ask_both.new.access) c.in-Ok.ensures.ends.ends.end ∙ ap settled_last c.in-Ok.ensures.asks in
     known_all c.in-Ok.first (length c.args.pieces.now) (length (g.A.Access.reported c.args.access.now).asks.calls) (g.A.Access.reported c.finish.new.self).known c.in-Ok.ensures.first c.in-Ok.ensures.none
-    (c.in-Ok-finish.ensures.known ∙ long_all c.args.ap c.args.pieces.now (g.A.Access.reported c.args.access.now).asks.calls (g.A.Access.reported c.finish.new.self).asks.calls now)
+    (c.in-Ok-finish.ensures.ends.known ∙ long_all c.args.ap c.args.pieces.now (g.A.Access.reported c.args.access.now).asks.calls (g.A.Access.reported c.finish.new.self).asks.calls now)
 
 pub returns-in-None-clause-loads : goal.returns-in-None-clause-loads
 returns-in-None-clause-loads g c = λ m answered b l.
@@ -33,7 +33,7 @@ returns-in-None-clause-loads g c = λ m answered b l.
     let whole = ap (λ (x : List Ask). stop w x) (sym c.in-Ok.ensures.asks) ∙ c.in-Ok-finish.ensures.whole m answered (c.in-Ok.ensures.ends.ends.keeps.on m b) left in
     compared w (g.A.Access.reported c.args.access.now).asks.calls (load_calls c.args.ap c.args.pieces.now) whole c.args.pieces.now (g.A.Access.reported c.finish.new.self).asks.calls c.in-Ok.first None c.in-Ok.ensures.first
     (c.in-Ok-finish.ensures.calls ∙ finish_calls (g.A.Access.reported c.ask_both.new.access) c.in-Ok.ensures.ends.ends.end ∙ ap settled_last c.in-Ok.ensures.asks)
-    (sym c.in-None.is ∙ c.compare_all.ensures.differs m answered (c.in-Ok-finish.ensures.on m (c.in-Ok.ensures.ends.ends.keeps.on m b)) l)
+    (sym c.in-None.is ∙ c.compare_all.ensures.differs m answered (c.in-Ok-finish.ensures.ends.keeps.on m (c.in-Ok.ensures.ends.ends.keeps.on m b)) l)
 
 pub returns-in-None-clause-stops : goal.returns-in-None-clause-stops
 returns-in-None-clause-stops g c = λ m answered b l.
@@ -48,7 +48,7 @@ returns-in-Some-clause-loads g c = λ m answered b l.
     let whole = ap (λ (x : List Ask). stop w x) (sym c.in-Ok.ensures.asks) ∙ c.in-Ok-finish.ensures.whole m answered (c.in-Ok.ensures.ends.ends.keeps.on m b) left in
     compared w (g.A.Access.reported c.args.access.now).asks.calls (load_calls c.args.ap c.args.pieces.now) whole c.args.pieces.now (g.A.Access.reported c.finish.new.self).asks.calls c.in-Ok.first (Some c.in-Some.differs) c.in-Ok.ensures.first
     (c.in-Ok-finish.ensures.calls ∙ finish_calls (g.A.Access.reported c.ask_both.new.access) c.in-Ok.ensures.ends.ends.end ∙ ap settled_last c.in-Ok.ensures.asks)
-    (sym c.in-Some.is ∙ c.compare_all.ensures.differs m answered (c.in-Ok-finish.ensures.on m (c.in-Ok.ensures.ends.ends.keeps.on m b)) l)
+    (sym c.in-Some.is ∙ c.compare_all.ensures.differs m answered (c.in-Ok-finish.ensures.ends.keeps.on m (c.in-Ok.ensures.ends.ends.keeps.on m b)) l)
 
 pub returns-in-Some-clause-stops : goal.returns-in-Some-clause-stops
 returns-in-Some-clause-stops g c = λ m answered b l.

@@ -7,7 +7,7 @@ use Rattle.report_lines.proofs.WatchLemmas.{watch_low}
 use Rattle.report_lines.proofs.report.report_text.Goals as goal
 
 pub write_shown-requires : goal.write_shown-requires
-write_shown-requires g c = watch_low c.args.job.now.bench.target.memory c.args.job.now.watch c.requires.bench.target.regions c.requires.watch.each
+write_shown-requires g c = watch_low c.args.job.now.bench.target.memory c.args.job.now.watch c.requires.shown.bench.target.regions c.requires.shown.watch.each
 
 pub returns-in-Ok-clause-front : goal.returns-in-Ok-clause-front
 returns-in-Ok-clause-front g c = first_on _ _ _ _ (ending_lines c.args.ended.now.ending c.args.ended.now c.args.sent.now c.args.got.now) c.in-Ok.ensures.puts.text c.write_shown.ensures.puts.ends.some

@@ -13,13 +13,13 @@ returns-in-Err-clause-gives g c = λ m answered written b l whole.
 pub returns-in-Err-flush-clause-gives : goal.returns-in-Err-flush-clause-gives
 returns-in-Err-flush-clause-gives g c = λ m answered written b l whole.
     stops_making (world_from m answered) (g.A.Access.reported c.args.access.now).asks.calls (g.A.Access.reported c.ask.new.self).asks.calls (g.A.Access.reported c.flush.new.self).asks.calls (unit_ask c.args.unit true)
-    (g.A.Access.reported c.flush.new.self).lines written c.in-Err-flush.stop c.in-Ok-Slot.ensures.calls c.in-Err-flush.ensures.calls (c.in-Err-flush.ensures.stops m answered (c.in-Ok-Slot.ensures.on m b) l c.in-Ok-Slot.ensures.open) whole
+    (g.A.Access.reported c.flush.new.self).lines written c.in-Err-flush.stop c.in-Ok-Slot.ensures.calls c.in-Err-flush.ensures.calls (c.in-Err-flush.ensures.stops m answered (c.in-Ok-Slot.ensures.ends.keeps.on m b) l c.in-Ok-Slot.ensures.ends.no_end) whole
 
 pub returns-clause-gives : goal.returns-clause-gives
 returns-clause-gives g c = λ m answered written b l whole.
-    let l2 = c.in-Ok-value.ensures.goes.left answered l in
+    let l2 = c.in-Ok-value.ensures.ends.keeps.goes.left answered l in
     gives_result (world_from m answered) (g.A.Access.reported c.args.access.now).asks.calls (g.A.Access.reported c.flush.new.self).asks.calls (g.A.Access.reported c.value.new.self).asks.calls (unit_ask c.args.unit true) written
     c.in-Ok-Slot.slot.index c.in-Ok-value.value (c.in-Ok.ensures.calls ∙ c.in-Ok-Slot.ensures.calls) c.in-Ok-value.ensures.calls
-    (rw c.in-Ok.ensures.calls (c.in-Ok.ensures.whole m answered (c.in-Ok-Slot.ensures.on m b) l2))
+    (rw c.in-Ok.ensures.calls (c.in-Ok.ensures.whole m answered (c.in-Ok-Slot.ensures.ends.keeps.on m b) l2))
     (rw c.in-Ok-Slot.field-0-is at c.in-Ok-Slot.ensures.slot)
-    (c.in-Ok-value.ensures.value m answered (c.in-Ok.ensures.on m (c.in-Ok-Slot.ensures.on m b)) l) whole
+    (c.in-Ok-value.ensures.value m answered (c.in-Ok.ensures.ends.keeps.on m (c.in-Ok-Slot.ensures.ends.keeps.on m b)) l) whole

@@ -1,4 +1,4 @@
-use Rattle.std.proofs.Common.{◌≡◌, ◌+◌, [], length, Ok, Err, sym, arith}
+use Rattle.std.proofs.Common.{rules, ◌≡◌, ◌+◌, [], length, Ok, Err, sym, arith}
 use Rattle.access_calls.specs.Reported.{world_from}
 use Rattle.sequels.specs.Meeting.{Reaches}
 use Rattle.sequels.proofs.MeetingLemmas.{reaches_as, whole_after}
@@ -13,12 +13,12 @@ use Rattle.rom_scan.proofs.scanning.list_from.Goals as goal
 pub walk-requires-clause-tables : goal.walk-requires-clause-tables
 walk-requires-clause-tables g c = c.in-Ok.ensures.open (none_open c.new-tables.result c.new-tables.ensures)
 
-pub walk-requires-clause-few : goal.walk-requires-clause-few
-walk-requires-clause-few g c =
+pub walk-requires-clause-may : goal.walk-requires-clause-may
+walk-requires-clause-may g c =
     let start = left_start c.new-tables.result c.new-listed.result c.new-tables.ensures c.new-listed.ensures in
     let count = c.in-Ok.ensures.count in
     let few = c.requires.may.few in
-    omega (arith, start, count, few)
+    record { few = omega (arith, start, count, few); no_end = c.in-Ok.ensures.ends.ends.end }
 
 pub returns-in-Err-clause-gives : goal.returns-in-Err-clause-gives
 returns-in-Err-clause-gives g c = λ m answered b l whole.
@@ -48,10 +48,10 @@ returns-in-Ok-walk-clause-gives g c = λ m answered b l whole.
     let r : Reaches w (component 1024 n 7 c.args.address []) old mid before then (unwound 1024 n c.arrive.new.tables c.arrive.new.listed) =
     reaches_as w (reached 1024 n c.new-tables.result c.args.address c.new-listed.result) s rest old mid before then
     (sym (root_at n c.args.address c.new-tables.result c.new-listed.result c.new-tables.ensures c.new-listed.ensures))
-    (c.in-Ok.ensures.gives m answered b (e.ends.keeps.goes.left answered l) whole) in
+    (c.in-Ok.ensures.gives m answered b (e.ends.ends.keeps.goes.left answered l) whole) in
     lists_done w a.lines n (c.in-Ok.words + c.in-Ok-walk.more) s c.walk.new.tables c.walk.new.listed old a.asks.calls before now
     (walks_on w a.lines n s rest (Ok c.in-Ok-walk.more) c.walk.new.tables c.walk.new.listed old mid a.asks.calls before then now whole r
-    (e.gives m answered (c.in-Ok.ensures.ends.keeps.on m b) l (whole_after w s rest old mid before then whole r)))
+    (e.gives m answered (c.in-Ok.ensures.ends.ends.keeps.on m b) l (whole_after w s rest old mid before then whole r)))
     e.none
 
 pub returns-clause-gives : goal.returns-clause-gives
@@ -70,19 +70,10 @@ returns-clause-gives g c = λ m answered b l whole.
     let r : Reaches w (component 1024 n 7 c.args.address []) old mid before then (unwound 1024 n c.arrive.new.tables c.arrive.new.listed) =
     reaches_as w (reached 1024 n c.new-tables.result c.args.address c.new-listed.result) s rest old mid before then
     (sym (root_at n c.args.address c.new-tables.result c.new-listed.result c.new-tables.ensures c.new-listed.ensures))
-    (c.in-Ok.ensures.gives m answered b (e.ends.keeps.goes.left answered l) whole) in
+    (c.in-Ok.ensures.gives m answered b (e.ends.ends.keeps.goes.left answered l) whole) in
     lists_end w a.lines n s c.in-Err-walk.end c.walk.new.tables c.walk.new.listed old a.asks.calls before now
     (walks_on w a.lines n s rest (Err c.in-Err-walk.end) c.walk.new.tables c.walk.new.listed old mid a.asks.calls before then now whole r
-    (e.gives m answered (c.in-Ok.ensures.ends.keeps.on m b) l (whole_after w s rest old mid before then whole r)))
-
-pub returns-in-Ok-walk-clause-counts : goal.returns-in-Ok-walk-clause-counts
-returns-in-Ok-walk-clause-counts g c =
-    let start = left_start c.new-tables.result c.new-listed.result c.new-tables.ensures c.new-listed.ensures in
-    let count = c.in-Ok.ensures.count in
-    let asked = c.in-Ok.ensures.counts.asked in
-    let more = c.in-Ok-walk.ensures.count in
-    let all = c.in-Ok-walk.ensures.counts.asked in
-    record { asked = omega (arith, asked, all); few = omega (arith, start, count, asked, more, all) }
+    (e.gives m answered (c.in-Ok.ensures.ends.ends.keeps.on m b) l (whole_after w s rest old mid before then whole r)))
 
 pub returns-in-Err-clause-full : goal.returns-in-Err-clause-full
 returns-in-Err-clause-full g c =
@@ -96,11 +87,22 @@ returns-clause-full g c =
     let mid = length (g.A.Access.reported c.arrive.new.access).asks.calls in
     let new = length (g.A.Access.reported c.walk.new.access).asks.calls in
     at_full (Err c.in-Err-walk.end) (new + c.args.units.now ≡ mid + c.walk.new.units) (new + c.args.units.now ≡ old + (c.walk.new.units + c.in-Ok.words))
-    (λ full. (let asked = c.in-Ok.ensures.counts.asked in omega (arith, full, asked))) c.in-Err-walk.ensures.full
+    (λ full. (let asked = c.in-Ok.ensures.ends.counts.asked in omega (arith, full, asked))) c.in-Err-walk.ensures.full
 
 pub returns-in-Ok-walk-clause-ends : goal.returns-in-Ok-walk-clause-ends
-returns-in-Ok-walk-clause-ends g c =
-    ends_on g.A.Access.begun g.A.Access.reported g.A.Access.identity g.K.Sink.written g.K.Sink.faults c.in-Ok.words (Ok (c.in-Ok.words + c.in-Ok-walk.more)) _ _ _ _ _ _ c.in-Ok.ensures.ends (ends_as g.A.Access.begun g.A.Access.reported g.A.Access.identity g.K.Sink.written g.K.Sink.faults _ _ _ _ _ _ c.in-Ok-walk.ensures.ends)
+returns-in-Ok-walk-clause-ends g c = record {
+  counts = let start = left_start c.new-tables.result c.new-listed.result c.new-tables.ensures c.new-listed.ensures in
+      let count = c.in-Ok.ensures.count in
+      let asked = c.in-Ok.ensures.ends.counts.asked in
+      let more = c.in-Ok-walk.ensures.count in
+      let all = c.in-Ok-walk.ensures.ends.counts.asked in
+      record { asked = omega (arith, asked, all); few = omega (arith, start, count, asked, more, all) };
+  ends =
+      ends_on g.A.Access.begun g.A.Access.reported g.A.Access.identity g.K.Sink.written g.K.Sink.faults c.in-Ok.words (Ok (c.in-Ok.words + c.in-Ok-walk.more)) _ _ _ _ _ _ c.in-Ok.ensures.ends.ends (ends_as g.A.Access.begun g.A.Access.reported g.A.Access.identity g.K.Sink.written g.K.Sink.faults _ _ _ _ _ _ c.in-Ok-walk.ensures.ends.ends);
+}
 
 pub returns-clause-ends : goal.returns-clause-ends
-returns-clause-ends g c = ends_on g.A.Access.begun g.A.Access.reported g.A.Access.identity g.K.Sink.written g.K.Sink.faults c.in-Ok.words (Err c.in-Err-walk.end) _ _ _ _ _ _ c.in-Ok.ensures.ends c.in-Err-walk.ensures.ends
+returns-clause-ends g c = record {
+  counts = search rules;
+  ends = ends_on g.A.Access.begun g.A.Access.reported g.A.Access.identity g.K.Sink.written g.K.Sink.faults c.in-Ok.words (Err c.in-Err-walk.end) _ _ _ _ _ _ c.in-Ok.ensures.ends.ends c.in-Err-walk.ensures.ends.ends;
+}

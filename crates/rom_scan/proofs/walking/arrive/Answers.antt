@@ -79,27 +79,42 @@ returns-clause-less g c =
     opened_less c.args.tables.now c.open_table.new.tables c.args.listed.now c.push.new.self c.in-Ok.component c.open_table.ensures c.in-Ok-push.ensures.ok room
 
 pub returns-then-len-ge1024-clause-ends : goal.returns-then-len-ge1024-clause-ends
-returns-then-len-ge1024-clause-ends g c = ends_full g.A.Access.begun g.A.Access.reported g.A.Access.identity g.K.Sink.written g.K.Sink.faults _ _ c.requires.may.no_end
+returns-then-len-ge1024-clause-ends g c = record {
+  counts = search rules;
+  ends = ends_full g.A.Access.begun g.A.Access.reported g.A.Access.identity g.K.Sink.written g.K.Sink.faults _ _ c.requires.may.no_end;
+}
 
 pub returns-in-Err-clause-ends : goal.returns-in-Err-clause-ends
-returns-in-Err-clause-ends g c = ends_stop g.A.Access.begun g.A.Access.reported g.A.Access.identity g.K.Sink.written g.K.Sink.faults c.in-Err.stop _ _ _ c.in-Err.ensures.ends
+returns-in-Err-clause-ends g c = record {
+  counts = search rules;
+  ends = ends_stop g.A.Access.begun g.A.Access.reported g.A.Access.identity g.K.Sink.written g.K.Sink.faults c.in-Err.stop _ _ _ c.in-Err.ensures.ends;
+}
 
 pub returns-in-Err-OutOfMemory-clause-ends : goal.returns-in-Err-OutOfMemory-clause-ends
-returns-in-Err-OutOfMemory-clause-ends g c =
-    let e = c.in-Ok.ensures.ends in
-    record {
-      end = e.end;
-      lines = unwritten _ _ (c.in-Err-OutOfMemory.ensures.unwritten (ap Err c.in-Err-OutOfMemory.field-0-is));
-      cause = search rules;
-      keeps = e.keeps;
-    }
+returns-in-Err-OutOfMemory-clause-ends g c = record {
+  counts = search rules;
+  ends =
+      let e = c.in-Ok.ensures.ends in
+      record {
+        end = e.end;
+        lines = unwritten _ _ (c.in-Err-OutOfMemory.ensures.unwritten (ap Err c.in-Err-OutOfMemory.field-0-is));
+        cause = search rules;
+        keeps = e.keeps;
+      };
+}
 
 pub returns-in-Err-push-clause-ends : goal.returns-in-Err-push-clause-ends
-returns-in-Err-push-clause-ends g c =
-    let e = c.in-Ok.ensures.ends in
-    record { end = e.end; lines = one_written _ _ c.in-Ok.component c.in-Ok-write_component.ensures.puts.text; cause = search rules; keeps = e.keeps }
+returns-in-Err-push-clause-ends g c = record {
+  counts = search rules;
+  ends =
+      let e = c.in-Ok.ensures.ends in
+      record { end = e.end; lines = one_written _ _ c.in-Ok.component c.in-Ok-write_component.ensures.puts.text; cause = search rules; keeps = e.keeps };
+}
 
 pub returns-clause-ends : goal.returns-clause-ends
-returns-clause-ends g c =
-    let e = c.in-Ok.ensures.ends in
-    record { end = e.end; lines = one_written _ _ c.in-Ok.component c.in-Ok-write_component.ensures.puts.text; cause = search rules; keeps = e.keeps }
+returns-clause-ends g c = record {
+  counts = search rules;
+  ends =
+      let e = c.in-Ok.ensures.ends in
+      record { end = e.end; lines = one_written _ _ c.in-Ok.component c.in-Ok-write_component.ensures.puts.text; cause = search rules; keeps = e.keeps };
+}

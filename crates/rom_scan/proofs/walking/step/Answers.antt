@@ -1,4 +1,4 @@
-use Rattle.std.proofs.Common.{◌∙◌, ◌+◌, ◌∷◌, true, Ok, Err, refl, sym}
+use Rattle.std.proofs.Common.{rules, ◌∙◌, ◌+◌, ◌∷◌, true, Ok, Err, refl, sym}
 use Rattle.access_calls.specs.Reported.{world_from}
 use Rattle.target_calls.specs.Asks.{unit_ask}
 use Rattle.sequels.proofs.MeetingLemmas.{whole_after}
@@ -34,7 +34,7 @@ returns-in-Ok-arrive-clause-gives g c = λ m answered b l whole.
     let old = (g.A.Access.reported c.args.access.now).asks.calls in
     let mid = (g.A.Access.reported c.ask_now.new.access).asks.calls in
     let before = g.K.Sink.written c.args.sink.now in
-    let l2 = c.in-Ok-arrive.ensures.ends.keeps.goes.left answered l in
+    let l2 = c.in-Ok-arrive.ensures.ends.ends.keeps.goes.left answered l in
     let r = step_visits w c.args.ap c.args.table c.args.tables.now c.args.listed.now old before (unit_ask c.word_unit.result true) c.requires.some c.word_unit.ensures.asks
     mid c.in-Ok.entry (c.in-Ok.ensures.gives m answered before b l2 whole) c.push.new.self c.named_by-address.result c.push.ensures c.named_by-address.ensures.named c.if-entry-eq0.false c.if-entry-eq0-2.false
     (rw (← c.named_by-address.ensures.named) (rw (← c.as_slice.ensures) (sym c.is_listed.ensures ∙ c.if-is_listed.false))) in
@@ -49,7 +49,7 @@ returns-in-Err-arrive-clause-gives g c = λ m answered b l whole.
     let old = (g.A.Access.reported c.args.access.now).asks.calls in
     let mid = (g.A.Access.reported c.ask_now.new.access).asks.calls in
     let before = g.K.Sink.written c.args.sink.now in
-    let l2 = c.in-Err-arrive.ensures.ends.keeps.goes.left answered l in
+    let l2 = c.in-Err-arrive.ensures.ends.ends.keeps.goes.left answered l in
     let r = step_visits w c.args.ap c.args.table c.args.tables.now c.args.listed.now old before (unit_ask c.word_unit.result true) c.requires.some c.word_unit.ensures.asks
     mid c.in-Ok.entry (c.in-Ok.ensures.gives m answered before b l2 whole) c.push.new.self c.named_by-address.result c.push.ensures c.named_by-address.ensures.named c.if-entry-eq0.false c.if-entry-eq0-2.false
     (rw (← c.named_by-address.ensures.named) (rw (← c.as_slice.ensures) (sym c.is_listed.ensures ∙ c.if-is_listed.false))) in
@@ -59,22 +59,40 @@ returns-in-Err-arrive-clause-gives g c = λ m answered b l whole.
     (whole_after w (unwound 1024 c.args.ap (c.args.table ∷ c.args.tables.now) c.args.listed.now) (reached 1024 c.args.ap c.push.new.self c.named_by-address.result c.args.listed.now) old mid before before whole r))
 
 pub returns-in-Err-clause-ends : goal.returns-in-Err-clause-ends
-returns-in-Err-clause-ends g c = ends_stop g.A.Access.begun g.A.Access.reported g.A.Access.identity g.K.Sink.written g.K.Sink.faults c.in-Err.stop _ _ _ c.in-Err.ensures.ends
+returns-in-Err-clause-ends g c = record {
+  counts = search rules;
+  ends = ends_stop g.A.Access.begun g.A.Access.reported g.A.Access.identity g.K.Sink.written g.K.Sink.faults c.in-Err.stop _ _ _ c.in-Err.ensures.ends;
+}
 
 pub returns-then-entry-eq0-clause-ends : goal.returns-then-entry-eq0-clause-ends
-returns-then-entry-eq0-clause-ends g c = ends_asked g.A.Access.begun g.A.Access.reported g.A.Access.identity g.K.Sink.written g.K.Sink.faults c.in-Ok.entry 1 _ _ _ c.in-Ok.ensures.ends
+returns-then-entry-eq0-clause-ends g c = record {
+  counts = search rules;
+  ends = ends_asked g.A.Access.begun g.A.Access.reported g.A.Access.identity g.K.Sink.written g.K.Sink.faults c.in-Ok.entry 1 _ _ _ c.in-Ok.ensures.ends;
+}
 
 pub returns-then-entry-eq0-2-clause-ends : goal.returns-then-entry-eq0-2-clause-ends
-returns-then-entry-eq0-2-clause-ends g c = ends_asked g.A.Access.begun g.A.Access.reported g.A.Access.identity g.K.Sink.written g.K.Sink.faults c.in-Ok.entry 1 _ _ _ c.in-Ok.ensures.ends
+returns-then-entry-eq0-2-clause-ends g c = record {
+  counts = search rules;
+  ends = ends_asked g.A.Access.begun g.A.Access.reported g.A.Access.identity g.K.Sink.written g.K.Sink.faults c.in-Ok.entry 1 _ _ _ c.in-Ok.ensures.ends;
+}
 
 pub returns-then-is_listed-clause-ends : goal.returns-then-is_listed-clause-ends
-returns-then-is_listed-clause-ends g c = ends_asked g.A.Access.begun g.A.Access.reported g.A.Access.identity g.K.Sink.written g.K.Sink.faults c.in-Ok.entry 1 _ _ _ c.in-Ok.ensures.ends
+returns-then-is_listed-clause-ends g c = record {
+  counts = search rules;
+  ends = ends_asked g.A.Access.begun g.A.Access.reported g.A.Access.identity g.K.Sink.written g.K.Sink.faults c.in-Ok.entry 1 _ _ _ c.in-Ok.ensures.ends;
+}
 
 pub returns-in-Ok-arrive-clause-ends : goal.returns-in-Ok-arrive-clause-ends
-returns-in-Ok-arrive-clause-ends g c =
-    ends_on g.A.Access.begun g.A.Access.reported g.A.Access.identity g.K.Sink.written g.K.Sink.faults 1 (Ok (1 + c.in-Ok-arrive.words)) _ _ _ _ _ _ (ends_asked g.A.Access.begun g.A.Access.reported g.A.Access.identity g.K.Sink.written g.K.Sink.faults c.in-Ok.entry 1 _ _ _ c.in-Ok.ensures.ends)
-    (ends_as g.A.Access.begun g.A.Access.reported g.A.Access.identity g.K.Sink.written g.K.Sink.faults _ _ _ _ _ _ c.in-Ok-arrive.ensures.ends)
+returns-in-Ok-arrive-clause-ends g c = record {
+  counts = search rules;
+  ends =
+      ends_on g.A.Access.begun g.A.Access.reported g.A.Access.identity g.K.Sink.written g.K.Sink.faults 1 (Ok (1 + c.in-Ok-arrive.words)) _ _ _ _ _ _ (ends_asked g.A.Access.begun g.A.Access.reported g.A.Access.identity g.K.Sink.written g.K.Sink.faults c.in-Ok.entry 1 _ _ _ c.in-Ok.ensures.ends)
+      (ends_as g.A.Access.begun g.A.Access.reported g.A.Access.identity g.K.Sink.written g.K.Sink.faults _ _ _ _ _ _ c.in-Ok-arrive.ensures.ends.ends);
+}
 
 pub returns-in-Err-arrive-clause-ends : goal.returns-in-Err-arrive-clause-ends
-returns-in-Err-arrive-clause-ends g c =
-    ends_on g.A.Access.begun g.A.Access.reported g.A.Access.identity g.K.Sink.written g.K.Sink.faults 1 (Err c.in-Err-arrive.end) _ _ _ _ _ _ (ends_asked g.A.Access.begun g.A.Access.reported g.A.Access.identity g.K.Sink.written g.K.Sink.faults c.in-Ok.entry 1 _ _ _ c.in-Ok.ensures.ends) c.in-Err-arrive.ensures.ends
+returns-in-Err-arrive-clause-ends g c = record {
+  counts = search rules;
+  ends =
+      ends_on g.A.Access.begun g.A.Access.reported g.A.Access.identity g.K.Sink.written g.K.Sink.faults 1 (Err c.in-Err-arrive.end) _ _ _ _ _ _ (ends_asked g.A.Access.begun g.A.Access.reported g.A.Access.identity g.K.Sink.written g.K.Sink.faults c.in-Ok.entry 1 _ _ _ c.in-Ok.ensures.ends) c.in-Err-arrive.ensures.ends.ends;
+}

@@ -1,4 +1,4 @@
-use Rattle.std.proofs.Common.{◌≡◌, ◌∙◌, ◌+◌, ◌∷◌, List, suc, length, Err, refl, ap, subst, arith}
+use Rattle.std.proofs.Common.{rules, ◌≡◌, ◌∙◌, ◌+◌, ◌∷◌, List, suc, length, Err, refl, ap, subst, arith}
 use Rattle.std.specs.List.{All}
 use Rattle.std.proofs.lemmas.List.Elements.{All-tail}
 use Rattle.access_calls.proofs.KeepLemmas.{keeps_on, keeps_same}
@@ -24,7 +24,7 @@ tables-init g c = record {
   written = none_written _;
   faults = refl;
   units = refl;
-  ended = c.requires.open;
+  ended = c.requires.may.no_end;
   keeps = keeps_same _ _ _ _;
 }
 
@@ -40,7 +40,7 @@ tables-preserved-in-Ok g c =
     record {
       so_far = λ m answered b l whole.
           let w = world_from m answered in
-          let r = inv.so_far m answered b (e.ends.keeps.goes.left answered l) whole in
+          let r = inv.so_far m answered b (e.ends.ends.keeps.goes.left answered l) whole in
           let q = subst (λ (ts : List Table). Reaches w (unwound 1024 n c.args.tables.now c.args.listed.now) old mid (g.K.Sink.written c.args.sink.now) (g.K.Sink.written c.tables.sink) (unwound 1024 n ts c.tables.listed)) c.in-Some.ensures r in
           reaches_on w (unwound 1024 n c.args.tables.now c.args.listed.now) (unwound 1024 n (c.in-Some.table ∷ c.pop.new.self) c.tables.listed) (unwound 1024 n c.step.new.tables c.step.new.listed) old mid new
           (g.K.Sink.written c.args.sink.now) (g.K.Sink.written c.tables.sink) (g.K.Sink.written c.step.new.sink) whole q
@@ -52,12 +52,12 @@ tables-preserved-in-Ok g c =
           let d = inv.count in
           let same : left_of c.tables.tables c.tables.listed ≡ left_of (c.in-Some.table ∷ c.pop.new.self) c.tables.listed = ap (λ (ts : List Table). left_of ts c.tables.listed) c.in-Some.ensures in
           omega (arith, a, d, same);
-      asked = (let a = e.counts.asked in let b = inv.asked in omega (arith, a, b));
-      written = more_written _ _ _ inv.written e.ends.lines;
-      faults = e.ends.cause ∙ inv.faults;
+      asked = (let a = e.ends.counts.asked in let b = inv.asked in omega (arith, a, b));
+      written = more_written _ _ _ inv.written e.ends.ends.lines;
+      faults = e.ends.ends.cause ∙ inv.faults;
       units = inv.units;
-      ended = e.ends.end;
-      keeps = keeps_on _ _ _ _ _ _ inv.keeps e.ends.keeps;
+      ended = e.ends.ends.end;
+      keeps = keeps_on _ _ _ _ _ _ inv.keeps e.ends.ends.keeps;
     }
 
 pub returns-in-Err-clause-gives : goal.returns-in-Err-clause-gives
@@ -69,7 +69,7 @@ returns-in-Err-clause-gives g c = λ m answered b l whole.
     let old = (g.A.Access.reported c.args.access.now).asks.calls in
     let mid = (g.A.Access.reported c.tables.access).asks.calls in
     let new = (g.A.Access.reported c.step.new.access).asks.calls in
-    let r = inv.so_far m answered b (e.ends.keeps.goes.left answered l) whole in
+    let r = inv.so_far m answered b (e.ends.ends.keeps.goes.left answered l) whole in
     let q = subst (λ (ts : List Table). Reaches w (unwound 1024 n c.args.tables.now c.args.listed.now) old mid (g.K.Sink.written c.args.sink.now) (g.K.Sink.written c.tables.sink) (unwound 1024 n ts c.tables.listed)) c.in-Some.ensures r in
     walks_on w (g.A.Access.reported c.step.new.access).lines n (unwound 1024 n c.args.tables.now c.args.listed.now) (unwound 1024 n (c.in-Some.table ∷ c.pop.new.self) c.tables.listed) (Err c.in-Err.end) c.step.new.tables c.step.new.listed old mid new
     (g.K.Sink.written c.args.sink.now) (g.K.Sink.written c.tables.sink) (g.K.Sink.written c.step.new.sink) whole q
@@ -113,7 +113,7 @@ overflow_add-units-in-Err g c =
     let room = c.requires.room in
     let count = inv.count in
     let asked = inv.asked in
-    let few = c.requires.few in
+    let few = c.requires.may.few in
     omega (arith, same, room, count, asked, few)
 
 pub returns-in-Err-clause-full : goal.returns-in-Err-clause-full
@@ -130,16 +130,19 @@ returns-in-Err-clause-most g c =
     let same = inv.units in
     let count = inv.count in
     let asked = inv.asked in
-    let few = c.requires.few in
+    let few = c.requires.may.few in
     omega (arith, same, count, asked, few)
 
 pub returns-in-Err-clause-ends : goal.returns-in-Err-clause-ends
-returns-in-Err-clause-ends g c =
-    let inv = c.tables.invariant in
-    let e = c.in-Err.ensures.ends in
-    record {
-      end = e.end;
-      lines = written_on (Err c.in-Err.end) _ _ _ inv.written e.lines;
-      cause = caused_on (Err c.in-Err.end) _ _ _ inv.faults e.cause;
-      keeps = keeps_on _ _ _ _ _ _ inv.keeps e.keeps;
-    }
+returns-in-Err-clause-ends g c = record {
+  counts = search rules;
+  ends =
+      let inv = c.tables.invariant in
+      let e = c.in-Err.ensures.ends.ends in
+      record {
+        end = e.end;
+        lines = written_on (Err c.in-Err.end) _ _ _ inv.written e.lines;
+        cause = caused_on (Err c.in-Err.end) _ _ _ inv.faults e.cause;
+        keeps = keeps_on _ _ _ _ _ _ inv.keeps e.keeps;
+      };
+}

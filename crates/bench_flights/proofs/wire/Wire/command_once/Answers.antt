@@ -13,10 +13,10 @@ exchange-requires-clause-command g c = record {
 }
 
 pub returns-clause-done : goal.returns-clause-done
-returns-clause-done g c = single_made _ _ c.args.call _ c.exchange.result c.command_of.ensures.value c.requires.one c.command_of.ensures.command c.exchange.ensures.done
+returns-clause-done g c = single_made _ _ c.args.call _ c.exchange.result c.command_of.ensures.value c.requires.may.command.one c.command_of.ensures.command c.exchange.ensures.done
 
 pub returns-clause-left : goal.returns-clause-left
-returns-clause-left g c = single_left _ _ c.args.call _ c.exchange.result c.command_of.ensures.value c.requires.one c.command_of.ensures.command c.exchange.ensures.done
+returns-clause-left g c = single_left _ _ c.args.call _ c.exchange.result c.command_of.ensures.value c.requires.may.command.one c.command_of.ensures.command c.exchange.ensures.done
 
 pub returns-clause-packets : goal.returns-clause-packets
 returns-clause-packets g c = single_few _ _ _ c.exchange.result c.exchange.ensures.done

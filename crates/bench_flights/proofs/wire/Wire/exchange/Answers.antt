@@ -12,6 +12,7 @@ pub returns-clause-keeps : goal.returns-clause-keeps
 returns-clause-keeps g c =
     let u = c.requires.free.usable in
     record {
+      uncut = search rules;
       on = record {
         empty = c.command.ensures.empty u;
         ended = search rules;

@@ -6,19 +6,19 @@ use Rattle.bench_flights.proofs.PacketLemmas.{portion_few}
 use Rattle.bench_flights.proofs.wire.Wire.poll_portion.Goals as goal
 
 pub returns-clause-done : goal.returns-clause-done
-returns-clause-done g c = portion_made _ _ c.args.config c.args.ask c.poll.result (c.poll.ensures.polled c.requires.free.usable)
+returns-clause-done g c = portion_made _ _ c.args.config c.args.ask c.poll.result (c.poll.ensures.polled c.requires.may.free.usable)
 
 pub returns-clause-left : goal.returns-clause-left
-returns-clause-left g c = portion_lefts _ _ c.args.config c.args.ask c.poll.result (c.poll.ensures.polled c.requires.free.usable)
+returns-clause-left g c = portion_lefts _ _ c.args.config c.args.ask c.poll.result (c.poll.ensures.polled c.requires.may.free.usable)
 
 pub returns-clause-unnamed : goal.returns-clause-unnamed
 returns-clause-unnamed g c =
-    poll_unnamed c.args.config c.args.ask c.poll.result (g.B.Bench.reported c.poll.new.bench).last.replies c.poll.new.self.end c.poll.ensures.answer (c.poll.ensures.read c.requires.free.usable)
+    poll_unnamed c.args.config c.args.ask c.poll.result (g.B.Bench.reported c.poll.new.bench).last.replies c.poll.new.self.end c.poll.ensures.answer (c.poll.ensures.read c.requires.may.free.usable)
 
 pub returns-clause-keeps : goal.returns-clause-keeps
 returns-clause-keeps g c =
-    let u = c.requires.free.usable in
-    let is : IsPoll c.args.config c.args.ask = record { idle = omega arith; retry = omega arith; mask = omega arith; value = omega arith; low = c.requires.turns.low; high = c.requires.turns.high } in
+    let u = c.requires.may.free.usable in
+    let is : IsPoll c.args.config c.args.ask = record { idle = omega arith; retry = omega arith; mask = omega arith; value = omega arith; low = c.requires.may.turns.low; high = c.requires.may.turns.high } in
     record {
       on = record {
         empty = c.poll.ensures.empty u;
@@ -40,4 +40,4 @@ returns-clause-keeps g c =
     }
 
 pub returns-clause-packets : goal.returns-clause-packets
-returns-clause-packets g c = portion_few _ _ c.args.config c.args.ask c.poll.result (c.poll.ensures.polled c.requires.free.usable)
+returns-clause-packets g c = portion_few _ _ c.args.config c.args.ask c.poll.result (c.poll.ensures.polled c.requires.may.free.usable)

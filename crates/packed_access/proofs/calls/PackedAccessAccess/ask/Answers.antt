@@ -75,7 +75,7 @@ returns-after-small-clause-ends g c = record {
             begun = c.in-Ok.ensures.gives.on m old.log.calls (unit_ask c.args.unit c.args.forgive) (h.set, refl) there;
             paid = λ open_. paid_upto g.F.Flights.planner _ _ _ old.log c.issue_asked.new.self.log m
                 (c.in-Ok.ensures.gives.spare m old.log.calls (unit_ask c.args.unit c.args.forgive) (left_of old.log) (h.set, refl) there (paid_asked g.F.Flights.planner _ _ _ old.log c.ask.new.self (unit_ask c.args.unit c.args.forgive) (left_of old.log) m (h.sparing.paid none) is_asked))
-                (λ past. (let p = c.in-Ok.ensures.fenced past in let k = ap (λ (l : LogState). l.known) is_asked in let f = ap (λ (l : LogState). l.fence) is_asked in omega (arith, p, k, f)));
+                (λ past. (let p = c.in-Ok.ensures.asks.fenced past in let k = ap (λ (l : LogState). l.known) is_asked in let f = ap (λ (l : LogState). l.fence) is_asked in omega (arith, p, k, f)));
             needed = λ open_. needed_by g.F.Flights.planner (target_of m.probe) (asks_of old.log) (asks_of c.issue_asked.new.self.log) (unit_ask c.args.unit c.args.forgive) (h.sparing.needed none) refl
                 (c.in-Ok.ensures.gives.needs m old.log.calls (unit_ask c.args.unit c.args.forgive) (h.set, refl) there ∙ ap (λ (l : LogState). asked (cost_by g.F.Flights.planner (target_of m.probe) old.log.calls (unit_ask c.args.unit c.args.forgive)) (unit_ask c.args.unit c.args.forgive) (record { calls = old.log.calls; needs = l.needs; fence = l.fence })) is_asked);
           };

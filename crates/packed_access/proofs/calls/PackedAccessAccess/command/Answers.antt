@@ -114,18 +114,18 @@ returns-in-Ok-make_last-clause-ends g c = record {
         let paid = paid_asked g.F.Flights.planner _ _ _ old.log c.ask.new.self (probe_ask c.args.call) (left_of old.log) m (h.sparing.paid none) asked in
         let made = c.in-Ok-make_last.ensures.spare m old.log.calls paid.paid calls sent (c.in-Ok.ensures.gives.spare m _ paid.paid there paid.spared) in
         let needs : new.log.needs ≡ c.ask.new.self.needs = ap (λ (l : LogState). l.needs) c.in-Ok-make_last.ensures.log ∙ ap (λ (l : LogState). l.needs) c.in-Ok.ensures.log in
-        let noted = needs_new new.log c.need.new.self c.count_points.result c.count-count.result c.need.ensures.answer in
+        let noted = needs_new new.log c.need.new.self c.count_points.result c.count-count.result c.need.ensures.answer.so in
         let known : new.log.known ≡ length c.need.new.self.calls = ap (λ (l : LogState). l.known) c.in-Ok-make_last.ensures.log ∙ ap length (sym same) ∙ sym (ap (λ (l : LogState). length l.calls) noted) in
         record {
           sparing = record {
             begun = begun_needs g.F.Flights.planner _ _ new.log c.need.new.self _ _ _ _ _ _ m
-                (begun_made g.F.Flights.planner _ _ _ _ old.log new.log _ _ _ _ _ _ _ _ (probe_ask c.args.call) m h.sparing.begun none refl done end (same ∙ calls) whole (c.make_last.ensures.exchanges.managed ∙ c.send.ensures.exchanges.managed) c.in-Ok-make_last.ensures.empty)
+                (begun_made g.F.Flights.planner _ _ _ _ old.log new.log _ _ _ _ _ _ _ _ (probe_ask c.args.call) m h.sparing.begun none refl done end (same ∙ calls) whole (c.make_last.ensures.exchanges.managed ∙ c.send.ensures.exchanges.managed) c.in-Ok-make_last.ensures.exchanges.empty)
                 refl refl noted;
             paid = λ open_. paid_flushed g.F.Flights.planner _ _ _ new.log c.need.new.self c.ask.new.self.needs paid.paid c.count_points.result c.count-count.result (left_of old.log) m
                 (counted_spared g.F.Flights.planner _ _ _ new.log paid.paid c.points_of-points.result c.count_points.result m
                 (subst (λ (n : ℕ). HasSpared g.F.Flights.planner (g.F.Flights.limits new.flights) (g.F.Flights.reported new.flights).limits (g.F.Flights.state new.flights) new.log (paid.paid + n) m) (sym c.points_of-points.ensures.answer) made) c.count_points.ensures)
-                paid.covers needs c.need.ensures.answer known c.need.ensures.sound.fence_within (ap (λ (l : LogState). l.known) noted);
-            needed = λ open_. needed_command g.F.Flights.planner (target_of m.probe) (asks_of old.log) new.log c.need.new.self c.args.call c.count_points.result c.count-count.result (h.sparing.needed none) (same ∙ calls) (needs ∙ ap (λ (l : LogState). l.needs) asked) c.need.ensures.answer;
+                paid.covers needs c.need.ensures.answer.so known c.need.ensures.answer.sound.fence_within (ap (λ (l : LogState). l.known) noted);
+            needed = λ open_. needed_command g.F.Flights.planner (target_of m.probe) (asks_of old.log) new.log c.need.new.self c.args.call c.count_points.result c.count-count.result (h.sparing.needed none) (same ∙ calls) (needs ∙ ap (λ (l : LogState). l.needs) asked) c.need.ensures.answer.so;
           };
           set = h.set;
         };
@@ -150,7 +150,7 @@ returns-in-Ok-make_last-clause-whole g c = λ m answered h left.
     let end : new.log.end ≡ None = ap (λ (l : LogState). l.end) c.in-Ok-make_last.ensures.log ∙ ap (λ (l : LogState). l.end) c.in-Ok.ensures.log ∙ ap (λ (l : LogState). l.end) asked ∙ none in
     let came : new.log.came ≡ length new.log.calls = ap (λ (l : LogState). l.came) c.in-Ok-make_last.ensures.log ∙ ap length (sym same) in
     subst (λ (calls : List Ask). stop (world_from m answered) calls ≡ None) (same ∙ calls)
-    (none_stopped g.F.Flights.planner _ _ new.log [] [] [] m answered done refl end came (left_needs _ _ new.log c.need.new.self [] [] _ _ answered (needs_new new.log _ c.count_points.result c.count-count.result c.need.ensures.answer) left))
+    (none_stopped g.F.Flights.planner _ _ new.log [] [] [] m answered done refl end came (left_needs _ _ new.log c.need.new.self [] [] _ _ answered (needs_new new.log _ c.count_points.result c.count-count.result c.need.ensures.answer.so) left))
 
 pub returns-in-Ok-make_last-clause-value : goal.returns-in-Ok-make_last-clause-value
 returns-in-Ok-make_last-clause-value g c = λ m answered h left.
@@ -167,7 +167,7 @@ returns-in-Ok-make_last-clause-value g c = λ m answered h left.
     let same : new.log.calls ≡ mid.log.calls = ap (λ (l : LogState). l.calls) c.in-Ok-make_last.ensures.log in
     let end : new.log.end ≡ None = ap (λ (l : LogState). l.end) c.in-Ok-make_last.ensures.log ∙ ap (λ (l : LogState). l.end) c.in-Ok.ensures.log ∙ ap (λ (l : LogState). l.end) asked ∙ none in
     let whole : new.log.whole ≡ length new.log.calls = ap (λ (l : LogState). l.whole) c.in-Ok-make_last.ensures.log ∙ ap length (sym same) in
-    let begun = begun_made g.F.Flights.planner _ (g.F.Flights.reported new.flights) _ _ old.log new.log _ _ [] [] _ _ _ _ (probe_ask c.args.call) m h.sparing.begun none refl done end (same ∙ calls) whole (c.make_last.ensures.exchanges.managed ∙ c.send.ensures.exchanges.managed) c.in-Ok-make_last.ensures.empty in
+    let begun = begun_made g.F.Flights.planner _ (g.F.Flights.reported new.flights) _ _ old.log new.log _ _ [] [] _ _ _ _ (probe_ask c.args.call) m h.sparing.begun none refl done end (same ∙ calls) whole (c.make_last.ensures.exchanges.managed ∙ c.send.ensures.exchanges.managed) c.in-Ok-make_last.ensures.exchanges.empty in
     let all_before : old.log.whole ≡ length old.log.calls = c.args.self.now.whole none in
     let came : mid.log.came ≡ length old.log.calls = ap (λ (l : LogState). l.came) c.in-Ok.ensures.log ∙ ap (λ (l : LogState). l.whole) asked ∙ all_before in
     let count : length mid.log.calls ≡ length old.log.calls + 1 = ap length calls ∙ length-append old.log.calls (probe_ask c.args.call ∷ []) in
@@ -178,7 +178,7 @@ returns-in-Ok-make_last-clause-value g c = λ m answered h left.
     let within : new.log.known ≤ length new.log.results = (let s = new.sound in let k = s.known_within in let l = s.results_long in omega (arith, k, l)) in
     let word : c.from.result ≡ c.in-Ok-make_last.word = search rules in
     word ∙ sym result
-    ∙ known_result g.F.Flights.planner _ _ new.log [] [] _ _ m answered mid.log.came begun (left_needs _ _ new.log c.need.new.self [] [] _ _ answered (needs_new new.log _ c.count_points.result c.count-count.result c.need.ensures.answer) left) within (inl (omega (arith, known, came, count)))
+    ∙ known_result g.F.Flights.planner _ _ new.log [] [] _ _ m answered mid.log.came begun (left_needs _ _ new.log c.need.new.self [] [] _ _ answered (needs_new new.log _ c.count_points.result c.count-count.result c.need.ensures.answer.so) left) within (inl (omega (arith, known, came, count)))
     ∙ (λ j. slice_index (results (world_from m answered) ((same ∙ calls) j)) (came j))
 
 pub returns-in-Ok-make_last-clause-needs : goal.returns-in-Ok-make_last-clause-needs
@@ -187,4 +187,4 @@ returns-in-Ok-make_last-clause-needs g c = λ m answered h left.
     let new = c.make_last.new.self in
     let asked : c.ask.new.self ≡ with_call old.log (probe_ask c.args.call) c.ask.new.self.room = search rules in
     let asks : asks_of new.log ≡ record { calls = old.log.calls ++ probe_ask c.args.call ∷ []; needs = old.log.needs; fence = old.log.fence } = ap asks_of c.in-Ok-make_last.ensures.log ∙ ap asks_of c.in-Ok.ensures.log ∙ ap asks_of asked in
-    command_needs g.F.Flights.planner (target_of m.probe) old.log.calls c.args.call c.count_points.result c.count-count.result old.log.needs old.log.fence new.log c.need.new.self (c.count_points.ensures ∙ ap (counted g.F.Flights.planner) c.points_of-points.ensures.answer) c.need.ensures.answer c.count-count.ensures asks
+    command_needs g.F.Flights.planner (target_of m.probe) old.log.calls c.args.call c.count_points.result c.count-count.result old.log.needs old.log.fence new.log c.need.new.self (c.count_points.ensures ∙ ap (counted g.F.Flights.planner) c.points_of-points.ensures.answer) c.need.ensures.answer.so c.count-count.ensures asks

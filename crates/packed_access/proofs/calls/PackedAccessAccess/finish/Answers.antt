@@ -71,7 +71,7 @@ returns-in-Ok-send-clause-whole g c = λ m answered h left.
     let end : new.log.end ≡ None = ap (λ (l : LogState). l.end) c.in-Ok-send.ensures.log ∙ c.in-Ok.ensures.further.so.end in
     let came : new.log.came ≡ length new.log.calls = search rules in
     finished_whole g.F.Flights.planner _ _ old.log new.log [] [] m answered came_there (same ∙ marked) end came
-    (left_needs _ _ new.log c.need.new.self [] [] _ _ answered (needs_new new.log _ 1 c.count-count.result c.need.ensures.answer) left)
+    (left_needs _ _ new.log c.need.new.self [] [] _ _ answered (needs_new new.log _ 1 c.count-count.result c.need.ensures.answer.so) left)
 
 pub returns-in-Ok-send-clause-ends : goal.returns-in-Ok-send-clause-ends
 returns-in-Ok-send-clause-ends g c = record {
@@ -95,7 +95,7 @@ returns-in-Ok-send-clause-ends g c = record {
         let came : new.log.came ≡ length new.log.calls = search rules in
         let paid = paid_marked g.F.Flights.planner _ _ _ old.log c.mark.new.self (left_of old.log) m (h.sparing.paid none) c.mark.ensures.answer in
         let sent = c.in-Ok-send.ensures.gives.spare m [] paid.paid (c.in-Ok.ensures.gives.on m [] there) (c.in-Ok.ensures.gives.spare m [] paid.paid there paid.spared) in
-        let noted = needs_new new.log c.need.new.self 1 c.count-count.result c.need.ensures.answer in
+        let noted = needs_new new.log c.need.new.self 1 c.count-count.result c.need.ensures.answer.so in
         let known : new.log.known ≡ length new.log.calls = search rules in
         record {
           sparing = record {
@@ -103,9 +103,9 @@ returns-in-Ok-send-clause-ends g c = record {
                 (begun_finished g.F.Flights.planner _ _ _ _ old.log new.log _ _ _ _ _ _ _ _ m h.sparing.begun none came_there (same ∙ marked) end whole came (c.send.ensures.exchanges.managed ∙ c.settle.ensures.further.managed) c.send.ensures.empty)
                 refl refl noted;
             paid = λ open_. paid_flushed g.F.Flights.planner _ _ _ new.log c.need.new.self c.mark.new.self.needs paid.paid 1 c.count-count.result (left_of old.log) m sent paid.covers
-                (ap (λ (l : LogState). l.needs) c.in-Ok-send.ensures.log ∙ c.in-Ok.ensures.further.so.needs) c.need.ensures.answer (known ∙ sym (ap (λ (l : LogState). length l.calls) noted)) c.need.ensures.sound.fence_within (ap (λ (l : LogState). l.known) noted);
+                (ap (λ (l : LogState). l.needs) c.in-Ok-send.ensures.log ∙ c.in-Ok.ensures.further.so.needs) c.need.ensures.answer.so (known ∙ sym (ap (λ (l : LogState). length l.calls) noted)) c.need.ensures.answer.sound.fence_within (ap (λ (l : LogState). l.known) noted);
             needed = λ open_. needed_finished g.F.Flights.planner (target_of m.probe) (asks_of old.log) new.log c.need.new.self c.count-count.result (h.sparing.needed none) (same ∙ marked)
-                (ap (λ (l : LogState). l.needs) c.in-Ok-send.ensures.log ∙ c.in-Ok.ensures.further.so.needs ∙ ap (λ (l : LogState). l.needs) c.mark.ensures.answer) c.need.ensures.answer;
+                (ap (λ (l : LogState). l.needs) c.in-Ok-send.ensures.log ∙ c.in-Ok.ensures.further.so.needs ∙ ap (λ (l : LogState). l.needs) c.mark.ensures.answer) c.need.ensures.answer.so;
           };
           set = h.set;
         };

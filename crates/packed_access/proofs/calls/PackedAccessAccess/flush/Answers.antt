@@ -22,7 +22,7 @@ returns-in-Ok-clause-ends g c = record {
         let there = c.in-Ok.ensures.gives.on m [] (begun_issued g.F.Flights.planner _ _ old.log _ _ _ _ m h.sparing.begun none) in
         let mid = c.send.new.self.log in
         let paid = h.sparing.paid none in
-        let noted = needs_new mid c.need.new.self 1 c.count-count.result c.need.ensures.answer in
+        let noted = needs_new mid c.need.new.self 1 c.count-count.result c.need.ensures.answer.so in
         let whole : old.log.whole ≡ length old.log.calls = c.args.self.now.whole none in
         let known : mid.known ≡ length c.need.new.self.calls = ap (λ (l : LogState). l.known) c.in-Ok.ensures.log ∙ whole ∙ sym (ap (λ (l : LogState). length l.calls) c.in-Ok.ensures.log) ∙ sym (ap (λ (l : LogState). length l.calls) noted) in
         record {
@@ -31,8 +31,8 @@ returns-in-Ok-clause-ends g c = record {
                 (begun_flushed g.F.Flights.planner _ _ _ _ old.log mid _ _ _ _ _ _ _ _ _ m h.sparing.begun none whole there c.in-Ok.ensures.log c.send.ensures.empty c.send.ensures.exchanges.managed)
                 refl refl noted;
             paid = λ open_. paid_flushed g.F.Flights.planner _ _ _ mid c.need.new.self old.log.needs paid.paid 1 c.count-count.result (left_of old.log) m
-                (c.in-Ok.ensures.gives.spare m [] paid.paid (begun_issued g.F.Flights.planner _ _ old.log _ _ _ _ m h.sparing.begun none) paid.spared) paid.covers (ap (λ (l : LogState). l.needs) c.in-Ok.ensures.log) c.need.ensures.answer known c.need.ensures.sound.fence_within (ap (λ (l : LogState). l.known) noted);
-            needed = λ open_. needed_points g.F.Flights.planner (target_of m.probe) (asks_of old.log) mid c.need.new.self 1 c.count-count.result (h.sparing.needed none) (ap (λ (l : LogState). l.calls) c.in-Ok.ensures.log) (ap (λ (l : LogState). l.needs) c.in-Ok.ensures.log) c.need.ensures.answer;
+                (c.in-Ok.ensures.gives.spare m [] paid.paid (begun_issued g.F.Flights.planner _ _ old.log _ _ _ _ m h.sparing.begun none) paid.spared) paid.covers (ap (λ (l : LogState). l.needs) c.in-Ok.ensures.log) c.need.ensures.answer.so known c.need.ensures.answer.sound.fence_within (ap (λ (l : LogState). l.known) noted);
+            needed = λ open_. needed_points g.F.Flights.planner (target_of m.probe) (asks_of old.log) mid c.need.new.self 1 c.count-count.result (h.sparing.needed none) (ap (λ (l : LogState). l.calls) c.in-Ok.ensures.log) (ap (λ (l : LogState). l.needs) c.in-Ok.ensures.log) c.need.ensures.answer.so;
           };
           set = h.set;
         };
@@ -47,7 +47,7 @@ returns-in-Ok-clause-whole g c = λ m answered h left.
     let none : old.log.end ≡ None = search rules in
     let there = c.in-Ok.ensures.gives.on m [] (begun_issued g.F.Flights.planner _ _ old.log _ _ _ _ m h.sparing.begun none) in
     flushed_whole g.F.Flights.planner _ _ old.log c.send.new.self.log [] [] _ m answered none (c.args.self.now.whole none) there c.in-Ok.ensures.log
-    (left_needs _ _ c.send.new.self.log c.need.new.self [] [] _ _ answered (needs_new c.send.new.self.log _ 1 c.count-count.result c.need.ensures.answer) left)
+    (left_needs _ _ c.send.new.self.log c.need.new.self [] [] _ _ answered (needs_new c.send.new.self.log _ 1 c.count-count.result c.need.ensures.answer.so) left)
 
 pub returns-in-Err-clause-stops : goal.returns-in-Err-clause-stops
 returns-in-Err-clause-stops g c = λ m answered h left none.

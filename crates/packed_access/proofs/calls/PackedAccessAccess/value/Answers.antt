@@ -16,7 +16,7 @@ returns-then-is_known-clause-value g c = λ m answered h left.
     let old = c.args.self.now.sender in
     let known : c.args.slot.index < old.log.known = is_under c.args.slot.index old.log.known c.is_known.result c.is_known.ensures c.if-is_known.true in
     let within : old.log.known ≤ length old.log.results = (let s = old.sound in let k = s.known_within in let l = s.results_long in omega (arith, k, l)) in
-    c.use_slot.ensures.value ∙ known_result g.F.Flights.planner _ _ old.log _ _ _ _ m answered c.args.slot.index h.sparing.begun (left_needs _ _ old.log c.use_slot.new.self _ _ _ _ answered (used_new old.log _ c.args.slot c.use_slot.ensures.answer) left) within (inl known)
+    c.use_slot.ensures.value ∙ known_result g.F.Flights.planner _ _ old.log _ _ _ _ m answered c.args.slot.index h.sparing.begun (left_needs _ _ old.log c.use_slot.new.self _ _ _ _ answered (used_new old.log _ c.args.slot c.use_slot.ensures.answer.so) left) within (inl known)
 
 pub returns-then-is_known-clause-ends : goal.returns-then-is_known-clause-ends
 returns-then-is_known-clause-ends g c = record {
@@ -28,12 +28,12 @@ returns-then-is_known-clause-ends g c = record {
     on = λ m h.
         let old = c.args.self.now.sender in
         let known : c.args.slot.index < old.log.known = is_under c.args.slot.index old.log.known c.is_known.result c.is_known.ensures c.if-is_known.true in
-        let noted = used_new old.log c.use_slot.new.self c.args.slot c.use_slot.ensures.answer in
+        let noted = used_new old.log c.use_slot.new.self c.args.slot c.use_slot.ensures.answer.so in
         record {
           sparing = record {
             begun = begun_needs g.F.Flights.planner _ _ old.log c.use_slot.new.self _ _ _ _ _ _ m h.sparing.begun (search rules) (search rules) noted;
-            paid = λ open_. paid_known g.F.Flights.planner _ _ _ old.log c.use_slot.new.self c.args.slot m (h.sparing.paid (ap (λ (l : LogState). l.end) (sym noted) ∙ open_)) c.use_slot.ensures.answer known;
-            needed = λ open_. needed_used g.F.Flights.planner (target_of m.probe) (asks_of old.log) old.log c.use_slot.new.self c.args.slot (h.sparing.needed (ap (λ (l : LogState). l.end) (sym noted) ∙ open_)) refl refl c.use_slot.ensures.answer;
+            paid = λ open_. paid_known g.F.Flights.planner _ _ _ old.log c.use_slot.new.self c.args.slot m (h.sparing.paid (ap (λ (l : LogState). l.end) (sym noted) ∙ open_)) c.use_slot.ensures.answer.so known;
+            needed = λ open_. needed_used g.F.Flights.planner (target_of m.probe) (asks_of old.log) old.log c.use_slot.new.self c.args.slot (h.sparing.needed (ap (λ (l : LogState). l.end) (sym noted) ∙ open_)) refl refl c.use_slot.ensures.answer.so;
           };
           set = h.set;
         };
@@ -58,10 +58,10 @@ returns-in-Ok-clause-ends g c = record {
           sparing = record {
             begun = begun_needs g.F.Flights.planner _ _ c.send.new.self.log c.use_slot-in-Ok.new.self _ _ _ _ _ _ m
                 (begun_flushed g.F.Flights.planner _ _ _ _ old.log c.send.new.self.log _ _ _ _ _ _ _ _ _ m h.sparing.begun none (c.args.self.now.whole none) there c.in-Ok.ensures.log c.send.ensures.empty c.send.ensures.exchanges.managed)
-                refl refl (used_new c.send.new.self.log _ c.args.slot c.use_slot-in-Ok.ensures.answer);
+                refl refl (used_new c.send.new.self.log _ c.args.slot c.use_slot-in-Ok.ensures.answer.so);
             paid = λ open_. paid_sent g.F.Flights.planner _ _ _ _ _ _ old.log c.send.new.self.log c.use_slot-in-Ok.new.self _ c.args.slot m (h.sparing.paid none) (λ points s. c.in-Ok.ensures.gives.spare m [] points (begun_issued g.F.Flights.planner _ _ old.log _ _ _ _ m h.sparing.begun none) s)
-                c.in-Ok.ensures.log (c.args.self.now.whole none) old.sound.fence_within not c.use_slot-in-Ok.ensures.answer;
-            needed = λ open_. needed_used g.F.Flights.planner (target_of m.probe) (asks_of old.log) c.send.new.self.log c.use_slot-in-Ok.new.self c.args.slot (h.sparing.needed none) (ap (λ (l : LogState). l.calls) c.in-Ok.ensures.log) (ap (λ (l : LogState). l.needs) c.in-Ok.ensures.log) c.use_slot-in-Ok.ensures.answer;
+                c.in-Ok.ensures.log (c.args.self.now.whole none) old.sound.fence_within not c.use_slot-in-Ok.ensures.answer.so;
+            needed = λ open_. needed_used g.F.Flights.planner (target_of m.probe) (asks_of old.log) c.send.new.self.log c.use_slot-in-Ok.new.self c.args.slot (h.sparing.needed none) (ap (λ (l : LogState). l.calls) c.in-Ok.ensures.log) (ap (λ (l : LogState). l.needs) c.in-Ok.ensures.log) c.use_slot-in-Ok.ensures.answer.so;
           };
           set = h.set;
         };
@@ -83,7 +83,7 @@ returns-in-Ok-clause-value g c = λ m answered h left.
     let counts : length mid.log.calls ≡ length old.log.calls = ap length calls in
     let within : mid.log.known ≤ length mid.log.results = (let s = mid.sound in let k = s.known_within in let l = s.results_long in omega (arith, k, l)) in
     c.use_slot-in-Ok.ensures.value
-    ∙ known_result g.F.Flights.planner _ _ mid.log [] [] _ _ m answered c.args.slot.index begun (left_needs _ _ mid.log c.use_slot-in-Ok.new.self [] [] _ _ answered (used_new mid.log _ c.args.slot c.use_slot-in-Ok.ensures.answer) left) within (inr (omega (arith, known, whole, counts)))
+    ∙ known_result g.F.Flights.planner _ _ mid.log [] [] _ _ m answered c.args.slot.index begun (left_needs _ _ mid.log c.use_slot-in-Ok.new.self [] [] _ _ answered (used_new mid.log _ c.args.slot c.use_slot-in-Ok.ensures.answer.so) left) within (inr (omega (arith, known, whole, counts)))
     ∙ ap (λ (l : List Ask). slice_index (results (world_from m answered) l) c.args.slot.index) calls
 
 pub returns-in-Err-clause-stops : goal.returns-in-Err-clause-stops

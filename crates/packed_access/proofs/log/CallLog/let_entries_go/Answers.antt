@@ -1,4 +1,4 @@
-use Rattle.std.proofs.Common.{◌∙◌, List, ◌++◌, take, subst}
+use Rattle.std.proofs.Common.{rules, ◌∙◌, List, ◌++◌, take, subst}
 use Rattle.access_calls.specs.declared.issued.Issued.{Issued}
 use Rattle.packed_access.specs.Counted.{IsCountOf}
 use Rattle.packed_access.proofs.CountedLemmas.{counted_few}
@@ -15,5 +15,5 @@ invariant_of-self c =
     (subst (λ (l : List Issued). IsCountOf c.add.new.self (take c.self.inside.entries.gone c.self.inside.entries.all ++ l)) c.kept_items.ensures
     (c.add.ensures (take c.self.inside.entries.gone c.self.inside.entries.all) c.self.invariant.counts))
 
-pub returns-clause-sound : goal.returns-clause-sound
-returns-clause-sound c = sound_state _ _ _ _ _ _ _ _ _ _ _ _ _ _ _ _ _ _ (invariant_of-self c)
+pub returns : goal.returns
+returns c = record { answer = record { so = search rules; sound = sound_state _ _ _ _ _ _ _ _ _ _ _ _ _ _ _ _ _ _ (invariant_of-self c) } }

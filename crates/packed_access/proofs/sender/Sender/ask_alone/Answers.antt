@@ -1,4 +1,4 @@
-use Rattle.std.proofs.Common.{◌≡◌, ◌∙◌, ◌+◌, ◌<◌, ◌++◌, ◌∷◌, [], List, length, None, arith, refl, sym, ap, subst, length-append}
+use Rattle.std.proofs.Common.{rules, ◌≡◌, ◌∙◌, ◌+◌, ◌<◌, ◌++◌, ◌∷◌, [], List, length, None, arith, refl, sym, ap, subst, length-append}
 use Rattle.target_machine.specs.Plain.{call_actions}
 use Rattle.target_machine.specs.declared.unit.Call.TheVariants.{Access}
 use Rattle.probe_core.specs.Probe.{target_of}
@@ -31,11 +31,11 @@ returns-in-Err-clause-gives g c =
       needs = λ m0 calls ask this h. tt;
       broke = λ m0 calls ask same h.
           let u_is : 0 < length calls → c.max.result ≡ length calls = λ some. (let a = c.max.ensures in let b = c.count-count.ensures in let l = ap length h.are ∙ length-append calls (ask ∷ []) in omega (arith, a, b, l, some)) in
-          let there = begin_settling g.F.Flights.planner c.args.forgive _ old.log _ old.managed calls ask c.args.unit.now m0 c.max.result h same c.requires.alone c.requires.may u_is in
+          let there = begin_settling g.F.Flights.planner c.args.forgive _ old.log _ old.managed calls ask c.args.unit.now m0 c.max.result h same c.requires.alone.alone c.requires.alone.may u_is in
           c.in-Err.ensures.gives.broke m0 _ there;
       stops = λ m0 calls ask answered same h left.
           let u_is : 0 < length calls → c.max.result ≡ length calls = λ some. (let a = c.max.ensures in let b = c.count-count.ensures in let l = ap length h.are ∙ length-append calls (ask ∷ []) in omega (arith, a, b, l, some)) in
-          let there = begin_settling g.F.Flights.planner c.args.forgive _ old.log _ old.managed calls ask c.args.unit.now m0 c.max.result h same c.requires.alone c.requires.may u_is in
+          let there = begin_settling g.F.Flights.planner c.args.forgive _ old.log _ old.managed calls ask c.args.unit.now m0 c.max.result h same c.requires.alone.alone c.requires.alone.may u_is in
           c.in-Err.ensures.gives.stops m0 _ answered there left;
     }
 
@@ -48,12 +48,12 @@ returns-in-Err-send-clause-gives g c =
       needs = λ m0 calls ask this h. tt;
       broke = λ m0 calls ask same h.
           let u_is : 0 < length calls → c.max.result ≡ length calls = λ some. (let a = c.max.ensures in let b = c.count-count.ensures in let l = ap length h.are ∙ length-append calls (ask ∷ []) in omega (arith, a, b, l, some)) in
-          let there = begin_settling g.F.Flights.planner c.args.forgive _ old.log _ old.managed calls ask c.args.unit.now m0 c.max.result h same c.requires.alone c.requires.may u_is in
+          let there = begin_settling g.F.Flights.planner c.args.forgive _ old.log _ old.managed calls ask c.args.unit.now m0 c.max.result h same c.requires.alone.alone c.requires.alone.may u_is in
           let there2 = c.in-Ok.ensures.gives.on m0 _ there in
           c.in-Err-send.ensures.gives.broke m0 _ there2;
       stops = λ m0 calls ask answered same h left.
           let u_is : 0 < length calls → c.max.result ≡ length calls = λ some. (let a = c.max.ensures in let b = c.count-count.ensures in let l = ap length h.are ∙ length-append calls (ask ∷ []) in omega (arith, a, b, l, some)) in
-          let there = begin_settling g.F.Flights.planner c.args.forgive _ old.log _ old.managed calls ask c.args.unit.now m0 c.max.result h same c.requires.alone c.requires.may u_is in
+          let there = begin_settling g.F.Flights.planner c.args.forgive _ old.log _ old.managed calls ask c.args.unit.now m0 c.max.result h same c.requires.alone.alone c.requires.alone.may u_is in
           let there2 = c.in-Ok.ensures.gives.on m0 _ there in
           subst (λ (l : List Ask). StopsThere m0 answered l c.send.new.self.log.lines c.in-Err-send.stop) c.in-Ok.ensures.further.so.calls (c.in-Err-send.ensures.gives.stops m0 _ answered there2 left);
     }
@@ -62,7 +62,7 @@ pub returns-in-Err-try_unit-clause-gives : goal.returns-in-Err-try_unit-clause-g
 returns-in-Err-try_unit-clause-gives g c =
     let old = c.args.self.now in
     let sent = c.send.new.self in
-    let may = c.requires.may in
+    let may = c.requires.alone.may in
     let managed3 : sent.managed ≡ settled old.managed = c.send.ensures.exchanges.managed ∙ c.settle.ensures.further.managed in
     let calls_same : sent.log.calls ≡ old.log.calls = ap (λ (l : LogState). l.calls) c.in-Ok-send.ensures.log ∙ c.in-Ok.ensures.further.so.calls in
     record {
@@ -71,7 +71,7 @@ returns-in-Err-try_unit-clause-gives g c =
       needs = λ m0 calls ask this h. tt;
       broke = λ m0 calls ask same h.
           let u_is : 0 < length calls → c.max.result ≡ length calls = λ some. (let a = c.max.ensures in let b = c.count-count.ensures in let l = ap length h.are ∙ length-append calls (ask ∷ []) in omega (arith, a, b, l, some)) in
-          let there = begin_settling g.F.Flights.planner c.args.forgive _ old.log _ old.managed calls ask c.args.unit.now m0 c.max.result h same c.requires.alone c.requires.may u_is in
+          let there = begin_settling g.F.Flights.planner c.args.forgive _ old.log _ old.managed calls ask c.args.unit.now m0 c.max.result h same c.requires.alone.alone c.requires.alone.may u_is in
           let there2 = c.in-Ok.ensures.gives.on m0 _ there in
           let t0 = target_of m0.probe in
           let there3 = c.in-Ok-send.ensures.gives.on m0 _ there2 in
@@ -80,12 +80,12 @@ returns-in-Err-try_unit-clause-gives g c =
           let came3 : sent.log.came ≡ length calls = (let w = ap (λ (l : LogState). l.came) c.in-Ok-send.ensures.log in let f = c.in-Ok.ensures.further.so.whole in let o = c.requires.ready.whole in let l = ap length h.are ∙ length-append calls (ask ∷ []) in omega (arith, w, f, o, l)) in
           let b = is_before g.F.Flights.planner _ sent.log calls (unit_ask c.args.unit.now c.args.forgive) _ m0 there3 calls3 came3 in
           let tried = subst (λ (q : Kept). HasTried g.F.Flights.planner c.args.forgive (g.F.Flights.state sent.flights) sent.log c.args.unit.now q (target_settled g.F.Flights.planner (target_of m0.probe) calls old.managed) [] (call_actions (target_settled g.F.Flights.planner (target_of m0.probe) calls old.managed) (large_of (settled old.managed) c.args.unit.now) (Access c.args.unit.now)) m0) (sym managed3)
-          (begin_trying g.F.Flights.planner c.args.forgive _ sent.log old.managed calls c.args.unit.now m0 h.kept_is c.requires.alone may calls3 there3) in
+          (begin_trying g.F.Flights.planner c.args.forgive _ sent.log old.managed calls c.args.unit.now m0 h.kept_is c.requires.alone.alone may calls3 there3) in
           let table : length sent.managed.ports ≡ 256 = subst (λ (q : Kept). length q.ports ≡ 256) (sym managed3) (settled_table g.F.Flights.planner (target_of m0.probe) old.managed calls (unit_ask c.args.unit.now c.args.forgive) h.kept_is b) in
           record { so = (c.in-Err-try_unit.ensures.broke m0 _ _ table tried).ended };
       stops = λ m0 calls ask answered same h left.
           let u_is : 0 < length calls → c.max.result ≡ length calls = λ some. (let a = c.max.ensures in let b = c.count-count.ensures in let l = ap length h.are ∙ length-append calls (ask ∷ []) in omega (arith, a, b, l, some)) in
-          let there = begin_settling g.F.Flights.planner c.args.forgive _ old.log _ old.managed calls ask c.args.unit.now m0 c.max.result h same c.requires.alone c.requires.may u_is in
+          let there = begin_settling g.F.Flights.planner c.args.forgive _ old.log _ old.managed calls ask c.args.unit.now m0 c.max.result h same c.requires.alone.alone c.requires.alone.may u_is in
           let there2 = c.in-Ok.ensures.gives.on m0 _ there in
           let t0 = target_of m0.probe in
           let there3 = c.in-Ok-send.ensures.gives.on m0 _ there2 in
@@ -94,7 +94,7 @@ returns-in-Err-try_unit-clause-gives g c =
           let came3 : sent.log.came ≡ length calls = (let w = ap (λ (l : LogState). l.came) c.in-Ok-send.ensures.log in let f = c.in-Ok.ensures.further.so.whole in let o = c.requires.ready.whole in let l = ap length h.are ∙ length-append calls (ask ∷ []) in omega (arith, w, f, o, l)) in
           let b = is_before g.F.Flights.planner _ sent.log calls (unit_ask c.args.unit.now c.args.forgive) _ m0 there3 calls3 came3 in
           let tried = subst (λ (q : Kept). HasTried g.F.Flights.planner c.args.forgive (g.F.Flights.state sent.flights) sent.log c.args.unit.now q (target_settled g.F.Flights.planner (target_of m0.probe) calls old.managed) [] (call_actions (target_settled g.F.Flights.planner (target_of m0.probe) calls old.managed) (large_of (settled old.managed) c.args.unit.now) (Access c.args.unit.now)) m0) (sym managed3)
-          (begin_trying g.F.Flights.planner c.args.forgive _ sent.log old.managed calls c.args.unit.now m0 h.kept_is c.requires.alone may calls3 there3) in
+          (begin_trying g.F.Flights.planner c.args.forgive _ sent.log old.managed calls c.args.unit.now m0 h.kept_is c.requires.alone.alone may calls3 there3) in
           let table : length sent.managed.ports ≡ 256 = subst (λ (q : Kept). length q.ports ≡ 256) (sym managed3) (settled_table g.F.Flights.planner (target_of m0.probe) old.managed calls (unit_ask c.args.unit.now c.args.forgive) h.kept_is b) in
           subst (λ (l : List Ask). StopsThere m0 answered l c.try_unit.new.self.log.lines c.in-Err-try_unit.stop) calls_same ((c.in-Err-try_unit.ensures.broke m0 _ _ table tried).stops answered left);
     }
@@ -103,7 +103,7 @@ pub returns-in-Ok-try_unit-clause-gives : goal.returns-in-Ok-try_unit-clause-giv
 returns-in-Ok-try_unit-clause-gives g c =
     let old = c.args.self.now in
     let sent = c.send.new.self in
-    let may = c.requires.may in
+    let may = c.requires.alone.may in
     let managed3 : sent.managed ≡ settled old.managed = c.send.ensures.exchanges.managed ∙ c.settle.ensures.further.managed in
     let unit_done = c.try_unit.new.self in
     let word = c.in-Ok-try_unit.tried.word in
@@ -116,7 +116,7 @@ returns-in-Ok-try_unit-clause-gives g c =
     record {
       on = λ m0 calls ask same h.
           let u_is : 0 < length calls → c.max.result ≡ length calls = λ some. (let a = c.max.ensures in let b = c.count-count.ensures in let l = ap length h.are ∙ length-append calls (ask ∷ []) in omega (arith, a, b, l, some)) in
-          let there = begin_settling g.F.Flights.planner c.args.forgive _ old.log _ old.managed calls ask c.args.unit.now m0 c.max.result h same c.requires.alone c.requires.may u_is in
+          let there = begin_settling g.F.Flights.planner c.args.forgive _ old.log _ old.managed calls ask c.args.unit.now m0 c.max.result h same c.requires.alone.alone c.requires.alone.may u_is in
           let there2 = c.in-Ok.ensures.gives.on m0 _ there in
           let t0 = target_of m0.probe in
           let there3 = c.in-Ok-send.ensures.gives.on m0 _ there2 in
@@ -125,29 +125,29 @@ returns-in-Ok-try_unit-clause-gives g c =
           let came3 : sent.log.came ≡ length calls = (let w = ap (λ (l : LogState). l.came) c.in-Ok-send.ensures.log in let f = c.in-Ok.ensures.further.so.whole in let o = c.requires.ready.whole in let l = ap length h.are ∙ length-append calls (ask ∷ []) in omega (arith, w, f, o, l)) in
           let b = is_before g.F.Flights.planner _ sent.log calls (unit_ask c.args.unit.now c.args.forgive) _ m0 there3 calls3 came3 in
           let tried = subst (λ (q : Kept). HasTried g.F.Flights.planner c.args.forgive (g.F.Flights.state sent.flights) sent.log c.args.unit.now q (target_settled g.F.Flights.planner (target_of m0.probe) calls old.managed) [] (call_actions (target_settled g.F.Flights.planner (target_of m0.probe) calls old.managed) (large_of (settled old.managed) c.args.unit.now) (Access c.args.unit.now)) m0) (sym managed3)
-          (begin_trying g.F.Flights.planner c.args.forgive _ sent.log old.managed calls c.args.unit.now m0 h.kept_is c.requires.alone may calls3 there3) in
+          (begin_trying g.F.Flights.planner c.args.forgive _ sent.log old.managed calls c.args.unit.now m0 h.kept_is c.requires.alone.alone may calls3 there3) in
           let table : length sent.managed.ports ≡ 256 = subst (λ (q : Kept). length q.ports ≡ 256) (sym managed3) (settled_table g.F.Flights.planner (target_of m0.probe) old.managed calls (unit_ask c.args.unit.now c.args.forgive) h.kept_is b) in
           let done = subst (λ (q : Kept). IsDoneBy g.F.Flights.planner c.args.forgive c.in-Ok-try_unit.tried.small c.in-Ok-try_unit.tried.word c.in-Ok-try_unit.tried.reads unit_done.managed (g.F.Flights.state unit_done.flights) unit_done.log c.args.unit.now q (target_settled g.F.Flights.planner (target_of m0.probe) calls old.managed) m0) managed3
           (c.in-Ok-try_unit.ensures.on m0 _ _ may table tried) in
-          let outcome = unit_outcome g.F.Flights.planner c.args.forgive _ unit_done.log old.managed calls c.args.unit.now c.in-Ok-try_unit.tried.small c.in-Ok-try_unit.tried.word c.in-Ok-try_unit.tried.reads unit_done.managed m0 h.kept_is c.requires.alone may b done in
+          let outcome = unit_outcome g.F.Flights.planner c.args.forgive _ unit_done.log old.managed calls c.args.unit.now c.in-Ok-try_unit.tried.small c.in-Ok-try_unit.tried.word c.in-Ok-try_unit.tried.reads unit_done.managed m0 h.kept_is c.requires.alone.alone may b done in
           let calls4 : unit_done.log.calls ≡ calls ++ unit_ask c.args.unit.now c.args.forgive ∷ [] = c.in-Ok-try_unit.ensures.tries.further.calls ∙ calls3 in
           let came4 : unit_done.log.came ≡ length calls = c.in-Ok-try_unit.ensures.tries.came ∙ c.in-Ok-try_unit.ensures.tries.further.whole ∙ whole3 in
           let issuing = has_closed g.F.Flights.planner c.in-Ok-try_unit.tried.word _ unit_done.log c.close_call.new.log calls (unit_ask c.args.unit.now c.args.forgive) m0 outcome.issuing calls4 refl came4 outcome.results_are outcome.skips_are unit_done.sound.results_long unit_done.sound.few c.close_call.ensures.answer in
           begun_needs g.F.Flights.planner _ _ c.close_call.new.log c.need.new.self _ _ _ _ _ _ m0
-          (unit_begun g.F.Flights.planner c.args.forgive _ _ c.close_call.new.log _ _ _ _ calls c.args.unit.now m0 issuing end whole came (new_calls ∙ calls4) (unit_kept g.F.Flights.planner c.args.forgive (target_of m0.probe) old.managed calls c.args.unit.now unit_done.managed h.kept_is c.requires.alone may done.kept_is ∙ sym kept) c.in-Ok-try_unit.ensures.tries.empty)
-          refl refl (needs_new c.close_call.new.log c.need.new.self _ _ c.need.ensures.answer);
+          (unit_begun g.F.Flights.planner c.args.forgive _ _ c.close_call.new.log _ _ _ _ calls c.args.unit.now m0 issuing end whole came (new_calls ∙ calls4) (unit_kept g.F.Flights.planner c.args.forgive (target_of m0.probe) old.managed calls c.args.unit.now unit_done.managed h.kept_is c.requires.alone.alone may done.kept_is ∙ sym kept) c.in-Ok-try_unit.ensures.tries.empty)
+          refl refl (needs_new c.close_call.new.log c.need.new.self _ _ c.need.ensures.answer.so);
       spare = λ m0 calls ask left same h s.
           let u_is : 0 < length calls → c.max.result ≡ length calls = λ some. (let a = c.max.ensures in let b = c.count-count.ensures in let l = ap length h.are ∙ length-append calls (ask ∷ []) in omega (arith, a, b, l, some)) in
-          let there = begin_settling g.F.Flights.planner c.args.forgive _ old.log _ old.managed calls ask c.args.unit.now m0 c.max.result h same c.requires.alone c.requires.may u_is in
+          let there = begin_settling g.F.Flights.planner c.args.forgive _ old.log _ old.managed calls ask c.args.unit.now m0 c.max.result h same c.requires.alone.alone c.requires.alone.may u_is in
           let there2 = c.in-Ok.ensures.gives.on m0 _ there in
           let there3 = c.in-Ok-send.ensures.gives.on m0 _ there2 in
           let spared = c.in-Ok-send.ensures.gives.spare m0 _ s.paid there2 (c.in-Ok.ensures.gives.spare m0 _ s.paid there s.spared) in
           let tried = has_grown g.F.Flights.planner _ _ _ _ _ _ sent.log unit_done.log _ _ (s.paid + 1) 4 m0 there3 spared c.in-Ok-try_unit.ensures.packets c.in-Ok-try_unit.ensures.tries.further.calls c.in-Ok-try_unit.ensures.tries.later c.try_unit.ensures.tries.step.keeps.same_limits c.try_unit.ensures.tries.step.keeps.goes.limits in
           let closed_all = spared_closed g.F.Flights.planner _ _ _ c.in-Ok-try_unit.tried.word unit_done.log c.close_call.new.log ((s.paid + 1) + 4) (s.paid + (5 + c.in-Ok-try_unit.tried.reads)) m0 tried c.close_call.ensures.answer unit_done.sound.confirmed_within (omega arith) in
-          has_paid g.F.Flights.planner _ _ _ c.close_call.new.log c.need.new.self old.log.needs s.paid c.count_points.result _ left m0 (counted_spared g.F.Flights.planner _ _ _ c.close_call.new.log s.paid (5 + c.in-Ok-try_unit.tried.reads) c.count_points.result m0 closed_all c.count_points.ensures) s.covers needs c.need.ensures.answer;
+          has_paid g.F.Flights.planner _ _ _ c.close_call.new.log c.need.new.self old.log.needs s.paid c.count_points.result _ left m0 (counted_spared g.F.Flights.planner _ _ _ c.close_call.new.log s.paid (5 + c.in-Ok-try_unit.tried.reads) c.count_points.result m0 closed_all c.count_points.ensures) s.covers needs c.need.ensures.answer.so;
       needs = λ m0 calls ask same h.
           let u_is : 0 < length calls → c.max.result ≡ length calls = λ some. (let a = c.max.ensures in let b = c.count-count.ensures in let l = ap length h.are ∙ length-append calls (ask ∷ []) in omega (arith, a, b, l, some)) in
-          let there = begin_settling g.F.Flights.planner c.args.forgive _ old.log _ old.managed calls ask c.args.unit.now m0 c.max.result h same c.requires.alone c.requires.may u_is in
+          let there = begin_settling g.F.Flights.planner c.args.forgive _ old.log _ old.managed calls ask c.args.unit.now m0 c.max.result h same c.requires.alone.alone c.requires.alone.may u_is in
           let there2 = c.in-Ok.ensures.gives.on m0 _ there in
           let t0 = target_of m0.probe in
           let there3 = c.in-Ok-send.ensures.gives.on m0 _ there2 in
@@ -156,7 +156,7 @@ returns-in-Ok-try_unit-clause-gives g c =
           let came3 : sent.log.came ≡ length calls = (let w = ap (λ (l : LogState). l.came) c.in-Ok-send.ensures.log in let f = c.in-Ok.ensures.further.so.whole in let o = c.requires.ready.whole in let l = ap length h.are ∙ length-append calls (ask ∷ []) in omega (arith, w, f, o, l)) in
           let b = is_before g.F.Flights.planner _ sent.log calls (unit_ask c.args.unit.now c.args.forgive) _ m0 there3 calls3 came3 in
           let tried = subst (λ (q : Kept). HasTried g.F.Flights.planner c.args.forgive (g.F.Flights.state sent.flights) sent.log c.args.unit.now q (target_settled g.F.Flights.planner (target_of m0.probe) calls old.managed) [] (call_actions (target_settled g.F.Flights.planner (target_of m0.probe) calls old.managed) (large_of (settled old.managed) c.args.unit.now) (Access c.args.unit.now)) m0) (sym managed3)
-          (begin_trying g.F.Flights.planner c.args.forgive _ sent.log old.managed calls c.args.unit.now m0 h.kept_is c.requires.alone may calls3 there3) in
+          (begin_trying g.F.Flights.planner c.args.forgive _ sent.log old.managed calls c.args.unit.now m0 h.kept_is c.requires.alone.alone may calls3 there3) in
           let table : length sent.managed.ports ≡ 256 = subst (λ (q : Kept). length q.ports ≡ 256) (sym managed3) (settled_table g.F.Flights.planner (target_of m0.probe) old.managed calls (unit_ask c.args.unit.now c.args.forgive) h.kept_is b) in
           let done = subst (λ (q : Kept). IsDoneBy g.F.Flights.planner c.args.forgive c.in-Ok-try_unit.tried.small c.in-Ok-try_unit.tried.word c.in-Ok-try_unit.tried.reads unit_done.managed (g.F.Flights.state unit_done.flights) unit_done.log c.args.unit.now q (target_settled g.F.Flights.planner (target_of m0.probe) calls old.managed) m0) managed3
           (c.in-Ok-try_unit.ensures.on m0 _ _ may table tried) in
@@ -166,7 +166,7 @@ returns-in-Ok-try_unit-clause-gives g c =
           ∙ (λ j. record { calls = (h.are ∙ ap (λ (a : Ask). calls ++ a ∷ []) same) j; needs = old.log.needs; fence = old.log.fence }) in
           let count : c.count-count.result ≡ length c.close_call.new.log.calls = c.count-count.ensures ∙ ap length (h.are ∙ ap (λ (a : Ask). calls ++ a ∷ []) same ∙ sym (new_calls ∙ calls4)) in
           subst (λ (a : Ask). asks_of c.need.new.self ≡ asked (cost_by g.F.Flights.planner (target_of m0.probe) calls a) a (record { calls = calls; needs = old.log.needs; fence = old.log.fence })) (sym same)
-          (unit_needs g.F.Flights.planner c.args.forgive (target_of m0.probe) old.managed calls c.args.unit.now c.in-Ok-try_unit.tried.reads old.log.needs old.log.fence c.close_call.new.log c.need.new.self _ _ c.requires.alone h.kept_is may done.reads_are c.need.ensures.answer c.count_points.ensures count asks);
+          (unit_needs g.F.Flights.planner c.args.forgive (target_of m0.probe) old.managed calls c.args.unit.now c.in-Ok-try_unit.tried.reads old.log.needs old.log.fence c.close_call.new.log c.need.new.self _ _ c.requires.alone.alone h.kept_is may done.reads_are c.need.ensures.answer.so c.count_points.ensures count asks);
       broke = λ m0 calls ask this h. tt;
       stops = λ m0 calls ask answered this h left. tt;
     }
@@ -175,11 +175,11 @@ pub returns-in-Ok-try_unit-clause-small : goal.returns-in-Ok-try_unit-clause-sma
 returns-in-Ok-try_unit-clause-small g c = λ m0 calls ask same h.
     let old = c.args.self.now in
     let u_is : 0 < length calls → c.max.result ≡ length calls = λ some. (let a = c.max.ensures in let b = c.count-count.ensures in let l = ap length h.are ∙ length-append calls (ask ∷ []) in omega (arith, a, b, l, some)) in
-    let there = begin_settling g.F.Flights.planner c.args.forgive _ old.log _ old.managed calls ask c.args.unit.now m0 c.max.result h same c.requires.alone c.requires.may u_is in
+    let there = begin_settling g.F.Flights.planner c.args.forgive _ old.log _ old.managed calls ask c.args.unit.now m0 c.max.result h same c.requires.alone.alone c.requires.alone.may u_is in
     let there2 = c.in-Ok.ensures.gives.on m0 _ there in
     let sent = c.send.new.self in
     let t0 = target_of m0.probe in
-    let may = c.requires.may in
+    let may = c.requires.alone.may in
     let there3 = c.in-Ok-send.ensures.gives.on m0 _ there2 in
     let calls3 : sent.log.calls ≡ calls ++ unit_ask c.args.unit.now c.args.forgive ∷ [] = ap (λ (l : LogState). l.calls) c.in-Ok-send.ensures.log ∙ c.in-Ok.ensures.further.so.calls ∙ h.are ∙ ap (λ (a : Ask). calls ++ a ∷ []) same in
     let managed3 : sent.managed ≡ settled old.managed = c.send.ensures.exchanges.managed ∙ c.settle.ensures.further.managed in
@@ -187,20 +187,20 @@ returns-in-Ok-try_unit-clause-small g c = λ m0 calls ask same h.
     let came3 : sent.log.came ≡ length calls = (let w = ap (λ (l : LogState). l.came) c.in-Ok-send.ensures.log in let f = c.in-Ok.ensures.further.so.whole in let o = c.requires.ready.whole in let l = ap length h.are ∙ length-append calls (ask ∷ []) in omega (arith, w, f, o, l)) in
     let b = is_before g.F.Flights.planner _ sent.log calls (unit_ask c.args.unit.now c.args.forgive) _ m0 there3 calls3 came3 in
     let tried = subst (λ (q : Kept). HasTried g.F.Flights.planner c.args.forgive (g.F.Flights.state sent.flights) sent.log c.args.unit.now q (target_settled g.F.Flights.planner (target_of m0.probe) calls old.managed) [] (call_actions (target_settled g.F.Flights.planner (target_of m0.probe) calls old.managed) (large_of (settled old.managed) c.args.unit.now) (Access c.args.unit.now)) m0) (sym managed3)
-    (begin_trying g.F.Flights.planner c.args.forgive _ sent.log old.managed calls c.args.unit.now m0 h.kept_is c.requires.alone may calls3 there3) in
+    (begin_trying g.F.Flights.planner c.args.forgive _ sent.log old.managed calls c.args.unit.now m0 h.kept_is c.requires.alone.alone may calls3 there3) in
     let table : length sent.managed.ports ≡ 256 = subst (λ (q : Kept). length q.ports ≡ 256) (sym managed3) (settled_table g.F.Flights.planner (target_of m0.probe) old.managed calls (unit_ask c.args.unit.now c.args.forgive) h.kept_is b) in
     let unit_done = c.try_unit.new.self in
     let word = c.in-Ok-try_unit.tried.word in
     let done = subst (λ (q : Kept). IsDoneBy g.F.Flights.planner c.args.forgive c.in-Ok-try_unit.tried.small c.in-Ok-try_unit.tried.word c.in-Ok-try_unit.tried.reads unit_done.managed (g.F.Flights.state unit_done.flights) unit_done.log c.args.unit.now q (target_settled g.F.Flights.planner (target_of m0.probe) calls old.managed) m0) managed3
     (c.in-Ok-try_unit.ensures.on m0 _ _ may table tried) in
-    let outcome = unit_outcome g.F.Flights.planner c.args.forgive _ unit_done.log old.managed calls c.args.unit.now c.in-Ok-try_unit.tried.small c.in-Ok-try_unit.tried.word c.in-Ok-try_unit.tried.reads unit_done.managed m0 h.kept_is c.requires.alone may b done in
+    let outcome = unit_outcome g.F.Flights.planner c.args.forgive _ unit_done.log old.managed calls c.args.unit.now c.in-Ok-try_unit.tried.small c.in-Ok-try_unit.tried.word c.in-Ok-try_unit.tried.reads unit_done.managed m0 h.kept_is c.requires.alone.alone may b done in
     outcome.small_is ∙ ap (small_now (start_world (target_of m0.probe) None) calls) (sym same)
 
 pub returns-in-Ok-try_unit-clause-step : goal.returns-in-Ok-try_unit-clause-step
 returns-in-Ok-try_unit-clause-step g c =
     let unit_done = c.try_unit.new.self in
     let word = c.in-Ok-try_unit.tried.word in
-    let noted : c.need.new.self ≡ record c.close_call.new.log { needs = c.need.new.self.needs; fence = c.need.new.self.fence; room = c.need.new.self.room } = needs_new c.close_call.new.log c.need.new.self _ _ c.need.ensures.answer in
+    let noted : c.need.new.self ≡ record c.close_call.new.log { needs = c.need.new.self.needs; fence = c.need.new.self.fence; room = c.need.new.self.room } = needs_new c.close_call.new.log c.need.new.self _ _ c.need.ensures.answer.so in
     let end : c.need.new.self.end ≡ None = ap (λ (l : LogState). l.end) noted ∙ ap (λ (l : LogState). l.end) c.close_call.ensures.answer ∙ closed_end c.in-Ok-try_unit.tried.word unit_done.log ∙ c.in-Ok-try_unit.ensures.tries.further.end in
     let came : c.need.new.self.came ≡ length unit_done.log.calls = ap (λ (l : LogState). l.came) noted ∙ ap (λ (l : LogState). l.came) c.close_call.ensures.answer ∙ (closed_whole c.in-Ok-try_unit.tried.word unit_done.log).1 in
     let known : c.need.new.self.known ≡ length unit_done.log.calls = ap (λ (l : LogState). l.known) noted ∙ ap (λ (l : LogState). l.known) c.close_call.ensures.answer ∙ closed_known c.in-Ok-try_unit.tried.word unit_done.log in
@@ -217,10 +217,14 @@ returns-in-Ok-try_unit-clause-step g c =
       ends = record { no_end = end; ended = tt; memory = tt };
     }
 
-pub returns-in-Ok-try_unit-clause-fenced : goal.returns-in-Ok-try_unit-clause-fenced
-returns-in-Ok-try_unit-clause-fenced g c =
-    let unit_done = c.try_unit.new.self in
-    let noted : c.need.new.self ≡ record c.close_call.new.log { needs = c.need.new.self.needs; fence = c.need.new.self.fence; room = c.need.new.self.room } = needs_new c.close_call.new.log c.need.new.self _ _ c.need.ensures.answer in
-    let known : c.need.new.self.known ≡ length unit_done.log.calls = ap (λ (l : LogState). l.known) noted ∙ ap (λ (l : LogState). l.known) c.close_call.ensures.answer ∙ closed_known c.in-Ok-try_unit.tried.word unit_done.log in
-    let calls : length c.need.new.self.calls ≡ length unit_done.log.calls = ap (λ (l : LogState). length l.calls) noted ∙ ap (λ (l : LogState). length l.calls) c.close_call.ensures.answer ∙ ap (λ (a : Asks). length a.calls) (closed_asks c.in-Ok-try_unit.tried.word unit_done.log) in
-    λ past. absurd (let w = c.need.ensures.sound.fence_within in omega (arith, known, calls, w, past))
+pub returns-in-Ok-try_unit-clause-asks : goal.returns-in-Ok-try_unit-clause-asks
+returns-in-Ok-try_unit-clause-asks g c = record {
+  whole = search rules;
+  settles = search rules;
+  fenced =
+      let unit_done = c.try_unit.new.self in
+      let noted : c.need.new.self ≡ record c.close_call.new.log { needs = c.need.new.self.needs; fence = c.need.new.self.fence; room = c.need.new.self.room } = needs_new c.close_call.new.log c.need.new.self _ _ c.need.ensures.answer.so in
+      let known : c.need.new.self.known ≡ length unit_done.log.calls = ap (λ (l : LogState). l.known) noted ∙ ap (λ (l : LogState). l.known) c.close_call.ensures.answer ∙ closed_known c.in-Ok-try_unit.tried.word unit_done.log in
+      let calls : length c.need.new.self.calls ≡ length unit_done.log.calls = ap (λ (l : LogState). length l.calls) noted ∙ ap (λ (l : LogState). length l.calls) c.close_call.ensures.answer ∙ ap (λ (a : Asks). length a.calls) (closed_asks c.in-Ok-try_unit.tried.word unit_done.log) in
+      λ past. absurd (let w = c.need.ensures.answer.sound.fence_within in omega (arith, known, calls, w, past));
+}

@@ -29,5 +29,4 @@ returns-else-makes_alone g c =
       small = λ m0 calls ask set is h. e.small m0 calls ask (ap (λ (a : Ask). a.call) is) (ap is_forgiving is ∙ mild) h;
       step = e.step;
       asks = e.asks;
-      fenced = e.fenced;
     }

@@ -5,6 +5,7 @@ use Rattle.access_regs.specs.Journal.{gives, port_of}
 use Rattle.access_regs.specs.Plan.{cfg_plan, needs_cfg, needs_csw}
 use Rattle.packed_access.specs.Begun.{StopsThere, target_issued}
 use Rattle.packed_access.specs.Logs.{asks_of, with_needs}
+use Rattle.packed_access.proofs.FrameLemmas.{keeps_on}
 use Rattle.packed_access.proofs.CfgLemmas.{came_good, cfg_left, large_left, needs_both, none_kept, none_left, reads_large, reads_small, rest_whole, shown_by}
 use Rattle.packed_access.proofs.sender.Sender.issue_by_cfg.Goals as goal
 
@@ -137,8 +138,20 @@ returns-in-Err-issue_by_csw-clause-gives g c =
           subst (λ (calls : List Ask). StopsThere m0 answered calls c.issue_by_csw-2.new.self.log.lines c.in-Err-issue_by_csw.stop) c.in-Ok-read_cfg.ensures.issues.step.keeps.calls (c.in-Err-issue_by_csw.ensures.gives.stops m0 answered l.left left);
     }
 
-pub returns-then-not-large-clause-fenced : goal.returns-then-not-large-clause-fenced
-returns-then-not-large-clause-fenced g c = λ past. absurd (let f = c.in-Ok-read_cfg.ensures.fenced in omega (arith, f, past))
+pub returns-then-not-large-clause-issues : goal.returns-then-not-large-clause-issues
+returns-then-not-large-clause-issues g c = record {
+  step = search (rules, keeps_on);
+  entries = search rules;
+  whole = search rules;
+  room = search rules;
+  fenced = λ past. absurd (let f = c.in-Ok-read_cfg.ensures.fenced in omega (arith, f, past));
+}
 
-pub returns-in-Ok-issue_by_csw-clause-fenced : goal.returns-in-Ok-issue_by_csw-clause-fenced
-returns-in-Ok-issue_by_csw-clause-fenced g c = λ past. absurd (let f = c.in-Ok-read_cfg.ensures.fenced in let p = c.in-Ok-issue_by_csw.ensures.fenced past in omega (arith, f, p))
+pub returns-in-Ok-issue_by_csw-clause-issues : goal.returns-in-Ok-issue_by_csw-clause-issues
+returns-in-Ok-issue_by_csw-clause-issues g c = record {
+  step = search (rules, keeps_on);
+  entries = search rules;
+  whole = search rules;
+  room = search rules;
+  fenced = λ past. absurd (let f = c.in-Ok-read_cfg.ensures.fenced in let p = c.in-Ok-issue_by_csw.ensures.issues.fenced past in omega (arith, f, p));
+}

@@ -7,6 +7,7 @@ use Rattle.access_regs.specs.Journal.{by_csw, gives, port_of}
 use Rattle.access_regs.specs.Kept.{Kept}
 use Rattle.access_regs.specs.Plan.{first_plan, learned, made, needs_csw}
 use Rattle.packed_access.specs.Begun.{HasIssued, StopsThere, entries_of, target_issued}
+use Rattle.packed_access.proofs.FrameLemmas.{keeps_on}
 use Rattle.packed_access.proofs.PlannedLemmas.{csw_left, csw_steps, plain_left, plan_entries, plan_now}
 use Rattle.packed_access.proofs.SparingLemmas.{never_past, spared_further, still_past}
 use Rattle.packed_access.proofs.sender.Sender.issue_by_csw.Goals as goal
@@ -18,14 +19,14 @@ returns-then-not-needs_csw-clause-gives g c =
     let needs : needs_csw old.managed c.args.unit.now ≡ false = search rules in
     record {
       on = λ m0 h.
-          c.issue_unit.ensures.gives.on m0 [] (subst (λ (l : List Entry). HasIssued g.F.Flights.planner (g.F.Flights.state old.flights) old.log (g.F.Flights.accesses old.flights) l m0) (plain_left (length old.log.calls) (target_issued g.F.Flights.planner old.log m0) old.managed c.args.unit.now some c.requires.no_poll needs) h);
+          c.issue_unit.ensures.gives.on m0 [] (subst (λ (l : List Entry). HasIssued g.F.Flights.planner (g.F.Flights.state old.flights) old.log (g.F.Flights.accesses old.flights) l m0) (plain_left (length old.log.calls) (target_issued g.F.Flights.planner old.log m0) old.managed c.args.unit.now some c.requires.sound.no_poll needs) h);
       spare = λ m0 left h s.
           spared_further g.F.Flights.planner _ _ _ old.log c.issue_unit.new.self.log s.paid left c.issue_unit.result m0 s.covers c.issue_unit.ensures.further.so
-          (c.issue_unit.ensures.gives.spare m0 [] s.paid (subst (λ (l : List Entry). HasIssued g.F.Flights.planner (g.F.Flights.state old.flights) old.log (g.F.Flights.accesses old.flights) l m0) (plain_left (length old.log.calls) (target_issued g.F.Flights.planner old.log m0) old.managed c.args.unit.now some c.requires.no_poll needs) h) s.spared);
+          (c.issue_unit.ensures.gives.spare m0 [] s.paid (subst (λ (l : List Entry). HasIssued g.F.Flights.planner (g.F.Flights.state old.flights) old.log (g.F.Flights.accesses old.flights) l m0) (plain_left (length old.log.calls) (target_issued g.F.Flights.planner old.log m0) old.managed c.args.unit.now some c.requires.sound.no_poll needs) h) s.spared);
       broke = λ m0 h.
-          c.issue_unit.ensures.gives.broke m0 [] (subst (λ (l : List Entry). HasIssued g.F.Flights.planner (g.F.Flights.state old.flights) old.log (g.F.Flights.accesses old.flights) l m0) (plain_left (length old.log.calls) (target_issued g.F.Flights.planner old.log m0) old.managed c.args.unit.now some c.requires.no_poll needs) h);
+          c.issue_unit.ensures.gives.broke m0 [] (subst (λ (l : List Entry). HasIssued g.F.Flights.planner (g.F.Flights.state old.flights) old.log (g.F.Flights.accesses old.flights) l m0) (plain_left (length old.log.calls) (target_issued g.F.Flights.planner old.log m0) old.managed c.args.unit.now some c.requires.sound.no_poll needs) h);
       stops = λ m0 answered h left.
-          c.issue_unit.ensures.gives.stops m0 [] answered (subst (λ (l : List Entry). HasIssued g.F.Flights.planner (g.F.Flights.state old.flights) old.log (g.F.Flights.accesses old.flights) l m0) (plain_left (length old.log.calls) (target_issued g.F.Flights.planner old.log m0) old.managed c.args.unit.now some c.requires.no_poll needs) h) left;
+          c.issue_unit.ensures.gives.stops m0 [] answered (subst (λ (l : List Entry). HasIssued g.F.Flights.planner (g.F.Flights.state old.flights) old.log (g.F.Flights.accesses old.flights) l m0) (plain_left (length old.log.calls) (target_issued g.F.Flights.planner old.log m0) old.managed c.args.unit.now some c.requires.sound.no_poll needs) h) left;
     }
 
 pub returns-in-Err-clause-gives : goal.returns-in-Err-clause-gives
@@ -37,9 +38,9 @@ returns-in-Err-clause-gives g c =
       on = λ m0 h. tt;
       spare = λ m0 left h s. tt;
       broke = λ m0 h.
-          c.in-Err.ensures.gives.broke m0 _ (subst (λ (l : List Entry). HasIssued g.F.Flights.planner (g.F.Flights.state old.flights) old.log (g.F.Flights.accesses old.flights) l m0) (csw_left (length old.log.calls) (target_issued g.F.Flights.planner old.log m0) old.managed c.args.unit.now some c.requires.no_poll needs) h);
+          c.in-Err.ensures.gives.broke m0 _ (subst (λ (l : List Entry). HasIssued g.F.Flights.planner (g.F.Flights.state old.flights) old.log (g.F.Flights.accesses old.flights) l m0) (csw_left (length old.log.calls) (target_issued g.F.Flights.planner old.log m0) old.managed c.args.unit.now some c.requires.sound.no_poll needs) h);
       stops = λ m0 answered h left.
-          c.in-Err.ensures.gives.stops m0 _ answered (subst (λ (l : List Entry). HasIssued g.F.Flights.planner (g.F.Flights.state old.flights) old.log (g.F.Flights.accesses old.flights) l m0) (csw_left (length old.log.calls) (target_issued g.F.Flights.planner old.log m0) old.managed c.args.unit.now some c.requires.no_poll needs) h) left;
+          c.in-Err.ensures.gives.stops m0 _ answered (subst (λ (l : List Entry). HasIssued g.F.Flights.planner (g.F.Flights.state old.flights) old.log (g.F.Flights.accesses old.flights) l m0) (csw_left (length old.log.calls) (target_issued g.F.Flights.planner old.log m0) old.managed c.args.unit.now some c.requires.sound.no_poll needs) h) left;
     }
 
 pub returns-in-Ok-clause-gives : goal.returns-in-Ok-clause-gives
@@ -52,12 +53,12 @@ returns-in-Ok-clause-gives g c =
       on = λ m0 h.
           let k : Kept = learned old.managed (port_of c.args.unit.now) (gives (target_issued g.F.Flights.planner old.log m0) (first_plan old.managed (port_of c.args.unit.now))) in
           let first : HasIssued g.F.Flights.planner (g.F.Flights.state old.flights) old.log (g.F.Flights.accesses old.flights) (entries_of (length old.log.calls) Leads (first_plan old.managed (port_of c.args.unit.now)) ++ plan_entries (length old.log.calls) k c.args.unit.now) m0 =
-          subst (λ (l : List Entry). HasIssued g.F.Flights.planner (g.F.Flights.state old.flights) old.log (g.F.Flights.accesses old.flights) l m0) (csw_left (length old.log.calls) (target_issued g.F.Flights.planner old.log m0) old.managed c.args.unit.now some c.requires.no_poll needs) h in
+          subst (λ (l : List Entry). HasIssued g.F.Flights.planner (g.F.Flights.state old.flights) old.log (g.F.Flights.accesses old.flights) l m0) (csw_left (length old.log.calls) (target_issued g.F.Flights.planner old.log m0) old.managed c.args.unit.now some c.requires.sound.no_poll needs) h in
           c.issue_unit-in-Ok.ensures.gives.on m0 [] (plan_now g.F.Flights.planner _ mid.log _ _ k mid.managed c.args.unit.now (length old.log.calls) m0 (c.in-Ok.ensures.gives.on m0 _ first) c.in-Ok.ensures.empty (c.in-Ok.ensures.gives.kept m0 _ first) (ap length c.read_csw.ensures.issues.step.keeps.calls));
       spare = λ m0 left h s.
           let k : Kept = learned old.managed (port_of c.args.unit.now) (gives (target_issued g.F.Flights.planner old.log m0) (first_plan old.managed (port_of c.args.unit.now))) in
           let first : HasIssued g.F.Flights.planner (g.F.Flights.state old.flights) old.log (g.F.Flights.accesses old.flights) (entries_of (length old.log.calls) Leads (first_plan old.managed (port_of c.args.unit.now)) ++ plan_entries (length old.log.calls) k c.args.unit.now) m0 =
-          subst (λ (l : List Entry). HasIssued g.F.Flights.planner (g.F.Flights.state old.flights) old.log (g.F.Flights.accesses old.flights) l m0) (csw_left (length old.log.calls) (target_issued g.F.Flights.planner old.log m0) old.managed c.args.unit.now some c.requires.no_poll needs) h in
+          subst (λ (l : List Entry). HasIssued g.F.Flights.planner (g.F.Flights.state old.flights) old.log (g.F.Flights.accesses old.flights) l m0) (csw_left (length old.log.calls) (target_issued g.F.Flights.planner old.log m0) old.managed c.args.unit.now some c.requires.sound.no_poll needs) h in
           let there = plan_now g.F.Flights.planner _ mid.log _ _ k mid.managed c.args.unit.now (length old.log.calls) m0 (c.in-Ok.ensures.gives.on m0 _ first) c.in-Ok.ensures.empty (c.in-Ok.ensures.gives.kept m0 _ first) (ap length c.read_csw.ensures.issues.step.keeps.calls) in
           let read = c.in-Ok.ensures.spare m0 _ left first s in
           spared_further g.F.Flights.planner _ _ _ mid.log c.issue_unit-in-Ok.new.self.log read.paid left c.issue_unit-in-Ok.result m0 read.covers c.issue_unit-in-Ok.ensures.further.so
@@ -65,12 +66,12 @@ returns-in-Ok-clause-gives g c =
       broke = λ m0 h.
           let k : Kept = learned old.managed (port_of c.args.unit.now) (gives (target_issued g.F.Flights.planner old.log m0) (first_plan old.managed (port_of c.args.unit.now))) in
           let first : HasIssued g.F.Flights.planner (g.F.Flights.state old.flights) old.log (g.F.Flights.accesses old.flights) (entries_of (length old.log.calls) Leads (first_plan old.managed (port_of c.args.unit.now)) ++ plan_entries (length old.log.calls) k c.args.unit.now) m0 =
-          subst (λ (l : List Entry). HasIssued g.F.Flights.planner (g.F.Flights.state old.flights) old.log (g.F.Flights.accesses old.flights) l m0) (csw_left (length old.log.calls) (target_issued g.F.Flights.planner old.log m0) old.managed c.args.unit.now some c.requires.no_poll needs) h in
+          subst (λ (l : List Entry). HasIssued g.F.Flights.planner (g.F.Flights.state old.flights) old.log (g.F.Flights.accesses old.flights) l m0) (csw_left (length old.log.calls) (target_issued g.F.Flights.planner old.log m0) old.managed c.args.unit.now some c.requires.sound.no_poll needs) h in
           c.issue_unit-in-Ok.ensures.gives.broke m0 [] (plan_now g.F.Flights.planner _ mid.log _ _ k mid.managed c.args.unit.now (length old.log.calls) m0 (c.in-Ok.ensures.gives.on m0 _ first) c.in-Ok.ensures.empty (c.in-Ok.ensures.gives.kept m0 _ first) (ap length c.read_csw.ensures.issues.step.keeps.calls));
       stops = λ m0 answered h left.
           let k : Kept = learned old.managed (port_of c.args.unit.now) (gives (target_issued g.F.Flights.planner old.log m0) (first_plan old.managed (port_of c.args.unit.now))) in
           let first : HasIssued g.F.Flights.planner (g.F.Flights.state old.flights) old.log (g.F.Flights.accesses old.flights) (entries_of (length old.log.calls) Leads (first_plan old.managed (port_of c.args.unit.now)) ++ plan_entries (length old.log.calls) k c.args.unit.now) m0 =
-          subst (λ (l : List Entry). HasIssued g.F.Flights.planner (g.F.Flights.state old.flights) old.log (g.F.Flights.accesses old.flights) l m0) (csw_left (length old.log.calls) (target_issued g.F.Flights.planner old.log m0) old.managed c.args.unit.now some c.requires.no_poll needs) h in
+          subst (λ (l : List Entry). HasIssued g.F.Flights.planner (g.F.Flights.state old.flights) old.log (g.F.Flights.accesses old.flights) l m0) (csw_left (length old.log.calls) (target_issued g.F.Flights.planner old.log m0) old.managed c.args.unit.now some c.requires.sound.no_poll needs) h in
           subst (λ (calls : List Ask). IfErr c.issue_unit-in-Ok.result (StopsThere m0 answered calls c.issue_unit-in-Ok.new.self.log.lines)) c.read_csw.ensures.issues.step.keeps.calls
           (c.issue_unit-in-Ok.ensures.gives.stops m0 [] answered (plan_now g.F.Flights.planner _ mid.log _ _ k mid.managed c.args.unit.now (length old.log.calls) m0 (c.in-Ok.ensures.gives.on m0 _ first) c.in-Ok.ensures.empty (c.in-Ok.ensures.gives.kept m0 _ first) (ap length c.read_csw.ensures.issues.step.keeps.calls)) left);
     }
@@ -83,13 +84,25 @@ returns-in-Ok-clause-kept g c = λ m0 h.
     let needs : needs_csw old.managed c.args.unit.now ≡ true = search rules in
     let k : Kept = learned old.managed (port_of c.args.unit.now) (gives (target_issued g.F.Flights.planner old.log m0) (first_plan old.managed (port_of c.args.unit.now))) in
     let first : HasIssued g.F.Flights.planner (g.F.Flights.state old.flights) old.log (g.F.Flights.accesses old.flights) (entries_of (length old.log.calls) Leads (first_plan old.managed (port_of c.args.unit.now)) ++ plan_entries (length old.log.calls) k c.args.unit.now) m0 =
-    subst (λ (l : List Entry). HasIssued g.F.Flights.planner (g.F.Flights.state old.flights) old.log (g.F.Flights.accesses old.flights) l m0) (csw_left (length old.log.calls) (target_issued g.F.Flights.planner old.log m0) old.managed c.args.unit.now some c.requires.no_poll needs) h in
+    subst (λ (l : List Entry). HasIssued g.F.Flights.planner (g.F.Flights.state old.flights) old.log (g.F.Flights.accesses old.flights) l m0) (csw_left (length old.log.calls) (target_issued g.F.Flights.planner old.log m0) old.managed c.args.unit.now some c.requires.sound.no_poll needs) h in
     let is : c.issue_unit-in-Ok.new.self.managed ≡ (by_csw (target_issued g.F.Flights.planner old.log m0) old.managed c.args.unit.now).kept =
     c.issue_unit-in-Ok.ensures.further.managed ∙ ap (λ (q : Kept). made q c.args.unit.now) (c.in-Ok.ensures.gives.kept m0 _ first) ∙ sym (csw_steps 0 (target_issued g.F.Flights.planner old.log m0) old.managed c.args.unit.now needs).1 in
     elim c.issue_unit-in-Ok.result as (λ r. OnOk r (c.issue_unit-in-Ok.new.self.managed ≡ (by_csw (target_issued g.F.Flights.planner old.log m0) old.managed c.args.unit.now).kept)) [ Ok done ↦ is | Err s ↦ tt ]
 
-pub returns-in-Ok-clause-fenced : goal.returns-in-Ok-clause-fenced
-returns-in-Ok-clause-fenced g c = never_past _ c.read_csw.new.self.log c.issue_unit-in-Ok.new.self.log c.issue_unit-in-Ok.result c.issue_unit-in-Ok.ensures.further.so c.issue_unit-in-Ok.ensures.further.step.keeps.goes.known c.in-Ok.ensures.fenced
+pub returns-in-Ok-clause-issues : goal.returns-in-Ok-clause-issues
+returns-in-Ok-clause-issues g c = record {
+  step = search (rules, keeps_on);
+  entries = search rules;
+  whole = search rules;
+  room = search rules;
+  fenced = never_past _ c.read_csw.new.self.log c.issue_unit-in-Ok.new.self.log c.issue_unit-in-Ok.result c.issue_unit-in-Ok.ensures.further.so c.issue_unit-in-Ok.ensures.further.step.keeps.goes.known c.in-Ok.ensures.fenced;
+}
 
-pub returns-then-not-needs_csw-clause-fenced : goal.returns-then-not-needs_csw-clause-fenced
-returns-then-not-needs_csw-clause-fenced g c = still_past c.args.self.now.log c.issue_unit.new.self.log c.issue_unit.result c.issue_unit.ensures.further.so c.issue_unit.ensures.further.step.keeps.goes.known
+pub returns-then-not-needs_csw-clause-issues : goal.returns-then-not-needs_csw-clause-issues
+returns-then-not-needs_csw-clause-issues g c = record {
+  step = search (rules, keeps_on);
+  entries = search rules;
+  whole = search rules;
+  room = search rules;
+  fenced = still_past c.args.self.now.log c.issue_unit.new.self.log c.issue_unit.result c.issue_unit.ensures.further.so c.issue_unit.ensures.further.step.keeps.goes.known;
+}

@@ -3,6 +3,7 @@ use Rattle.std.specs.Prelude.{IfErr}
 use Rattle.target_calls.specs.declared.calls.Ask.{Ask}
 use Rattle.access_regs.specs.Plan.{needs_settle}
 use Rattle.packed_access.specs.Begun.{StopsThere}
+use Rattle.packed_access.proofs.FrameLemmas.{keeps_on}
 use Rattle.packed_access.proofs.AskedLemmas.{at_ok_then, first_calm, kept_is, needs_is, ok_then, plain_ready, planned_left, settle_left, settled_ready, small_is}
 use Rattle.packed_access.proofs.SparingLemmas.{past_before, spared_same}
 use Rattle.packed_access.proofs.sender.Sender.issue_planned.Goals as goal
@@ -35,7 +36,7 @@ returns-then-before-eq0-clause-gives g c =
             | then-before-eq0-via-else-before-eq0+then-not-needs_settle w ↦ sym w.needs_settle.ensures ∙ w.if-not-needs_settle.true
           ] in
           let r = plain_ready g.F.Flights.planner _ old.log _ old.managed c.args.unit.now m0 calm (planned_left g.F.Flights.planner _ old.log _ old.managed calls ask c.args.unit.now m0 is mild c.requires.planned h) in
-          ok_then _ _ c.issue_by_cfg.result (needs_is g.F.Flights.planner _ _ old.log old.log new.log _ _ old.managed old.managed calls ask asked m0 is mild c.requires.no_poll c.requires.planned h r refl) (c.issue_by_cfg.ensures.asks m0 r.left);
+          ok_then _ _ c.issue_by_cfg.result (needs_is g.F.Flights.planner _ _ old.log old.log new.log _ _ old.managed old.managed calls ask asked m0 is mild c.requires.sound.no_poll c.requires.planned h r refl) (c.issue_by_cfg.ensures.asks m0 r.left);
       broke = λ m0 calls ask this h. let is = this.0 in let mild = this.1 in
           let asked = c.args.unit.now in
           let calm : needs_settle old.managed c.args.unit.now ≡ false = elim c.then-before-eq0.branch [
@@ -99,7 +100,7 @@ returns-in-Ok-clause-gives g c =
           let asked = c.args.unit.now in
           let first = settle_left g.F.Flights.planner _ old.log _ _ old.managed c.args.unit.now _ m0 before needs (planned_left g.F.Flights.planner _ old.log _ old.managed calls ask c.args.unit.now m0 is mild c.requires.planned h) in
           let r = settled_ready g.F.Flights.planner _ _ old.log mid.log _ _ old.managed mid.managed c.args.unit.now _ m0 needs first (c.in-Ok.ensures.gives.on m0 _ first) c.in-Ok.ensures.further.so.calls c.settle.ensures.further.managed in
-          ok_then _ _ c.issue_by_cfg-in-Ok.result (needs_is g.F.Flights.planner _ _ old.log mid.log new.log _ _ old.managed mid.managed calls ask asked m0 is mild c.requires.no_poll c.requires.planned h r c.settle.ensures.further.asks) (c.issue_by_cfg-in-Ok.ensures.asks m0 r.left);
+          ok_then _ _ c.issue_by_cfg-in-Ok.result (needs_is g.F.Flights.planner _ _ old.log mid.log new.log _ _ old.managed mid.managed calls ask asked m0 is mild c.requires.sound.no_poll c.requires.planned h r c.settle.ensures.further.asks) (c.issue_by_cfg-in-Ok.ensures.asks m0 r.left);
       broke = λ m0 calls ask this h. let is = this.0 in let mild = this.1 in
           let asked = c.args.unit.now in
           let first = settle_left g.F.Flights.planner _ old.log _ _ old.managed c.args.unit.now _ m0 before needs (planned_left g.F.Flights.planner _ old.log _ old.managed calls ask c.args.unit.now m0 is mild c.requires.planned h) in
@@ -153,5 +154,11 @@ returns-in-Err-clause-gives g c =
           c.in-Err.ensures.gives.stops m0 _ answered first left;
     }
 
-pub returns-in-Ok-clause-fenced : goal.returns-in-Ok-clause-fenced
-returns-in-Ok-clause-fenced g c = past_before c.args.self.now.log c.settle.new.self.log c.issue_by_cfg-in-Ok.new.self.log c.issue_by_cfg-in-Ok.result c.in-Ok.ensures.further.so c.settle.ensures.further.step.keeps.goes.known c.issue_by_cfg-in-Ok.ensures.fenced
+pub returns-in-Ok-clause-issues : goal.returns-in-Ok-clause-issues
+returns-in-Ok-clause-issues g c = record {
+  step = search (rules, keeps_on);
+  entries = search rules;
+  whole = search rules;
+  room = search rules;
+  fenced = past_before c.args.self.now.log c.settle.new.self.log c.issue_by_cfg-in-Ok.new.self.log c.issue_by_cfg-in-Ok.result c.in-Ok.ensures.further.so c.settle.ensures.further.step.keeps.goes.known c.issue_by_cfg-in-Ok.ensures.issues.fenced;
+}

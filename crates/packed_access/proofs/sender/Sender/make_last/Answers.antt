@@ -17,10 +17,10 @@ pub returns-in-Ok-clause-on : goal.returns-in-Ok-clause-on
 returns-in-Ok-clause-on g c = λ m0 calls are h.
     let old = c.args.self.now in
     let few : length old.log.entries < 2 ^ 32 = (let s = old.sound in let b = s.bounded in let f = s.few in omega (arith, b, f)) in
-    let came : old.log.came ≡ length calls = (let l = c.requires.last in let k = ap length are ∙ length-append calls (probe_ask c.args.call ∷ []) in omega (arith, l, k)) in
+    let came : old.log.came ≡ length calls = (let l = c.requires.may.last in let k = ap length are ∙ length-append calls (probe_ask c.args.call ∷ []) in omega (arith, l, k)) in
     let is : c.confirm.new.self ≡ log_done old.log (record { unit = length old.log.calls; part = Ends }) old.log.came (result_for (slice_get old.log.calls old.log.came) c.in-Ok.word) = search rules in
     action_has_come g.F.Flights.planner _ _ old.log c.confirm.new.self calls (probe_ask c.args.call) (Commands c.args.call) c.in-Ok.word m0 h (where_flies _ _ c.args.call _ c.in-Ok.ensures.done) are came refl refl refl
-    (command_not_small _ calls c.args.call) (λ m. command_light c.args.call c.requires.sound) old.sound.results_long few (command_log old.log c.confirm.new.self calls c.args.call c.in-Ok.word are came is)
+    (command_not_small _ calls c.args.call) (λ m. command_light c.args.call c.requires.may.sound) old.sound.results_long few (command_log old.log c.confirm.new.self calls c.args.call c.in-Ok.word are came is)
 
 pub returns-in-Err-clause-broke : goal.returns-in-Err-clause-broke
 returns-in-Err-clause-broke g c = λ m0 calls are h.
@@ -28,8 +28,8 @@ returns-in-Err-clause-broke g c = λ m0 calls are h.
     let few : length old.log.entries < 2 ^ 32 = (let s = old.sound in let b = s.bounded in let f = s.few in omega (arith, b, f)) in
     let unit_is : c.count-unit.result ≡ length calls + 1 = c.count-unit.ensures ∙ ap length are ∙ length-append calls (probe_ask c.args.call ∷ []) in
     let stopped : IsStopped c.in-Err.end (with_entry old.log (kept_of (entry_of calls (Commands c.args.call)))) c.stop.new.self c.stop.result =
-    subst (λ (l : LogState). IsStopped c.in-Err.end l c.stop.new.self c.stop.result) (c.issue.ensures.answer ∙ ap (λ (n : ℕ). with_entry old.log (record { unit = n; part = Ends })) unit_is) c.stop.ensures.answer in
-    has_left g.F.Flights.planner _ _ _ _ _ old.log (entry_of calls (Commands c.args.call)) [] m0 c.in-Err.end c.stop.result c.stop.new.self h (where_flies _ _ c.args.call _ c.in-Err.ensures.left) (λ m. command_light c.args.call c.requires.sound) few c.in-Err.ensures.none stopped
+    subst (λ (l : LogState). IsStopped c.in-Err.end l c.stop.new.self c.stop.result) (c.issue.ensures.answer.so ∙ ap (λ (n : ℕ). with_entry old.log (record { unit = n; part = Ends })) unit_is) c.stop.ensures.answer in
+    has_left g.F.Flights.planner _ _ _ _ _ old.log (entry_of calls (Commands c.args.call)) [] m0 c.in-Err.end c.stop.result c.stop.new.self h (where_flies _ _ c.args.call _ c.in-Err.ensures.left) (λ m. command_light c.args.call c.requires.may.sound) few c.in-Err.ensures.none stopped
 
 pub returns-in-Err-clause-stops : goal.returns-in-Err-clause-stops
 returns-in-Err-clause-stops g c = λ m0 calls answered are h left.
@@ -37,8 +37,8 @@ returns-in-Err-clause-stops g c = λ m0 calls answered are h left.
     let few : length old.log.entries < 2 ^ 32 = (let s = old.sound in let b = s.bounded in let f = s.few in omega (arith, b, f)) in
     let unit_is : c.count-unit.result ≡ length calls + 1 = c.count-unit.ensures ∙ ap length are ∙ length-append calls (probe_ask c.args.call ∷ []) in
     let stopped : IsStopped c.in-Err.end (with_entry old.log (kept_of (entry_of calls (Commands c.args.call)))) c.stop.new.self c.stop.result =
-    subst (λ (l : LogState). IsStopped c.in-Err.end l c.stop.new.self c.stop.result) (c.issue.ensures.answer ∙ ap (λ (n : ℕ). with_entry old.log (record { unit = n; part = Ends })) unit_is) c.stop.ensures.answer in
-    stops_left g.F.Flights.planner _ _ _ _ _ old.log (entry_of calls (Commands c.args.call)) [] m0 c.in-Err.end c.stop.result c.stop.new.self answered h (where_flies _ _ c.args.call _ c.in-Err.ensures.left) (λ m. command_light c.args.call c.requires.sound) few c.in-Err.ensures.none stopped left
+    subst (λ (l : LogState). IsStopped c.in-Err.end l c.stop.new.self c.stop.result) (c.issue.ensures.answer.so ∙ ap (λ (n : ℕ). with_entry old.log (record { unit = n; part = Ends })) unit_is) c.stop.ensures.answer in
+    stops_left g.F.Flights.planner _ _ _ _ _ old.log (entry_of calls (Commands c.args.call)) [] m0 c.in-Err.end c.stop.result c.stop.new.self answered h (where_flies _ _ c.args.call _ c.in-Err.ensures.left) (λ m. command_light c.args.call c.requires.may.sound) few c.in-Err.ensures.none stopped left
 
 pub returns-in-Ok-clause-spare : goal.returns-in-Ok-clause-spare
 returns-in-Ok-clause-spare g c = λ m0 calls points are h s.

@@ -39,7 +39,7 @@ returns-in-Err-clause-broke g c = λ m0 calls ask h.
     let few : length old.log.entries < 2 ^ 32 = (let s = old.sound in let b = s.bounded in let f = s.few in omega (arith, b, f)) in
     let unit_is : c.count-unit.result ≡ length calls + 1 = c.count-unit.ensures ∙ ap length h.are ∙ length-append calls (ask ∷ []) in
     let stopped : IsStopped c.in-Err.end (with_entry old.log (kept_of (entry_of calls (Polls c.args.mask c.args.requested c.args.turns)))) c.stop.new.self c.stop.result =
-    subst (λ (l : LogState). IsStopped c.in-Err.end l c.stop.new.self c.stop.result) (c.issue.ensures.answer ∙ ap (λ (n : ℕ). with_entry old.log (record { unit = n; part = Ends })) unit_is) c.stop.ensures.answer in
+    subst (λ (l : LogState). IsStopped c.in-Err.end l c.stop.new.self c.stop.result) (c.issue.ensures.answer.so ∙ ap (λ (n : ℕ). with_entry old.log (record { unit = n; part = Ends })) unit_is) c.stop.ensures.answer in
     let left_off = poll_steps g.F.Flights.planner _ _ old.log old.managed calls ask c.args.mask c.args.requested c.args.turns c.args.config.idle c.args.config.retry m0 h _ c.polls_by_matches-zero.ensures.zero
     (LeftOff (Polls c.args.mask c.args.requested c.args.turns) c.in-Err.end) c.in-Err.ensures.left in
     has_left g.F.Flights.planner _ _ _ _ _ old.log (entry_of calls (Polls c.args.mask c.args.requested c.args.turns)) [] m0 c.in-Err.end c.stop.result c.stop.new.self h.issued left_off
@@ -51,7 +51,7 @@ returns-in-Err-clause-stops g c = λ m0 calls ask answered h left.
     let few : length old.log.entries < 2 ^ 32 = (let s = old.sound in let b = s.bounded in let f = s.few in omega (arith, b, f)) in
     let unit_is : c.count-unit.result ≡ length calls + 1 = c.count-unit.ensures ∙ ap length h.are ∙ length-append calls (ask ∷ []) in
     let stopped : IsStopped c.in-Err.end (with_entry old.log (kept_of (entry_of calls (Polls c.args.mask c.args.requested c.args.turns)))) c.stop.new.self c.stop.result =
-    subst (λ (l : LogState). IsStopped c.in-Err.end l c.stop.new.self c.stop.result) (c.issue.ensures.answer ∙ ap (λ (n : ℕ). with_entry old.log (record { unit = n; part = Ends })) unit_is) c.stop.ensures.answer in
+    subst (λ (l : LogState). IsStopped c.in-Err.end l c.stop.new.self c.stop.result) (c.issue.ensures.answer.so ∙ ap (λ (n : ℕ). with_entry old.log (record { unit = n; part = Ends })) unit_is) c.stop.ensures.answer in
     let left_off = poll_steps g.F.Flights.planner _ _ old.log old.managed calls ask c.args.mask c.args.requested c.args.turns c.args.config.idle c.args.config.retry m0 h _ c.polls_by_matches-zero.ensures.zero
     (LeftOff (Polls c.args.mask c.args.requested c.args.turns) c.in-Err.end) c.in-Err.ensures.left in
     stops_left g.F.Flights.planner _ _ _ _ _ old.log (entry_of calls (Polls c.args.mask c.args.requested c.args.turns)) [] m0 c.in-Err.end c.stop.result c.stop.new.self answered h.issued left_off

@@ -5,6 +5,7 @@ use Rattle.access_regs.specs.Journal.{port_of}
 use Rattle.access_regs.specs.Plan.{first_plan}
 use Rattle.packed_access.specs.Begun.{HasIssued, entries_of}
 use Rattle.packed_access.specs.Logs.{LogState}
+use Rattle.packed_access.proofs.FrameLemmas.{keeps_on}
 use Rattle.packed_access.proofs.SparingLemmas.{has_paid}
 use Rattle.packed_access.proofs.sender.Sender.read_csw.Goals as goal
 
@@ -15,14 +16,30 @@ returns-in-Ok-clause-spare g c = λ m0 rest left h s.
     let here : HasIssued g.F.Flights.planner (g.F.Flights.state old.flights) old.log (g.F.Flights.accesses old.flights) (entries_of c.count-number.result Leads c.list_accesses.result.now ++ rest) m0 =
     subst (λ (l : List RegAccess). HasIssued g.F.Flights.planner (g.F.Flights.state old.flights) old.log (g.F.Flights.accesses old.flights) (entries_of c.count-number.result Leads l ++ rest) m0) (sym plan)
     (subst (λ (n : ℕ). HasIssued g.F.Flights.planner (g.F.Flights.state old.flights) old.log (g.F.Flights.accesses old.flights) (entries_of n Leads (first_plan old.managed (port_of c.args.unit.now)) ++ rest) m0) (sym c.count-number.ensures) h) in
-    has_paid g.F.Flights.planner _ _ _ c.read_by.new.self.log c.need.new.self old.log.needs s.paid 1 (c.count-number.result - 1) left m0 (c.in-Ok.ensures.gives.spare m0 rest s.paid here s.spared) s.covers c.in-Ok.ensures.further.so.needs c.need.ensures.answer
+    has_paid g.F.Flights.planner _ _ _ c.read_by.new.self.log c.need.new.self old.log.needs s.paid 1 (c.count-number.result - 1) left m0 (c.in-Ok.ensures.gives.spare m0 rest s.paid here s.spared) s.covers c.in-Ok.ensures.further.so.needs c.need.ensures.answer.so
 
 pub returns-in-Ok-clause-fenced : goal.returns-in-Ok-clause-fenced
 returns-in-Ok-clause-fenced g c =
-    let fence = ap (λ (l : LogState). l.fence) c.need.ensures.answer in
-    let known = ap (λ (l : LogState). l.known) c.need.ensures.answer in
+    let fence = ap (λ (l : LogState). l.fence) c.need.ensures.answer.so in
+    let known = ap (λ (l : LogState). l.known) c.need.ensures.answer.so in
     let came = c.in-Ok.ensures.came in
     let same = c.in-Ok.ensures.further.so.whole in
     let whole = c.requires.ready.whole in
     let count = c.count-number.ensures in
     omega (arith, fence, known, came, same, whole, count)
+
+pub returns-in-Ok-clause-issues : goal.returns-in-Ok-clause-issues
+returns-in-Ok-clause-issues g c = record {
+  step = search (rules, keeps_on);
+  entries = search rules;
+  whole = search rules;
+  room = search rules;
+  fenced =
+      let fence = ap (λ (l : LogState). l.fence) c.need.ensures.answer.so in
+      let known = ap (λ (l : LogState). l.known) c.need.ensures.answer.so in
+      let came = c.in-Ok.ensures.came in
+      let same = c.in-Ok.ensures.further.so.whole in
+      let whole = c.requires.ready.whole in
+      let count = c.count-number.ensures in
+      λ past. absurd (omega (arith, past, fence, known, came, same, whole, count));
+}

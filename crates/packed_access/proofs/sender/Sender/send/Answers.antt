@@ -11,7 +11,7 @@ pub returns-in-Ok-clause-gives : goal.returns-in-Ok-clause-gives
 returns-in-Ok-clause-gives g c =
     let old = c.args.self.now in
     let few : length old.log.entries < 2 ^ 32 = (let s = old.sound in let b = s.bounded in let f = s.few in omega (arith, b, f)) in
-    let is : c.confirm.new.self ≡ all_confirmed (all_taken (g.F.Flights.values c.send.new.self) old.log) = c.confirm.ensures.answer ∙ ap all_confirmed c.take_values.ensures.answer in
+    let is : c.confirm.new.self ≡ all_confirmed (all_taken (g.F.Flights.values c.send.new.self) old.log) = c.confirm.ensures.answer.so ∙ ap all_confirmed c.take_values.ensures.answer in
     record {
       on =
           λ m0 rest h. subst (λ (l : LogState). HasIssued g.F.Flights.planner (g.F.Flights.state c.send.new.self) l [] rest m0) (sym is)
@@ -37,5 +37,5 @@ returns-in-Ok-clause-last g c = λ m0 rest front e more h is at some. last_value
 pub returns-in-Ok-clause-full : goal.returns-in-Ok-clause-full
 returns-in-Ok-clause-full g c =
     let old = c.args.self.now in
-    let is : c.confirm.new.self ≡ all_confirmed (all_taken (g.F.Flights.values c.send.new.self) old.log) = c.confirm.ensures.answer ∙ ap all_confirmed c.take_values.ensures.answer in
+    let is : c.confirm.new.self ≡ all_confirmed (all_taken (g.F.Flights.values c.send.new.self) old.log) = c.confirm.ensures.answer.so ∙ ap all_confirmed c.take_values.ensures.answer in
     λ m0 e rest next points h makes s is_full. has_filled g.F.Flights.planner _ _ _ _ _ _ old.log c.confirm.new.self _ e next rest _ points m0 h makes s c.in-Ok.ensures.came is_full (ap (λ (l : LogState). l.calls) is) (ap (λ (l : LogState). l.confirmed) is) c.send.ensures.keeps.same_limits c.send.ensures.keeps.goes.limits

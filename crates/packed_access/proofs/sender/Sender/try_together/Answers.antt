@@ -14,10 +14,10 @@ returns-in-Ok-clause-gives g c = record {
       let old = c.args.self.now in
       let few : length old.log.entries < 2 ^ 32 = (let s = old.sound in let b = s.bounded in let f = s.few in omega (arith, b, f)) in
       let part : c.if-ends.issue ≡ last_part c.args.ends = elim c.if-ends.branch [ then-ends w ↦ w.issue-is ∙ sym (ap last_part w.if-ends.true) | else-ends w ↦ w.issue-is ∙ sym (ap last_part w.if-ends.false) ] in
-      let log = flight_log c.args.forgive old.log _ c.issue.new.self asked c.args.leads.now c.args.last c.args.ends _ _ c.push_all.ensures.log c.issue.ensures.answer c.count-unit.ensures (let w = c.requires.ready.whole in omega (arith, w)) part n.parts in
+      let log = flight_log c.args.forgive old.log _ c.issue.new.self asked c.args.leads.now c.args.last c.args.ends _ _ c.push_all.ensures.log c.issue.ensures.answer.so c.count-unit.ensures (let w = c.requires.ready.whole in omega (arith, w)) part n.parts in
       let are = c.push.ensures.accesses ∙ ap (λ (l : List RegAccess). l ++ c.args.last ∷ []) (c.push_all.ensures.accesses ∙ ap (λ (l : List RegAccess). l ++ c.args.leads.now) c.requires.ready.empty) in
       flight_went g.F.Flights.planner c.args.forgive _ _ _ old.log c.issue.new.self asked k t made c.args.leads.now c.args.last c.args.ends rest more _ m0 h n (c.push.ensures.keeps.same_state ∙ c.push_all.ensures.keeps.same_state) are (one_few _ c.requires.one) few log
-      c.confirm.new.self _ c.value.result c.in-Ok.ensures.came c.requires.ready.came c.confirm.ensures.answer c.value.ensures;
+      c.confirm.new.self _ c.value.result c.in-Ok.ensures.came c.requires.ready.came c.confirm.ensures.answer.so c.value.ensures;
   broke = λ m0 asked k t made rest more h n. tt;
 }
 
@@ -28,7 +28,7 @@ returns-then-not-can_resume-clause-gives g c = record {
       let old = c.args.self.now in
       let few : length old.log.entries < 2 ^ 32 = (let s = old.sound in let b = s.bounded in let f = s.few in omega (arith, b, f)) in
       let part : c.if-ends.issue ≡ last_part c.args.ends = elim c.if-ends.branch [ then-ends w ↦ w.issue-is ∙ sym (ap last_part w.if-ends.true) | else-ends w ↦ w.issue-is ∙ sym (ap last_part w.if-ends.false) ] in
-      let log = flight_log c.args.forgive old.log _ c.issue.new.self asked c.args.leads.now c.args.last c.args.ends _ _ c.push_all.ensures.log c.issue.ensures.answer c.count-unit.ensures (let w = c.requires.ready.whole in omega (arith, w)) part n.parts in
+      let log = flight_log c.args.forgive old.log _ c.issue.new.self asked c.args.leads.now c.args.last c.args.ends _ _ c.push_all.ensures.log c.issue.ensures.answer.so c.count-unit.ensures (let w = c.requires.ready.whole in omega (arith, w)) part n.parts in
       let are = c.push.ensures.accesses ∙ ap (λ (l : List RegAccess). l ++ c.args.last ∷ []) (c.push_all.ensures.accesses ∙ ap (λ (l : List RegAccess). l ++ c.args.leads.now) c.requires.ready.empty) in
       let one : IsOneTransfer _ = subst IsOneTransfer (sym are) c.requires.one in
       let free : (c.args.forgive ≡ false) ⊎ (is_fault_end c.in-Err.end ≡ false) = elim c.if-forgive.branch [
@@ -46,8 +46,8 @@ returns-in-Ok-command-clause-gives g c = record {
       let few : length old.log.entries < 2 ^ 32 = (let s = old.sound in let b = s.bounded in let f = s.few in omega (arith, b, f)) in
       let part : c.if-ends.issue ≡ last_part c.args.ends = elim c.if-ends.branch [ then-ends w ↦ w.issue-is ∙ sym (ap last_part w.if-ends.true) | else-ends w ↦ w.issue-is ∙ sym (ap last_part w.if-ends.false) ] in
       let some : 0 < length old.log.calls = (let w = c.requires.ready.whole in omega (arith, w)) in
-      let log = flight_log c.args.forgive old.log _ c.issue.new.self asked c.args.leads.now c.args.last c.args.ends _ _ c.push_all.ensures.log c.issue.ensures.answer c.count-unit.ensures some part n.parts in
-      let log2 = abort_log c.args.forgive old.log c.issue.new.self c.confirm_entries.new.self c.issue-2.new.self asked made (c.args.leads.now ++ c.args.last ∷ []) c.args.ends _ log c.confirm_entries.ensures.answer c.issue-2.ensures.answer c.count-unit.ensures some n.early in
+      let log = flight_log c.args.forgive old.log _ c.issue.new.self asked c.args.leads.now c.args.last c.args.ends _ _ c.push_all.ensures.log c.issue.ensures.answer.so c.count-unit.ensures some part n.parts in
+      let log2 = abort_log c.args.forgive old.log c.issue.new.self c.confirm_entries.new.self c.issue-2.new.self asked made (c.args.leads.now ++ c.args.last ∷ []) c.args.ends _ log c.confirm_entries.ensures.answer.so c.issue-2.ensures.answer.so c.count-unit.ensures some n.early in
       let are = c.push.ensures.accesses ∙ ap (λ (l : List RegAccess). l ++ c.args.last ∷ []) (c.push_all.ensures.accesses ∙ ap (λ (l : List RegAccess). l ++ c.args.leads.now) c.requires.ready.empty) in
       let one : IsOneTransfer _ = subst IsOneTransfer (sym are) c.requires.one in
       let both : (c.args.forgive ≡ true) × (is_fault_end c.in-Err.end ≡ true) = elim c.if-forgive.branch [
@@ -56,7 +56,7 @@ returns-in-Ok-command-clause-gives g c = record {
       ] in
       let yes = both.1 in
       flight_skipped g.F.Flights.planner c.args.forgive _ _ _ old.log c.issue.new.self asked k t made c.args.leads.now c.args.last c.args.ends rest more _ m0 h n (c.push.ensures.keeps.same_state ∙ c.push_all.ensures.keeps.same_state) are (one_few _ c.requires.one) few log
-      _ _ c.issue-2.new.self c.confirm-in-Ok-command.new.self c.in-Err.end c.in-Ok-command.field-0 both.0 c.in-Err.ensures.broke yes (c.in-Err.ensures.clear one yes) c.resume.ensures.keeps.same_state (c.in-Ok-command.ensures.cleared refl) c.requires.ready.came log2 c.confirm-in-Ok-command.ensures.answer;
+      _ _ c.issue-2.new.self c.confirm-in-Ok-command.new.self c.in-Err.end c.in-Ok-command.field-0 both.0 c.in-Err.ensures.broke yes (c.in-Err.ensures.clear one yes) c.resume.ensures.keeps.same_state (c.in-Ok-command.ensures.cleared refl) c.requires.ready.came log2 c.confirm-in-Ok-command.ensures.answer.so;
   broke = λ m0 asked k t made rest more h n. tt;
 }
 
@@ -68,8 +68,8 @@ returns-in-Err-command-clause-gives g c = record {
       let few : length old.log.entries < 2 ^ 32 = (let s = old.sound in let b = s.bounded in let f = s.few in omega (arith, b, f)) in
       let part : c.if-ends.issue ≡ last_part c.args.ends = elim c.if-ends.branch [ then-ends w ↦ w.issue-is ∙ sym (ap last_part w.if-ends.true) | else-ends w ↦ w.issue-is ∙ sym (ap last_part w.if-ends.false) ] in
       let some : 0 < length old.log.calls = (let w = c.requires.ready.whole in omega (arith, w)) in
-      let log = flight_log c.args.forgive old.log _ c.issue.new.self asked c.args.leads.now c.args.last c.args.ends _ _ c.push_all.ensures.log c.issue.ensures.answer c.count-unit.ensures some part n.parts in
-      let log2 = abort_log c.args.forgive old.log c.issue.new.self c.confirm_entries.new.self c.issue-2.new.self asked made (c.args.leads.now ++ c.args.last ∷ []) c.args.ends _ log c.confirm_entries.ensures.answer c.issue-2.ensures.answer c.count-unit.ensures some n.early in
+      let log = flight_log c.args.forgive old.log _ c.issue.new.self asked c.args.leads.now c.args.last c.args.ends _ _ c.push_all.ensures.log c.issue.ensures.answer.so c.count-unit.ensures some part n.parts in
+      let log2 = abort_log c.args.forgive old.log c.issue.new.self c.confirm_entries.new.self c.issue-2.new.self asked made (c.args.leads.now ++ c.args.last ∷ []) c.args.ends _ log c.confirm_entries.ensures.answer.so c.issue-2.ensures.answer.so c.count-unit.ensures some n.early in
       let are = c.push.ensures.accesses ∙ ap (λ (l : List RegAccess). l ++ c.args.last ∷ []) (c.push_all.ensures.accesses ∙ ap (λ (l : List RegAccess). l ++ c.args.leads.now) c.requires.ready.empty) in
       let one : IsOneTransfer _ = subst IsOneTransfer (sym are) c.requires.one in
       let both : (c.args.forgive ≡ true) × (is_fault_end c.in-Err.end ≡ true) = elim c.if-forgive.branch [
