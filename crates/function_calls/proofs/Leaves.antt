@@ -1,5 +1,6 @@
 -- Values that are used, units and commands, over an access; and what comes later, for the exits of functions.
 use Rattle.std.proofs.Common.{inl, inr, ◌≡◌, ◌⊎◌, ℕ, ◌+◌, ◌/◌, ◌^◌, Bool, true, false, cond, List, [], ◌∷◌, ◌++◌, length, nat_lt, Option, None, Some, unwrap_or, codes, Result, Ok, Err, refl, sym, ap, subst, ◌∙◌, slice_index}
+use Rattle.std.proofs.lemmas.List.{length-append}
 use Rattle.std.specs.Prelude.{IsErrAnd}
 use Rattle.dap_base.specs.Outcome.{◌>>=◌}
 use Rattle.target_machine.specs.declared.unit.HaltCause.TheVariants.{AddressTooLarge}
@@ -22,7 +23,7 @@ use Rattle.access_calls.specs.declared.stop.Report.{Report}
 use Rattle.access_calls.specs.declared.stop.Stop.{Stop}
 use Rattle.access_calls.specs.declared.stop.Stop.TheVariants.{Cut, BenchFault, ReplyBad, OutOfMemory}
 use Rattle.access_calls.proofs.KeepLemmas.{goes_same, goes_trans, all_asked}
-use Rattle.sequence_rules.specs.Calls.{Port, use_now, missing, given, global, port_with, port_from, ask, answered, command, numbered, zero_of, if_read, low_and_high, second_half, two_units, memory_unit, memory_at, ap_at, dp_at, abort, abort_at}
+use Rattle.sequence_rules.specs.Calls.{Port, use_now, missing, given, global, port_with, port_from, ask, answered, command, numbered, zero_of, if_read, low_and_high, second_half, memory_unit, memory_at, ap_at, dp_at, abort_at}
 use Rattle.sequence_rules.specs.Machine as machine
 use Rattle.sequence_rules.specs.Machine.{Over, State, Out, with_rest, unit_more, end_state}
 use Rattle.sequence_rules.specs.Late.{Late, late_of, asks_with, used_late, late, Later}
@@ -33,7 +34,7 @@ use Rattle.sequence_rules.proofs.Made.{no_cost}
 use Rattle.sequence_rules.proofs.LateLemmas.{later_on, later_same, later_still, steady_late, grows_same}
 use Rattle.function_calls.specs.declared.end.End.{End}
 use Rattle.function_calls.specs.declared.end.End.TheVariants as end
-use Rattle.function_calls.specs.Ends.{AtEnd, EndsLate, HasEnded, HasSinkCause, IsStopAt, MeansLate, MeansLateAs, MeansLateBy, NoWriteFault, StopsHere}
+use Rattle.function_calls.specs.Ends.{AtEnd, EndsLate, HasEnded, HasSinkCause, IsStopAt, MeansLate, NoWriteFault, answer_by, StopsHere}
 use Rattle.function_calls.specs.Frame.{EndsCall, EndsUse}
 use Rattle.function_calls.specs.Stops.{end_by}
 
@@ -111,6 +112,10 @@ quiet_cause (Err (end.Halted cause)) n h = refl
 quiet_cause (Err end.Stopped) n h = refl
 quiet_cause (Err end.OutOfMemory) n h = refl
 quiet_cause (Err end.WriteFault) n h = absurd h
+
+-- one call more is counted
+pub counted_more : (units : ℕ) (old new : List Ask) (ask : Ask) → units ≡ length old → new ≡ old ++ ask ∷ [] → units + 1 ≡ length new
+counted_more units old new ask is more = ap (λ n. n + 1) is ∙ sym (ap length more ∙ length-append old (ask ∷ []))
 
 -- ---- values
 
@@ -230,15 +235,16 @@ pub passed : {A : Type 0} (w : World) (reached : AccessView) (e : End) (now : S)
 passed w reached e now out (Ok x) is h = absurd is
 passed w reached e now out (Err x) is h = subst (λ y. EndsLate w reached y now out) (sym is) h
 
+-- the same, where something else stands in place of the answer
 pub passed_by : {A B : Type 0} (w : World) (reached : AccessView) (view : A → B) (e : End) (now : S) (out : Out Value Late B) (result : Result A End) → IsErrAnd result (λ x. x ≡ e) → EndsLate w reached e now out
-    → MeansLateBy w reached view result now out
+    → MeansLate w reached (answer_by view result) now out
 passed_by w reached view e now out (Ok x) is h = absurd is
 passed_by w reached view e now out (Err x) is h = subst (λ y. EndsLate w reached y now out) (sym is) h
 
-pub passed_as : {A B : Type 0} (w : World) (reached : AccessView) (x : B) (e : End) (now : S) (out : Out Value Late B) (result : Result A End) → IsErrAnd result (λ y. y ≡ e) → EndsLate w reached e now out
-    → MeansLateAs w reached x result now out
-passed_as w reached x e now out (Ok y) is h = absurd is
-passed_as w reached x e now out (Err y) is h = subst (λ z. EndsLate w reached z now out) (sym is) h
+-- what stands in place of an answer is no answer where it ended
+pub err_by : {A B : Type 0} (view : A → B) (e : End) (result : Result A End) → IsErrAnd result (λ x. x ≡ e) → IsErrAnd (answer_by view result) (λ x. x ≡ e)
+err_by view e (Ok x) is = absurd is
+err_by view e (Err x) is = is
 
 -- the access stopped before this
 pub stops_before : {B : Type 0} (w : World) (reached : AccessView) (e : End) (s : S) (b : Asks) (out : Out Value Late B) → After w s out → b.calls ≡ s.rest.asks.calls → IsStopAt w s.rest.asks.calls reached e → EndsLate w reached e (with_rest s (late_of b s.rest.written)) out
@@ -308,25 +314,7 @@ global_gives cost w reached name v s now result is h = subst (λ o. MeansLate w 
 
 pub ruleset leaves = (goes_same, left_on, use_stopped, call_stopped)
 
-pub both_first : (cost : Costs) (w : World) (reached : AccessView) (left right : Value) (s now : S) (e : End) → EndsLate w reached e now (use_now (late cost w) left s) → EndsLate w reached e now (both (late cost w) left right s)
-unfolding both
-both_first cost w reached left right s now e h = ends_on w reached e now (use_now (late cost w) left s) _ h (λ p. later_bind w p.1 (use_now (late cost w) right p.1) _ (later_use cost w right p.1) (λ q. later_ok w q.1 _))
-
--- the first unit of a 64-bit call, and the second
-pub two_first : (cost : Costs) (w : World) (reached : AccessView) (e : End) (read : Bool) (p : Port) (address n : ℕ) (u : AccessUnit) (s now : S) → u ≡ memory_unit 4 read p.ap address n → EndsLate w reached e now (ask (late cost w) u p.forgive s)
-    → EndsLate w reached e now (two_units (late cost w) read p address n s)
-unfolding two_units
-two_first cost w reached e read p address n u s now is h =
-    ends_on w reached e now (ask (late cost w) (memory_unit 4 read p.ap address n) p.forgive s) _ (subst (λ x. EndsLate w reached e now (ask (late cost w) x p.forgive s)) is h)
-    (λ low. later_second_half cost w read p address n low.0 low.1)
-
-pub second_first : (cost : Costs) (w : World) (reached : AccessView) (e : End) (read : Bool) (p : Port) (address n : ℕ) (low : Value) (u : AccessUnit) (s now : S) → u ≡ memory_unit 4 read p.ap (address + 4) (n / 2 ^ 32) → EndsLate w reached e now (ask (late cost w) u p.forgive s)
-    → EndsLate w reached e now (second_half (late cost w) read p address n low s)
-unfolding second_half
-second_first cost w reached e read p address n low u s now is h =
-    ends_on w reached e now (ask (late cost w) (memory_unit 4 read p.ap (address + 4) (n / 2 ^ 32)) p.forgive s) _ (subst (λ x. EndsLate w reached e now (ask (late cost w) x p.forgive s)) is h)
-    (λ high. later_cond w high.1 read _ _ (later_low_and_high cost w low high.0 high.1) (later_ok w high.1 _))
-
+-- the second unit of a 64-bit call
 pub second_write : (cost : Costs) (w : World) (read : Bool) (p : Port) (address n : ℕ) (low v : Value) (u : AccessUnit) (s now : S) → read ≡ false → u ≡ memory_unit 4 read p.ap (address + 4) (n / 2 ^ 32) → ask (late cost w) u p.forgive s ≡ Ok (v, now)
     → second_half (late cost w) read p address n low s ≡ Ok (Number 0, now)
 unfolding second_half late
@@ -334,13 +322,6 @@ second_write cost w read p address n low v u s now written is h =
     ap (λ x. ask (late cost w) x p.forgive s >>= λ high. cond read (low_and_high (late cost w) low high.0 high.1) (Ok (Number 0, high.1))) (sym is)
     ∙ ap (λ o. o >>= λ high. cond read (low_and_high (late cost w) low high.0 high.1) (Ok (Number 0, high.1))) h
     ∙ ap (λ b. cond b (low_and_high (late cost w) low v now) (Ok (Number 0, now))) written
-
-pub abort_first : (cost : Costs) (w : World) (reached : AccessView) (e : End) (n : ℕ) (s now : S) → EndsLate w reached e now (global (late cost w) (codes "__dp") s) → EndsLate w reached e now (zero_of (late cost w) (abort (late cost w) n s))
-unfolding abort zero_of
-abort_first cost w reached e n s now h =
-    ends_on w reached e now (global (late cost w) (codes "__dp") s >>= λ d. abort_at (late cost w) n d.0 d.1) _
-    (ends_on w reached e now (global (late cost w) (codes "__dp") s) _ h (λ d. later_abort_at cost w n d.0 d.1))
-    (λ x. later_ok w x.1 _)
 
 -- a write has 0, and so has a command whose result is dropped
 pub zero_on : (cost : Costs) (w : World) (v : Value) (out : Out Value Late Value) (now : S) → out ≡ Ok (v, now) → zero_of (late cost w) out ≡ Ok (Number 0, now)

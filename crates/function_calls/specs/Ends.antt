@@ -49,20 +49,15 @@ EndsLate w a end.Stopped now out = Left w a now out
 EndsLate w a end.OutOfMemory now out = Later w now.rest (end_state out).rest
 EndsLate w a end.WriteFault now out = Later w now.rest (end_state out).rest
 
--- what the code answers and the state that it leaves are those of the meaning; x is what an answer stands for
-abbrev pub MeansLateAs : {A B : Type 0} → World → AccessView → B → Result A End → State Value Late → Out Value Late B → Type 0
-MeansLateAs w a x (Ok y) now out = out ≡ Ok (x, now)
-MeansLateAs w a x (Err e) now out = EndsLate w a e now out
-
--- the same, where an answer stands for what this makes of it
-abbrev pub MeansLateBy : {A B : Type 0} → World → AccessView → (A → B) → Result A End → State Value Late → Out Value Late B → Type 0
-MeansLateBy w a view (Ok x) now out = out ≡ Ok (view x, now)
-MeansLateBy w a view (Err e) now out = EndsLate w a e now out
-
--- the same, where an answer stands for itself
+-- what the code answers and the state that it leaves are those of the meaning
 abbrev pub MeansLate : {A : Type 0} → World → AccessView → Result A End → State Value Late → Out Value Late A → Type 0
 MeansLate w a (Ok x) now out = out ≡ Ok (x, now)
 MeansLate w a (Err e) now out = EndsLate w a e now out
+
+-- the answer, with what this makes of it in its place
+abbrev pub answer_by : {A B : Type 0} → (A → B) → Result A End → Result B End
+answer_by view (Ok x) = Ok (view x)
+answer_by view (Err e) = Err e
 
 -- the predefined variables that calls use
 abbrev pub as_port : Port → meaning.Port

@@ -1,10 +1,8 @@
 //! Units and commands of the probe, asked one after the other.
 ghost use Rattle.target_machine.specs.Sound.{IsSound, IsSoundProbe};
-ghost use Rattle.access_calls.specs.Keeps.{Keeps};
 ghost use Rattle.sequence_rules.specs.Calls as c;
 ghost use Rattle.sequence_rules.specs.Late.{late};
-ghost use Rattle.function_calls.specs.Frame.{EndsCall, IsReady};
-ghost use Rattle.function_calls.specs.Means.{MeansCall};
+ghost use Rattle.function_calls.specs.Frame.{IsReady, RunsCall};
 
 use crate::end::End;
 use crate::held::Held;
@@ -24,9 +22,7 @@ pub fn ask<A: Access>(
 ) -> Result<Value, End>
     requires sound { IsSound unit }
     requires ready { IsReady held.old.units (A.reported access.old) }
-    ensures gives { MeansCall A.begun A.reported access.old access.new held.old held.new result (λ w. c.ask (late A.cost w) unit forgive) }
-    ensures keeps { Keeps A.begun A.reported A.identity access.old access.new }
-    ensures ends { EndsCall result held.new.units (A.reported access.new) }
+    ensures { RunsCall (λ m. c.ask m unit forgive) A.cost A.begun A.reported A.identity held.old access.old held.new access.new result }
 {
     if held.units >= MOST_UNITS {
         return Err(End::Halted(HaltCause::AccessLimit));
@@ -55,10 +51,7 @@ pub(crate) fn ask_for_result<A: Access>(
 ) -> Result<Value, End>
     requires sound { IsSound unit }
     requires ready { IsReady held.old.units (A.reported access.old) }
-    ensures gives { MeansCall A.begun A.reported access.old access.new held.old held.new result
-        (λ w s. c.if_read (late A.cost w) read (c.ask (late A.cost w) unit forgive s)) }
-    ensures keeps { Keeps A.begun A.reported A.identity access.old access.new }
-    ensures ends { EndsCall result held.new.units (A.reported access.new) }
+    ensures { RunsCall (λ m s. c.if_read m read (c.ask m unit forgive s)) A.cost A.begun A.reported A.identity held.old access.old held.new access.new result }
 {
     let value = ask(unit, forgive, held, access)?;
     Ok(if read { value } else { Value::Number(0) })
@@ -73,9 +66,7 @@ pub(crate) fn command<A: Access>(
 ) -> Result<Value, End>
     requires sound { IsSoundProbe call }
     requires ready { IsReady held.old.units (A.reported access.old) }
-    ensures gives { MeansCall A.begun A.reported access.old access.new held.old held.new result (λ w. c.command (late A.cost w) call) }
-    ensures keeps { Keeps A.begun A.reported A.identity access.old access.new }
-    ensures ends { EndsCall result held.new.units (A.reported access.new) }
+    ensures { RunsCall (λ m. c.command m call) A.cost A.begun A.reported A.identity held.old access.old held.new access.new result }
 {
     if held.units >= MOST_UNITS {
         return Err(End::Halted(HaltCause::AccessLimit));
@@ -98,10 +89,7 @@ pub(crate) fn command_without_result<A: Access>(
 ) -> Result<Value, End>
     requires sound { IsSoundProbe call }
     requires ready { IsReady held.old.units (A.reported access.old) }
-    ensures gives { MeansCall A.begun A.reported access.old access.new held.old held.new result
-        (λ w s. c.zero_of (late A.cost w) (c.command (late A.cost w) call s)) }
-    ensures keeps { Keeps A.begun A.reported A.identity access.old access.new }
-    ensures ends { EndsCall result held.new.units (A.reported access.new) }
+    ensures { RunsCall (λ m s. c.zero_of m (c.command m call s)) A.cost A.begun A.reported A.identity held.old access.old held.new access.new result }
 {
     command(call, held, access)?;
     Ok(Value::Number(0))

@@ -1,19 +1,10 @@
 //! Calls that write lines.
-ghost use Rattle.std.specs.Prelude.{◌≡◌, ℕ, Bool, List, Option, IfOk, drop, slice_index};
-ghost use Rattle.probe_core.specs.Bench.{BenchState};
-ghost use Rattle.access_calls.specs.Left.{IsLeft};
-ghost use Rattle.access_calls.specs.Reported.{world_from};
-ghost use Rattle.access_calls.specs.Keeps.{Keeps};
+ghost use Rattle.std.specs.Prelude.{◌≡◌, ℕ, List, IfOk, drop, slice_index};
 ghost use Rattle.sequence_rules.specs.Calls as c;
-ghost use Rattle.sequence_rules.specs.Late.{late};
 ghost use Rattle.sequence_rules.specs.Lines.{message_line};
-ghost use Rattle.function_calls.specs.Ends.{MeansLate};
-ghost use Rattle.function_calls.specs.Frame.{EndsWriting, IsReady};
-ghost use Rattle.sequence_rules.specs.Known.{Knows};
-ghost use Rattle.function_calls.specs.Held.{seen};
 ghost use Rattle.function_calls.specs.Kinds.{line_done};
 ghost use Rattle.function_calls.specs.Lines.{AreLines};
-ghost use Rattle.function_calls.specs.Means.{MeansWriting};
+ghost use Rattle.function_calls.specs.Frame.{IsReady, RunsWriting};
 
 use crate::end::End;
 use crate::held::Held;
@@ -39,12 +30,8 @@ fn write_line<A: Access, K: Sink>(
 ) -> Result<Value, End>
     requires ready { IsReady held.old.units (A.reported access.old) }
     requires whole { IfOk line AreLines }
-    ensures gives { (m : BenchState) (answered : Option ℕ) (known : Bool) (text : List ℕ) → IfOk line (λ l. l ≡ text) → A.begun access.old m
-        → IsLeft (A.reported access.new) answered → Knows known (K.written sink.old)
-        → MeansLate (world_from m answered) (A.reported access.new) result (seen known held.new (A.reported access.new).asks (K.written sink.new))
-        (c.line_result (late A.cost (world_from m answered)) text value (seen known held.old (A.reported access.old).asks (K.written sink.old))) }
-    ensures keeps { Keeps A.begun A.reported A.identity access.old access.new }
-    ensures ends { EndsWriting K.written K.faults result held.new.units (A.reported access.new) sink.old sink.new }
+    ensures { (text : List ℕ) → IfOk line (λ l. l ≡ text) → RunsWriting (λ m. c.line_result m text value)
+        A.cost A.begun A.reported A.identity K.written K.faults held.old access.old sink.old held.new access.new sink.new result }
 {
     if held.lines >= MOST_LINES {
         return Err(End::Halted(HaltCause::MessageLimit));
@@ -85,10 +72,8 @@ pub(crate) fn write_line_of<A: Access, K: Sink>(
     sink: &mut K,
 ) -> Result<Value, End>
     requires ready { IsReady held.old.units (A.reported access.old) }
-    ensures gives { MeansWriting A.begun A.reported K.written access.old access.new sink.old sink.new held.old held.new result
-        (λ w. line_done (late A.cost w) kind text.now numbers.now) }
-    ensures keeps { Keeps A.begun A.reported A.identity access.old access.new }
-    ensures ends { EndsWriting K.written K.faults result held.new.units (A.reported access.new) sink.old sink.new }
+    ensures { RunsWriting (λ m. line_done m kind text.now numbers.now)
+        A.cost A.begun A.reported A.identity K.written K.faults held.old access.old sink.old held.new access.new sink.new result }
 {
     let first = number_at(numbers, 0);
     let second = number_at(numbers, 1);

@@ -1,11 +1,8 @@
 //! Calls that access memory.
 ghost use Rattle.std.specs.Prelude.{◌≡◌, ◌⊎◌, ◌+◌, ◌*◌, ◌%◌, ◌^◌, None};
-ghost use Rattle.access_calls.specs.Keeps.{Keeps};
 ghost use Rattle.sequence_rules.specs.Calls as c;
-ghost use Rattle.sequence_rules.specs.Late.{late};
 ghost use Rattle.function_calls.specs.Ends.{as_port};
-ghost use Rattle.function_calls.specs.Frame.{EndsCall, EndsUse, IsReady};
-ghost use Rattle.function_calls.specs.Means.{MeansCall};
+ghost use Rattle.function_calls.specs.Frame.{IsReady, RunsCall, RunsUse};
 
 use crate::asking::{ask, ask_for_result};
 use crate::end::End;
@@ -28,9 +25,7 @@ fn join_words(low: u64, high: u64) -> u64
 #[tactic(auto, using(crate::proofs::Leaves::goes_on))]
 fn use_words<A: Access>(low: Value, high: Value, held: &Held, access: &mut A) -> Result<Value, End>
     requires open { (A.reported access.old).end ≡ None }
-    ensures gives { MeansCall A.begun A.reported access.old access.new held.now held.now result (λ w. c.low_and_high (late A.cost w) low high) }
-    ensures keeps { Keeps A.begun A.reported A.identity access.old access.new }
-    ensures ends { EndsUse result (A.reported access.old) (A.reported access.new) }
+    ensures { RunsUse (λ m. c.low_and_high m low high) A.cost A.begun A.reported A.identity held.now access.old access.new result }
 {
     confirm(access)?;
     let (low, high) = use_both(low, high, access)?;
@@ -51,10 +46,8 @@ fn ask_second_half<A: Access>(
 ) -> Result<Value, End>
     requires aligned { address % 8 ≡ 0 }
     requires ready { IsReady held.old.units (A.reported access.old) }
-    ensures gives { MeansCall A.begun A.reported access.old access.new held.old held.new result
-        (λ w. c.second_half (late A.cost w) read (record { ap = ap; forgive = forgive; dp = 0 }) address value low) }
-    ensures keeps { Keeps A.begun A.reported A.identity access.old access.new }
-    ensures ends { EndsCall result held.new.units (A.reported access.new) }
+    ensures { RunsCall (λ m. c.second_half m read (record { ap = ap; forgive = forgive; dp = 0 }) address value low)
+        A.cost A.begun A.reported A.identity held.old access.old held.new access.new result }
 {
     let unit = memory_unit(4, read, ap, address + 4, value / 0x1_0000_0000);
     let high = ask(unit, forgive, held, access)?;
@@ -78,10 +71,8 @@ fn ask_two_units<A: Access>(
 ) -> Result<Value, End>
     requires aligned { address % 8 ≡ 0 }
     requires ready { IsReady held.old.units (A.reported access.old) }
-    ensures gives { MeansCall A.begun A.reported access.old access.new held.old held.new result
-        (λ w. c.two_units (late A.cost w) read (record { ap = ap; forgive = forgive; dp = 0 }) address value) }
-    ensures keeps { Keeps A.begun A.reported A.identity access.old access.new }
-    ensures ends { EndsCall result held.new.units (A.reported access.new) }
+    ensures { RunsCall (λ m. c.two_units m read (record { ap = ap; forgive = forgive; dp = 0 }) address value)
+        A.cost A.begun A.reported A.identity held.old access.old held.new access.new result }
 {
     let unit = memory_unit(4, read, ap, address, value);
     let low = ask(unit, forgive, held, access)?;
@@ -101,10 +92,7 @@ fn access_memory_at<A: Access>(
 ) -> Result<Value, End>
     requires sized { (size ≡ 1) ⊎ ((size ≡ 2) ⊎ ((size ≡ 4) ⊎ (size ≡ 8))) }
     requires ready { IsReady held.old.units (A.reported access.old) }
-    ensures gives { MeansCall A.begun A.reported access.old access.new held.old held.new result
-        (λ w. c.memory_at (late A.cost w) size read address value (as_port port)) }
-    ensures keeps { Keeps A.begun A.reported A.identity access.old access.new }
-    ensures ends { EndsCall result held.new.units (A.reported access.new) }
+    ensures { RunsCall (λ m. c.memory_at m size read address value (as_port port)) A.cost A.begun A.reported A.identity held.old access.old held.new access.new result }
 {
     let ap = match memory_port(size, address, port.ap, port.dp) {
         Ok(ap) => ap,
@@ -129,10 +117,7 @@ pub(crate) fn access_memory<A: Access>(
 ) -> Result<Value, End>
     requires sized { (size ≡ 1) ⊎ ((size ≡ 2) ⊎ ((size ≡ 4) ⊎ (size ≡ 8))) }
     requires ready { IsReady held.old.units (A.reported access.old) }
-    ensures gives { MeansCall A.begun A.reported access.old access.new held.old held.new result
-        (λ w. c.memory (late A.cost w) size read address value) }
-    ensures keeps { Keeps A.begun A.reported A.identity access.old access.new }
-    ensures ends { EndsCall result held.new.units (A.reported access.new) }
+    ensures { RunsCall (λ m. c.memory m size read address value) A.cost A.begun A.reported A.identity held.old access.old held.new access.new result }
 {
     let port = use_port(held, access)?;
     access_memory_at(size, read, address, value, port, held, access)

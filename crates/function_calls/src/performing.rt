@@ -1,11 +1,8 @@
 //! What calls of functions do, once their arguments are numbers.
 ghost use Rattle.std.specs.Prelude.{◌≡◌, None, slice_index};
-ghost use Rattle.access_calls.specs.Keeps.{Keeps};
 ghost use Rattle.sequence_rules.specs.Calls as c;
-ghost use Rattle.sequence_rules.specs.Late.{late};
-ghost use Rattle.function_calls.specs.Frame.{EndsCall, EndsWriting, IsReady};
 ghost use Rattle.function_calls.specs.Kinds.{IsSized, kind_done, probe_done, written_value};
-ghost use Rattle.function_calls.specs.Means.{MeansCall, MeansWriting};
+ghost use Rattle.function_calls.specs.Frame.{IsReady, RunsCall, RunsWriting};
 
 use crate::end::End;
 use crate::held::Held;
@@ -46,9 +43,7 @@ fn command_probe<A: Access>(
     access: &mut A,
 ) -> Result<Value, End>
     requires ready { IsReady held.old.units (A.reported access.old) }
-    ensures gives { MeansCall A.begun A.reported access.old access.new held.old held.new result (λ w. probe_done (late A.cost w) kind numbers.now) }
-    ensures keeps { Keeps A.begun A.reported A.identity access.old access.new }
-    ensures ends { EndsCall result held.new.units (A.reported access.new) }
+    ensures { RunsCall (λ m. probe_done m kind numbers.now) A.cost A.begun A.reported A.identity held.old access.old held.new access.new result }
 {
     let first = number_at(numbers, 0);
     match kind {
@@ -79,10 +74,8 @@ fn make_call_of<A: Access, K: Sink>(
 ) -> Result<Value, End>
     requires sized { IsSized kind }
     requires ready { IsReady held.old.units (A.reported access.old) }
-    ensures gives { MeansWriting A.begun A.reported K.written access.old access.new sink.old sink.new held.old held.new result
-        (λ w. kind_done (late A.cost w) kind text.now numbers.now) }
-    ensures keeps { Keeps A.begun A.reported A.identity access.old access.new }
-    ensures ends { EndsWriting K.written K.faults result held.new.units (A.reported access.new) sink.old sink.new }
+    ensures { RunsWriting (λ m. kind_done m kind text.now numbers.now)
+        A.cost A.begun A.reported A.identity K.written K.faults held.old access.old sink.old held.new access.new sink.new result }
 {
     let first = number_at(numbers, 0);
     match kind {
@@ -116,10 +109,8 @@ pub fn make_call<A: Access, K: Sink>(
     sink: &mut K,
 ) -> Result<Value, End>
     requires ready { IsReady held.old.units (A.reported access.old) }
-    ensures gives { MeansWriting A.begun A.reported K.written access.old access.new sink.old sink.new held.old held.new result
-        (λ w. c.function_result (late A.cost w) function text.now numbers.now) }
-    ensures keeps { Keeps A.begun A.reported A.identity access.old access.new }
-    ensures ends { EndsWriting K.written K.faults result held.new.units (A.reported access.new) sink.old sink.new }
+    ensures { RunsWriting (λ m. c.function_result m function text.now numbers.now)
+        A.cost A.begun A.reported A.identity K.written K.faults held.old access.old sink.old held.new access.new sink.new result }
 {
     make_call_of(
         call_kind_of(function),

@@ -1,11 +1,8 @@
 //! The predefined variables that calls use.
 ghost use Rattle.std.specs.Prelude.{◌≡◌, None, codes};
-ghost use Rattle.access_calls.specs.Keeps.{Keeps};
 ghost use Rattle.sequence_rules.specs.Calls as c;
-ghost use Rattle.sequence_rules.specs.Late.{late};
-ghost use Rattle.function_calls.specs.Ends.{as_port};
-ghost use Rattle.function_calls.specs.Frame.{EndsUse};
-ghost use Rattle.function_calls.specs.Means.{MeansCall, MeansCallBy};
+ghost use Rattle.function_calls.specs.Ends.{answer_by, as_port};
+ghost use Rattle.function_calls.specs.Frame.{RunsUse};
 
 use crate::end::End;
 use crate::held::Held;
@@ -17,9 +14,7 @@ use sequence_rules::Port;
 #[tactic(auto, using(crate::proofs::Leaves::global_gives))]
 pub fn use_debug_port<A: Access>(held: &Held, access: &mut A) -> Result<u64, End>
     requires open { (A.reported access.old).end ≡ None }
-    ensures gives { MeansCall A.begun A.reported access.old access.new held.now held.now result (λ w. c.global (late A.cost w) (codes "__dp")) }
-    ensures keeps { Keeps A.begun A.reported A.identity access.old access.new }
-    ensures ends { EndsUse result (A.reported access.old) (A.reported access.new) }
+    ensures { RunsUse (λ m. c.global m (codes "__dp")) A.cost A.begun A.reported A.identity held.now access.old access.new result }
 {
     use_value(held.globals.dp(), access)
 }
@@ -28,9 +23,7 @@ pub fn use_debug_port<A: Access>(held: &Held, access: &mut A) -> Result<u64, End
 #[tactic(auto, using(crate::proofs::Leaves::global_gives))]
 fn use_access_port<A: Access>(held: &Held, access: &mut A) -> Result<u64, End>
     requires open { (A.reported access.old).end ≡ None }
-    ensures gives { MeansCall A.begun A.reported access.old access.new held.now held.now result (λ w. c.global (late A.cost w) (codes "__ap")) }
-    ensures keeps { Keeps A.begun A.reported A.identity access.old access.new }
-    ensures ends { EndsUse result (A.reported access.old) (A.reported access.new) }
+    ensures { RunsUse (λ m. c.global m (codes "__ap")) A.cost A.begun A.reported A.identity held.now access.old access.new result }
 {
     use_value(held.globals.ap(), access)
 }
@@ -39,9 +32,7 @@ fn use_access_port<A: Access>(held: &Held, access: &mut A) -> Result<u64, End>
 #[tactic(auto, using(crate::proofs::Leaves::global_gives))]
 fn use_error_control<A: Access>(held: &Held, access: &mut A) -> Result<u64, End>
     requires open { (A.reported access.old).end ≡ None }
-    ensures gives { MeansCall A.begun A.reported access.old access.new held.now held.now result (λ w. c.global (late A.cost w) (codes "__errorcontrol")) }
-    ensures keeps { Keeps A.begun A.reported A.identity access.old access.new }
-    ensures ends { EndsUse result (A.reported access.old) (A.reported access.new) }
+    ensures { RunsUse (λ m. c.global m (codes "__errorcontrol")) A.cost A.begun A.reported A.identity held.now access.old access.new result }
 {
     use_value(held.globals.control(), access)
 }
@@ -50,10 +41,7 @@ fn use_error_control<A: Access>(held: &Held, access: &mut A) -> Result<u64, End>
 #[tactic(auto, unfolding(sequence_rules::specs::Calls::port_with), using(crate::proofs::Leaves::goes_on))]
 fn use_port_with<A: Access>(ap: u64, control: u64, held: &Held, access: &mut A) -> Result<Port, End>
     requires open { (A.reported access.old).end ≡ None }
-    ensures gives { MeansCallBy as_port A.begun A.reported access.old access.new held.now held.now result
-        (λ w. c.port_with (late A.cost w) ap control) }
-    ensures keeps { Keeps A.begun A.reported A.identity access.old access.new }
-    ensures ends { EndsUse result (A.reported access.old) (A.reported access.new) }
+    ensures { RunsUse (λ m. c.port_with m ap control) A.cost A.begun A.reported A.identity held.now access.old access.new (answer_by as_port result) }
 {
     let dp = use_debug_port(held, access)?;
     Ok(Port {
@@ -67,9 +55,7 @@ fn use_port_with<A: Access>(ap: u64, control: u64, held: &Held, access: &mut A) 
 #[tactic(auto, unfolding(sequence_rules::specs::Calls::port_from), using(crate::proofs::Leaves::goes_on))]
 fn use_port_from<A: Access>(ap: u64, held: &Held, access: &mut A) -> Result<Port, End>
     requires open { (A.reported access.old).end ≡ None }
-    ensures gives { MeansCallBy as_port A.begun A.reported access.old access.new held.now held.now result (λ w. c.port_from (late A.cost w) ap) }
-    ensures keeps { Keeps A.begun A.reported A.identity access.old access.new }
-    ensures ends { EndsUse result (A.reported access.old) (A.reported access.new) }
+    ensures { RunsUse (λ m. c.port_from m ap) A.cost A.begun A.reported A.identity held.now access.old access.new (answer_by as_port result) }
 {
     let control = use_error_control(held, access)?;
     use_port_with(ap, control, held, access)
@@ -79,9 +65,7 @@ fn use_port_from<A: Access>(ap: u64, held: &Held, access: &mut A) -> Result<Port
 #[tactic(auto, unfolding(sequence_rules::specs::Calls::port), using(crate::proofs::Leaves::goes_on))]
 pub(crate) fn use_port<A: Access>(held: &Held, access: &mut A) -> Result<Port, End>
     requires open { (A.reported access.old).end ≡ None }
-    ensures gives { MeansCallBy as_port A.begun A.reported access.old access.new held.now held.now result (λ w. c.port (late A.cost w)) }
-    ensures keeps { Keeps A.begun A.reported A.identity access.old access.new }
-    ensures ends { EndsUse result (A.reported access.old) (A.reported access.new) }
+    ensures { RunsUse (λ m. c.port m) A.cost A.begun A.reported A.identity held.now access.old access.new (answer_by as_port result) }
 {
     let ap = use_access_port(held, access)?;
     use_port_from(ap, held, access)

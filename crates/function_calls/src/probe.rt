@@ -1,9 +1,6 @@
 //! Calls that are commands of the probe.
-ghost use Rattle.access_calls.specs.Keeps.{Keeps};
 ghost use Rattle.sequence_rules.specs.Calls as c;
-ghost use Rattle.sequence_rules.specs.Late.{late};
-ghost use Rattle.function_calls.specs.Frame.{EndsCall, IsReady};
-ghost use Rattle.function_calls.specs.Means.{MeansCall};
+ghost use Rattle.function_calls.specs.Frame.{IsReady, RunsCall};
 
 use crate::asking::{command, command_without_result};
 use crate::end::End;
@@ -18,10 +15,7 @@ use target_machine::{HaltCause, ProbeCall};
 #[tactic(auto, unfolding(sequence_rules::specs::Calls::abort_at, sequence_rules::specs::Calls::zero_of))]
 fn abort_at<A: Access>(value: u64, dp: u64, held: &mut Held, access: &mut A) -> Result<Value, End>
     requires ready { IsReady held.old.units (A.reported access.old) }
-    ensures gives { MeansCall A.begun A.reported access.old access.new held.old held.new result
-        (λ w s. c.zero_of (late A.cost w) (c.abort_at (late A.cost w) value dp s)) }
-    ensures keeps { Keeps A.begun A.reported A.identity access.old access.new }
-    ensures ends { EndsCall result held.new.units (A.reported access.new) }
+    ensures { RunsCall (λ m s. c.zero_of m (c.abort_at m value dp s)) A.cost A.begun A.reported A.identity held.old access.old held.new access.new result }
 {
     if dp != 0 {
         return Err(End::Halted(HaltCause::Unsupported));
@@ -34,10 +28,7 @@ fn abort_at<A: Access>(value: u64, dp: u64, held: &mut Held, access: &mut A) -> 
 #[tactic(auto, unfolding(sequence_rules::specs::Calls::abort, sequence_rules::specs::Calls::zero_of), using(crate::proofs::Leaves::goes_on))]
 pub(crate) fn abort<A: Access>(value: u64, held: &mut Held, access: &mut A) -> Result<Value, End>
     requires ready { IsReady held.old.units (A.reported access.old) }
-    ensures gives { MeansCall A.begun A.reported access.old access.new held.old held.new result
-        (λ w s. c.zero_of (late A.cost w) (c.abort (late A.cost w) value s)) }
-    ensures keeps { Keeps A.begun A.reported A.identity access.old access.new }
-    ensures ends { EndsCall result held.new.units (A.reported access.new) }
+    ensures { RunsCall (λ m s. c.zero_of m (c.abort m value s)) A.cost A.begun A.reported A.identity held.old access.old held.new access.new result }
 {
     let dp = use_debug_port(held, access)?;
     abort_at(value, dp, held, access)
@@ -47,10 +38,7 @@ pub(crate) fn abort<A: Access>(value: u64, held: &mut Held, access: &mut A) -> R
 #[tactic(auto, unfolding(sequence_rules::specs::Calls::delay, sequence_rules::specs::Calls::zero_of))]
 pub(crate) fn delay<A: Access>(micros: u64, held: &mut Held, access: &mut A) -> Result<Value, End>
     requires ready { IsReady held.old.units (A.reported access.old) }
-    ensures gives { MeansCall A.begun A.reported access.old access.new held.old held.new result
-        (λ w s. c.zero_of (late A.cost w) (c.delay (late A.cost w) micros s)) }
-    ensures keeps { Keeps A.begun A.reported A.identity access.old access.new }
-    ensures ends { EndsCall result held.new.units (A.reported access.new) }
+    ensures { RunsCall (λ m s. c.zero_of m (c.delay m micros s)) A.cost A.begun A.reported A.identity held.old access.old held.new access.new result }
 {
     if micros > 60_000_000 {
         return Err(End::Halted(HaltCause::ArgumentOutOfRange));
@@ -66,10 +54,7 @@ pub(crate) fn set_clock<A: Access>(
     access: &mut A,
 ) -> Result<Value, End>
     requires ready { IsReady held.old.units (A.reported access.old) }
-    ensures gives { MeansCall A.begun A.reported access.old access.new held.old held.new result
-        (λ w s. c.zero_of (late A.cost w) (c.clock (late A.cost w) hertz s)) }
-    ensures keeps { Keeps A.begun A.reported A.identity access.old access.new }
-    ensures ends { EndsCall result held.new.units (A.reported access.new) }
+    ensures { RunsCall (λ m s. c.zero_of m (c.clock m hertz s)) A.cost A.begun A.reported A.identity held.old access.old held.new access.new result }
 {
     if hertz == 0 || hertz > 0xFFFF_FFFF {
         return Err(End::Halted(HaltCause::ArgumentOutOfRange));
@@ -87,9 +72,7 @@ pub(crate) fn set_pins<A: Access>(
     access: &mut A,
 ) -> Result<Value, End>
     requires ready { IsReady held.old.units (A.reported access.old) }
-    ensures gives { MeansCall A.begun A.reported access.old access.new held.old held.new result (λ w. c.pins (late A.cost w) output select wait) }
-    ensures keeps { Keeps A.begun A.reported A.identity access.old access.new }
-    ensures ends { EndsCall result held.new.units (A.reported access.new) }
+    ensures { RunsCall (λ m. c.pins m output select wait) A.cost A.begun A.reported A.identity held.old access.old held.new access.new result }
 {
     match pins_command(output, select, wait) {
         Ok(call) => command(call, held, access),
@@ -106,10 +89,7 @@ pub(crate) fn send_bits<A: Access>(
     access: &mut A,
 ) -> Result<Value, End>
     requires ready { IsReady held.old.units (A.reported access.old) }
-    ensures gives { MeansCall A.begun A.reported access.old access.new held.old held.new result
-        (λ w s. c.zero_of (late A.cost w) (c.line_bits (late A.cost w) count bits s)) }
-    ensures keeps { Keeps A.begun A.reported A.identity access.old access.new }
-    ensures ends { EndsCall result held.new.units (A.reported access.new) }
+    ensures { RunsCall (λ m s. c.zero_of m (c.line_bits m count bits s)) A.cost A.begun A.reported A.identity held.old access.old held.new access.new result }
 {
     if count == 0 || count > 64 {
         return Err(End::Halted(HaltCause::ArgumentOutOfRange));

@@ -1,10 +1,7 @@
 //! Calls that access registers.
-ghost use Rattle.access_calls.specs.Keeps.{Keeps};
 ghost use Rattle.sequence_rules.specs.Calls as c;
-ghost use Rattle.sequence_rules.specs.Late.{late};
 ghost use Rattle.function_calls.specs.Ends.{as_port};
-ghost use Rattle.function_calls.specs.Frame.{EndsCall, IsReady};
-ghost use Rattle.function_calls.specs.Means.{MeansCall};
+ghost use Rattle.function_calls.specs.Frame.{IsReady, RunsCall};
 
 use crate::asking::ask_for_result;
 use crate::end::End;
@@ -25,10 +22,7 @@ fn access_ap_at<A: Access>(
     access: &mut A,
 ) -> Result<Value, End>
     requires ready { IsReady held.old.units (A.reported access.old) }
-    ensures gives { MeansCall A.begun A.reported access.old access.new held.old held.new result
-        (λ w. c.ap_at (late A.cost w) read addr value (as_port port)) }
-    ensures keeps { Keeps A.begun A.reported A.identity access.old access.new }
-    ensures ends { EndsCall result held.new.units (A.reported access.new) }
+    ensures { RunsCall (λ m. c.ap_at m read addr value (as_port port)) A.cost A.begun A.reported A.identity held.old access.old held.new access.new result }
 {
     match ap_unit(read, addr, value, port.ap, port.dp) {
         Ok(unit) => ask_for_result(read, unit, port.forgive, held, access),
@@ -46,9 +40,7 @@ pub(crate) fn access_ap<A: Access>(
     access: &mut A,
 ) -> Result<Value, End>
     requires ready { IsReady held.old.units (A.reported access.old) }
-    ensures gives { MeansCall A.begun A.reported access.old access.new held.old held.new result (λ w. c.ap_register (late A.cost w) read addr value) }
-    ensures keeps { Keeps A.begun A.reported A.identity access.old access.new }
-    ensures ends { EndsCall result held.new.units (A.reported access.new) }
+    ensures { RunsCall (λ m. c.ap_register m read addr value) A.cost A.begun A.reported A.identity held.old access.old held.new access.new result }
 {
     let port = use_port(held, access)?;
     access_ap_at(read, addr, value, port, held, access)
@@ -65,9 +57,7 @@ fn access_dp_at<A: Access>(
     access: &mut A,
 ) -> Result<Value, End>
     requires ready { IsReady held.old.units (A.reported access.old) }
-    ensures gives { MeansCall A.begun A.reported access.old access.new held.old held.new result (λ w. c.dp_at (late A.cost w) read addr value dp) }
-    ensures keeps { Keeps A.begun A.reported A.identity access.old access.new }
-    ensures ends { EndsCall result held.new.units (A.reported access.new) }
+    ensures { RunsCall (λ m. c.dp_at m read addr value dp) A.cost A.begun A.reported A.identity held.old access.old held.new access.new result }
 {
     match dp_unit(read, addr, value, dp) {
         Ok(unit) => ask_for_result(read, unit, false, held, access),
@@ -85,9 +75,7 @@ pub(crate) fn access_dp<A: Access>(
     access: &mut A,
 ) -> Result<Value, End>
     requires ready { IsReady held.old.units (A.reported access.old) }
-    ensures gives { MeansCall A.begun A.reported access.old access.new held.old held.new result (λ w. c.dp_register (late A.cost w) read addr value) }
-    ensures keeps { Keeps A.begun A.reported A.identity access.old access.new }
-    ensures ends { EndsCall result held.new.units (A.reported access.new) }
+    ensures { RunsCall (λ m. c.dp_register m read addr value) A.cost A.begun A.reported A.identity held.old access.old held.new access.new result }
 {
     let dp = use_debug_port(held, access)?;
     access_dp_at(read, addr, value, dp, held, access)

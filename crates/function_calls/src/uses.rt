@@ -1,18 +1,16 @@
 //! Values, where they are used.
-ghost use Rattle.std.specs.Prelude.{◌≡◌, ℕ, List, Option, None, OnOk, IfErr};
+ghost use Rattle.std.specs.Prelude.{◌≡◌, ℕ, Option, None, OnOk, IfErr};
 ghost use Rattle.probe_core.specs.Bench.{BenchState};
 ghost use Rattle.target_calls.specs.NeedPoints.{needed};
 ghost use Rattle.target_calls.specs.World.{stop};
 ghost use Rattle.access_calls.specs.Left.{IsLeft};
 ghost use Rattle.access_calls.specs.Reported.{world_from};
 ghost use Rattle.access_calls.specs.Keeps.{Keeps};
-ghost use Rattle.sequence_rules.specs.declared.bindings.Binding.{Binding};
 ghost use Rattle.sequence_rules.specs.Calls as c;
 ghost use Rattle.sequence_rules.specs.Late.{late};
 ghost use Rattle.sequence_rules.specs.Values as v;
-ghost use Rattle.function_calls.specs.Ends.{IsStopAt, MeansLate, MeansLateBy};
-ghost use Rattle.function_calls.specs.Frame.{EndsUse};
-ghost use Rattle.function_calls.specs.Held.{state_with};
+ghost use Rattle.function_calls.specs.Ends.{IsStopAt, answer_by};
+ghost use Rattle.function_calls.specs.Frame.{EndsUse, UsesValues};
 
 use crate::end::End;
 use access_calls::Access;
@@ -23,12 +21,7 @@ use target_calls::Value;
 #[tactic(auto, unfolding(sequence_rules::specs::Calls::use_now, sequence_rules::specs::Late::late), using(crate::proofs::Leaves::leaves))]
 pub fn use_value<A: Access>(value: Value, access: &mut A) -> Result<u64, End>
     requires open { (A.reported access.old).end ≡ None }
-    ensures gives { (m : BenchState) (answered : Option ℕ) (globals locals : List (Binding Value)) (units lines steps : ℕ) (written : Option (List ℕ))
-        → A.begun access.old m → IsLeft (A.reported access.new) answered
-        → MeansLate (world_from m answered) (A.reported access.new) result (state_with globals locals units lines steps (A.reported access.new).asks written)
-        (c.use_now (late A.cost (world_from m answered)) value (state_with globals locals units lines steps (A.reported access.old).asks written)) }
-    ensures keeps { Keeps A.begun A.reported A.identity access.old access.new }
-    ensures ends { EndsUse result (A.reported access.old) (A.reported access.new) }
+    ensures { UsesValues (λ m. c.use_now m value) A.cost A.begun A.reported A.identity access.old access.new result }
 {
     match value {
         Value::Number(number) => Ok(number),
@@ -43,12 +36,7 @@ pub fn use_value<A: Access>(value: Value, access: &mut A) -> Result<u64, End>
 #[tactic(auto, unfolding(sequence_rules::specs::Values::both), using(crate::proofs::Leaves::exits, access_calls::proofs::KeepLemmas::goes_trans))]
 pub fn use_both<A: Access>(left: Value, right: Value, access: &mut A) -> Result<(u64, u64), End>
     requires open { (A.reported access.old).end ≡ None }
-    ensures gives { (m : BenchState) (answered : Option ℕ) (globals locals : List (Binding Value)) (units lines steps : ℕ) (written : Option (List ℕ))
-        → A.begun access.old m → IsLeft (A.reported access.new) answered
-        → MeansLate (world_from m answered) (A.reported access.new) result (state_with globals locals units lines steps (A.reported access.new).asks written)
-        (v.both (late A.cost (world_from m answered)) left right (state_with globals locals units lines steps (A.reported access.old).asks written)) }
-    ensures keeps { Keeps A.begun A.reported A.identity access.old access.new }
-    ensures ends { EndsUse result (A.reported access.old) (A.reported access.new) }
+    ensures { UsesValues (λ m. v.both m left right) A.cost A.begun A.reported A.identity access.old access.new result }
 {
     let left = use_value(left, access)?;
     let right = use_value(right, access)?;
@@ -63,13 +51,7 @@ pub fn use_values<A: Access>(
     access: &mut A,
 ) -> Result<Vec<u64>, End>
     requires open { (A.reported access.old).end ≡ None }
-    ensures gives { (m : BenchState) (answered : Option ℕ) (globals locals : List (Binding Value)) (units lines steps : ℕ) (written : Option (List ℕ))
-        → A.begun access.old m → IsLeft (A.reported access.new) answered
-        → MeansLateBy (world_from m answered) (A.reported access.new) (λ numbers. numbers.items) result
-        (state_with globals locals units lines steps (A.reported access.new).asks written)
-        (v.all_used (late A.cost (world_from m answered)) values.now (state_with globals locals units lines steps (A.reported access.old).asks written)) }
-    ensures keeps { Keeps A.begun A.reported A.identity access.old access.new }
-    ensures ends { EndsUse result (A.reported access.old) (A.reported access.new) }
+    ensures { UsesValues (λ m. v.all_used m values.now) A.cost A.begun A.reported A.identity access.old access.new (answer_by (λ numbers. numbers.items) result) }
 {
     let mut numbers = Vec::new(alloc);
     for value in values {

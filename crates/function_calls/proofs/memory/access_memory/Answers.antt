@@ -1,15 +1,13 @@
-use Rattle.access_calls.specs.Reported.{world_from}
-use Rattle.sequence_rules.specs.Calls.{port, memory}
-use Rattle.sequence_rules.specs.Late.{late}
-use Rattle.function_calls.specs.Held.{state_of}
-use Rattle.function_calls.proofs.Leaves.{ends_on, later_memory_at, passed}
+use Rattle.sequence_rules.specs.Calls.{memory}
+use Rattle.function_calls.proofs.FrameLemmas.{call_by_use, call_end, call_on}
+use Rattle.function_calls.proofs.Leaves.{later_memory_at}
 use Rattle.function_calls.proofs.memory.access_memory.Goals as goal
 
-pub returns-in_err-port-clause-gives : goal.returns-in_err-port-clause-gives
+pub returns-in_err-port : goal.returns-in_err-port
 unfolding memory
-returns-in_err-port-clause-gives g c = λ m answered written b l.
-    let w = world_from m answered in
-    let s = state_of c.args.held.now (g.A.Access.reported c.args.access.now).asks written in
-    passed _ _ _ _ _ c.from_residual.result c.from_residual.ensures.1
-    (ends_on w (g.A.Access.reported c.use_port.new.access) c.in_err-port.field-0.0 (state_of c.args.held.now (g.A.Access.reported c.use_port.new.access).asks written) (port (late g.A.Access.cost w) s) _
-    (c.in_err-port.ensures.gives m answered written b l) (λ x. later_memory_at g.A.Access.cost w c.args.size c.args.read c.args.address c.args.value x.0 x.1))
+returns-in_err-port g c =
+    call_end _ (λ cost w x. later_memory_at cost w c.args.size c.args.read c.args.address c.args.value x.0 x.1) c.from_residual.ensures.1 (call_by_use c.requires.ready c.in_err-port.ensures)
+
+pub returns : goal.returns
+unfolding memory
+returns g c = call_on _ (call_by_use c.requires.ready c.in_ok-port.ensures) c.access_memory_at.ensures

@@ -1,16 +1,12 @@
-use Rattle.std.proofs.Common.{codes}
-use Rattle.access_calls.specs.Reported.{world_from}
-use Rattle.sequence_rules.specs.Calls.{global, port}
-use Rattle.sequence_rules.specs.Late.{late}
-use Rattle.function_calls.specs.Held.{state_of}
-use Rattle.function_calls.proofs.Leaves.{ends_on, later_port_from, passed_by}
+use Rattle.sequence_rules.specs.Calls.{port}
+use Rattle.function_calls.proofs.FrameLemmas.{use_end, use_on}
+use Rattle.function_calls.proofs.Leaves.{err_by, later_port_from}
 use Rattle.function_calls.proofs.ports.use_port.Goals as goal
 
-pub returns-in_err-ap-clause-gives : goal.returns-in_err-ap-clause-gives
+pub returns-in_err-ap : goal.returns-in_err-ap
 unfolding port
-returns-in_err-ap-clause-gives g c = λ m answered written b l.
-    let w = world_from m answered in
-    let s = state_of c.args.held.now (g.A.Access.reported c.args.access.now).asks written in
-    passed_by _ _ _ _ _ _ c.from_residual.result c.from_residual.ensures.1
-    (ends_on w (g.A.Access.reported c.use_access_port.new.access) c.in_err-ap.field-0.0 (state_of c.args.held.now (g.A.Access.reported c.use_access_port.new.access).asks written) (global (late g.A.Access.cost w) (codes "__ap") s) _
-    (c.in_err-ap.ensures.gives m answered written b l) (λ x. later_port_from g.A.Access.cost w x.0 x.1))
+returns-in_err-ap g c = use_end _ (λ cost w x. later_port_from cost w x.0 x.1) (err_by _ _ c.from_residual.result c.from_residual.ensures.1) c.in_err-ap.ensures
+
+pub returns : goal.returns
+unfolding port
+returns g c = use_on _ c.in_ok-ap.ensures c.use_port_from.ensures

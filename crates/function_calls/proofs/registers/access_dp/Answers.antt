@@ -1,16 +1,13 @@
-use Rattle.std.proofs.Common.{codes}
-use Rattle.access_calls.specs.Reported.{world_from}
-use Rattle.sequence_rules.specs.Calls.{global, dp_register}
-use Rattle.sequence_rules.specs.Late.{late}
-use Rattle.function_calls.specs.Held.{state_of}
-use Rattle.function_calls.proofs.Leaves.{ends_on, later_dp_at, passed}
+use Rattle.sequence_rules.specs.Calls.{dp_register}
+use Rattle.function_calls.proofs.FrameLemmas.{call_by_use, call_end, call_on}
+use Rattle.function_calls.proofs.Leaves.{later_dp_at}
 use Rattle.function_calls.proofs.registers.access_dp.Goals as goal
 
-pub returns-in_err-dp-clause-gives : goal.returns-in_err-dp-clause-gives
+pub returns-in_err-dp : goal.returns-in_err-dp
 unfolding dp_register
-returns-in_err-dp-clause-gives g c = λ m answered written b l.
-    let w = world_from m answered in
-    let s = state_of c.args.held.now (g.A.Access.reported c.args.access.now).asks written in
-    passed _ _ _ _ _ c.from_residual.result c.from_residual.ensures.1
-    (ends_on w (g.A.Access.reported c.use_debug_port.new.access) c.in_err-dp.field-0.0 (state_of c.args.held.now (g.A.Access.reported c.use_debug_port.new.access).asks written) (global (late g.A.Access.cost w) (codes "__dp") s) _
-    (c.in_err-dp.ensures.gives m answered written b l) (λ x. later_dp_at g.A.Access.cost w c.args.read c.args.addr c.args.value x.0 x.1))
+returns-in_err-dp g c =
+    call_end _ (λ cost w x. later_dp_at cost w c.args.read c.args.addr c.args.value x.0 x.1) c.from_residual.ensures.1 (call_by_use c.requires.ready c.in_err-dp.ensures)
+
+pub returns : goal.returns
+unfolding dp_register
+returns g c = call_on _ (call_by_use c.requires.ready c.in_ok-dp.ensures) c.access_dp_at.ensures
