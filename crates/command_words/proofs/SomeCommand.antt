@@ -1,18 +1,19 @@
 -- Words are a command, or they are none.
 use Rattle.std.proofs.Common.{◌≡◌, ◌⊎◌, inl, inr, ℕ, ◌^◌, ◌<◌, ◌≤◌, Bool, true, false, List, [], ◌∷◌, length, bytes_eq, codes, Option, Some, None, refl, sym, ap, subst, ◌∙◌, arith}
 use Rattle.std.specs.Char.{digit_value}
-use Rattle.std.specs.Str.Parse.{AllDigits, IsNumeral, digits_value}
+use Rattle.std.specs.Str.Parse.{AllDigits, digits_value}
 use Rattle.std.specs.Cmp.Lexicographic.{bytes_decides, same_text}
 use Rattle.std.proofs.lemmas.Bool.{both_ways, cases_lt}
-use Rattle.clap.specs.Words.{Kinds, Text, fault_of}
+use Rattle.clap.specs.Words.{Kinds, fault_of}
 use Rattle.sequence_resolve.specs.declared.selection.Selection.{Selection}
 use Rattle.command_words.specs.declared.answer.Command.{Command}
 use Rattle.command_words.specs.declared.answer.Command.TheVariants.{Check, Run, Trace, Load, Scan, Gen, Audit}
 use Rattle.command_words.specs.declared.mode.Mode.{Mode}
 use Rattle.command_words.specs.declared.mode.Mode.TheVariants as mode
 use Rattle.command_words.specs.declared.options.Options.{Options}
-use Rattle.command_words.specs.Line.{IsTaken, command_line, given}
-use Rattle.command_words.specs.Table.{IsCommand, IsForPort, IsPort, IsRow, IsShortNumber, for_device, for_port, for_number, mode_text, no_options, options_by}
+use Rattle.word_options.specs.Line.{IsTaken, given}
+use Rattle.command_words.specs.Line.{command_line}
+use Rattle.command_words.specs.Table.{IsCommand, IsForPort, IsPort, IsRow, IsShortNumber, for_device, for_number, mode_text, no_options, options_by}
 use Rattle.command_words.proofs.TableLemmas.{mode_of_row, no_audit, no_check, no_gen, no_load, no_run, no_scan, no_trace}
 
 -- it is so, or it is not so
@@ -199,23 +200,23 @@ module _ (words : List (List ℕ)) where
   abbrev pub CommandOrNone : Type 0
   CommandOrNone = ((c : Command) × IsCommand words c) ⊎ ((c : Command) → IsCommand words c → ⊥)
 
-  taken_by : (faults : Kinds) → fault_of command_line words ≡ faults → Decided (IsTaken words)
+  taken_by : (faults : Kinds) → fault_of command_line words ≡ faults → Decided (IsTaken command_line words)
   unfolding IsTaken
   taken_by [] none = inl none
   taken_by (fault ∷ more) some = inr (λ taken. (let e : [] ≡ fault ∷ more = sym taken ∙ some in absurd cc))
 
-  same_mode : (m : List ℕ) → given words (codes "mode") ≡ Some m → (is : List ℕ) → given words (codes "mode") ≡ Some is → is ≡ m
+  same_mode : (m : List ℕ) → given command_line words (codes "mode") ≡ Some m → (is : List ℕ) → given command_line words (codes "mode") ≡ Some is → is ≡ m
   same_mode m e is f = same_value is m (sym f ∙ e)
 
-  found_by : IsTaken words → (o : Option (List ℕ)) → given words (codes "mode") ≡ o → CommandOrNone
-  found_by taken None none = inr (λ c is. no_value is.mode (sym none ∙ is.found))
-  found_by taken (Some m) found = elim (row m (options_by (given words))) [
-    | inl r ↦ inl (r.0, record { taken = taken; mode = m; found = found; row = r.1 })
-    | inr none ↦ inr (λ c is. none c (subst (λ (t : List ℕ). IsRow t (options_by (given words)) c) (same_mode m found is.mode is.found) is.row))
+  found_by : IsTaken command_line words → (o : Option (List ℕ)) → given command_line words (codes "mode") ≡ o → CommandOrNone
+  found_by taken None none = inr (λ c is. no_value is.found.mode (sym none ∙ is.found.found))
+  found_by taken (Some m) found = elim (row m (options_by (given command_line words))) [
+    | inl r ↦ inl (r.0, record { taken = taken; found = record { mode = m; found = found; row = r.1 } })
+    | inr none ↦ inr (λ c is. none c (subst (λ (t : List ℕ). IsRow t (options_by (given command_line words)) c) (same_mode m found is.found.mode is.found.found) is.found.row))
   ]
 
   pub command_or_none : CommandOrNone
   command_or_none = elim (taken_by (fault_of command_line words) refl) [
-    | inl taken ↦ found_by taken (given words (codes "mode")) refl
+    | inl taken ↦ found_by taken (given command_line words (codes "mode")) refl
     | inr refused ↦ inr (λ c is. refused is.taken)
   ]

@@ -8,11 +8,9 @@ use Rattle.sequence_resolve.specs.declared.selection.Selection.{Selection}
 use Rattle.command_words.specs.declared.mode.Mode.{Mode}
 use Rattle.command_words.specs.declared.mode.Mode.TheVariants as mode
 use Rattle.command_words.specs.declared.options.Options.{Options}
-use Rattle.clap.specs.Words.{first_value}
-use Rattle.clap.specs.declared.parser.matches.Found.{Found}
-use Rattle.std.proofs.Math.Path.{fun_ext}
-use Rattle.command_words.specs.Line.{Finds, IsTaken, given}
-use Rattle.command_words.specs.Table.{IsCommand, IsForPort, IsPort, IsRow, IsShortNumber, for_device, for_number, mode_text, no_options, options_by}
+use Rattle.word_options.specs.Line.{given}
+use Rattle.command_words.specs.Line.{command_line}
+use Rattle.command_words.specs.Table.{IsCommand, IsCommandBy, IsForPort, IsPort, IsRow, IsShortNumber, for_device, for_number, mode_text, no_options, options_by}
 
 -- two names of modes differ at their first bytes
 differ : (a b : List ℕ) → nat_eq (slice_index a 0) (slice_index b 0) ≡ false → a ≡ b → ⊥
@@ -129,31 +127,25 @@ of_row m o (Scan s name ap') row = ap₂ command_from row.0 row.1.1 ∙ ap (λ (
 of_row m o (Gen n) row = ap₂ command_from row.0 row.3 ∙ ap Gen row.2.value
 of_row m o Audit row = ap₂ command_from row.0 row.1
 
-of_words : (words : List (List ℕ)) (c : Command) → IsCommand words c → command_from (unwrap_or (given words (codes "mode")) []) (options_by (given words)) ≡ c
-of_words words c is = ap (λ (v : Option (List ℕ)). command_from (unwrap_or v []) (options_by (given words))) is.found ∙ of_row is.mode (options_by (given words)) c is.row
+of_words : (words : List (List ℕ)) (c : Command) → IsCommand words c → command_from (unwrap_or (given command_line words (codes "mode")) []) (options_by (given command_line words)) ≡ c
+of_words words c is =
+    let value = given command_line words in
+    ap (λ (v : Option (List ℕ)). command_from (unwrap_or v []) (options_by value)) is.found.found ∙ of_row is.found.mode (options_by value) c is.found.row
 
 pub one_command : (words : List (List ℕ)) (a b : Command) → IsCommand words a → IsCommand words b → a ≡ b
 one_command words a b is_a is_b = sym (of_words words a is_a) ∙ of_words words b is_b
 
--- ---- what the words are, by what was found in them
+-- ---- the command of the values that were found
 
-module _ (words texts : List (List ℕ)) (f : Found) (same : texts ≡ words) (found : Finds texts f) where
-  value : (name : List ℕ) → first_value f name ≡ given words name
-  value name = found name ∙ ap (λ (ws : List (List ℕ)). given ws name) same
+module _ (value : List ℕ → Option (List ℕ)) where
+  pub is_command : (m : Mode) (options : Options) (c : Command) → value (codes "mode") ≡ Some (mode_text m) → options ≡ options_by value → IsRow (mode_text m) options c → IsCommandBy value c
+  is_command m options c at_mode is row = record { mode = mode_text m; found = at_mode; row = subst (λ (o : Options). IsRow (mode_text m) o c) is row }
 
-  options_same : options_by (first_value f) ≡ options_by (given words)
-  options_same = ap options_by (fun_ext value)
+  pub no_mode : ((m : Mode) → value (codes "mode") ≡ Some (mode_text m) → ⊥) → (c : Command) → IsCommandBy value c → ⊥
+  no_mode never c is = let m = mode_of_row is.mode (options_by value) c is.row in never m.0 (is.found ∙ ap Some m.1)
 
-  pub is_command : (m : Mode) (options : Options) (c : Command) → IsTaken texts → first_value f (codes "mode") ≡ Some (mode_text m) → options ≡ options_by (first_value f)
-      → IsRow (mode_text m) options c → IsCommand words c
-  is_command m options c taken at_mode is row = record {
-    taken = subst (λ (ws : List (List ℕ)). IsTaken ws) same taken;
-    mode = mode_text m;
-    found = sym (value (codes "mode")) ∙ at_mode;
-    row = subst (λ (o : Options). IsRow (mode_text m) o c) (is ∙ options_same) row;
-  }
-
-  pub no_mode : ((m : Mode) → first_value f (codes "mode") ≡ Some (mode_text m) → ⊥) → (c : Command) → IsCommand words c → ⊥
-  no_mode never c is =
-      let m = mode_of_row is.mode (options_by (given words)) c is.row in
-      never m.0 (value (codes "mode") ∙ is.found ∙ ap Some m.1)
+  -- the mode that was found makes no command with the options
+  pub no_row : (m : Mode) (options : Options) → value (codes "mode") ≡ Some (mode_text m) → options ≡ options_by value → ((c : Command) → IsRow (mode_text m) options c → ⊥) → (c : Command) → IsCommandBy value c → ⊥
+  no_row m options at_mode is never c by =
+      let same : mode_text m ≡ by.mode = ap (λ (v : Option (List ℕ)). unwrap_or v []) (sym at_mode ∙ by.found) in
+      never c (subst (λ (o : Options). IsRow (mode_text m) o c) (sym is) (subst (λ (t : List ℕ). IsRow t (options_by value) c) (sym same) by.row))

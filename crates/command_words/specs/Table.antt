@@ -7,7 +7,8 @@ use Rattle.sequence_resolve.specs.declared.selection.Selection.{Selection}
 use Rattle.command_words.specs.declared.mode.Mode.{Mode}
 use Rattle.command_words.specs.declared.mode.Mode.TheVariants as mode
 use Rattle.command_words.specs.declared.options.Options.{Options}
-use Rattle.command_words.specs.Line.{IsTaken, given}
+use Rattle.word_options.specs.Line.{AsksFor}
+use Rattle.command_words.specs.Line.{command_line}
 
 -- one to five decimal digits, which write n, of at most 65,535
 pub record IsShortNumber (text : List ℕ) (n : ℕ) : Type 0 where
@@ -71,9 +72,12 @@ options_by value = record {
   number = value (codes "number");
 }
 
--- clap takes the words, and the mode and the options that it finds are a row of the table
-pub record IsCommand (words : List (List ℕ)) (c : Command) : Type 0 where
-  pub taken : IsTaken words
+-- a mode is found, and it makes this command with the options that are found
+pub record IsCommandBy (value : List ℕ → Option (List ℕ)) (c : Command) : Type 0 where
   pub mode : List ℕ
-  pub found : given words (codes "mode") ≡ Some mode
-  pub row : IsRow mode (options_by (given words)) c
+  pub found : value (codes "mode") ≡ Some mode
+  pub row : IsRow mode (options_by value) c
+
+-- clap takes the words, and the mode and the options that it finds are a row of the table
+abbrev pub IsCommand : List (List ℕ) → Command → Type 0
+IsCommand = AsksFor command_line IsCommandBy

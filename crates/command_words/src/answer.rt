@@ -1,7 +1,6 @@
-//! What the words ask for, and why they ask for nothing.
-use dap_base::{NameText, OutOfMemory};
+//! What the words ask for.
+use dap_base::NameText;
 use sequence_resolve::Selection;
-use std::alloc::AllocError;
 
 /// What the words ask for. A program that has not built one of these yet matches on it.
 #[derive(Debug, Drop)]
@@ -34,35 +33,4 @@ pub enum Command {
     Gen(u16),
     /// `audit`: the trace of the job is compared with what its probe does.
     Audit,
-}
-
-/// Why there is no command.
-#[derive(Clone, Copy, Debug, PartialEq, Eq)]
-pub enum WordsError {
-    /// The words are no command.
-    Usage,
-    /// Memory was refused.
-    OutOfMemory,
-}
-
-impl From<OutOfMemory> for WordsError {
-    ghost use Rattle.std.specs.Prelude.{◌≡◌};
-    ghost use Rattle.command_words.specs.declared.answer.WordsError.TheVariants as errors;
-
-    ghost from_gives = { λ _ e. e ≡ errors.OutOfMemory };
-
-    fn from(_refused: OutOfMemory) -> WordsError {
-        WordsError::OutOfMemory
-    }
-}
-
-impl From<AllocError> for WordsError {
-    ghost use Rattle.std.specs.Prelude.{◌≡◌};
-    ghost use Rattle.command_words.specs.declared.answer.WordsError.TheVariants as errors;
-
-    ghost from_gives = { λ _ e. e ≡ errors.OutOfMemory };
-
-    fn from(_refused: AllocError) -> WordsError {
-        WordsError::OutOfMemory
-    }
 }

@@ -10,5 +10,6 @@ mod options;
 mod table;
 mod top;
 
-pub use answer::{Command, WordsError};
+pub use answer::Command;
 pub use top::command_of;
+pub use word_options::WordsError;

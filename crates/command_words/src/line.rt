@@ -1,13 +1,12 @@
 //! The command line as clap reads it.
-ghost use Rattle.std.specs.Prelude.{◌≡◌, ◌≢◌, IfOk, IfErr, map, false};
-ghost use Rattle.clap.specs.Words.{app_of, found_of, kind_of, rule_of};
+ghost use Rattle.std.specs.Prelude.{◌≡◌, IfOk, map};
+ghost use Rattle.clap.specs.Words.{app_of};
+ghost use Rattle.word_options.specs.Line.{HasMatches};
 ghost use Rattle.command_words.specs.Line as spec;
-ghost use Rattle.command_words.specs.declared.answer.WordsError.TheVariants as errors;
 
-use crate::answer::WordsError;
-use clap::error::ErrorKind;
 use clap::{Arg, ArgMatches};
 use std::alloc::{AllocError, Global};
+use word_options::{WordsError, matches_by, option_arg};
 
 pub const MODE: &str = "mode";
 
@@ -20,13 +19,6 @@ pub const PNAME: &str = "pname";
 pub const SEQUENCE: &str = "sequence";
 
 pub const NUMBER: &str = "number";
-
-fn option_arg(alloc: Global, name: &str) -> Arg<'_>
-    ensures rule { rule_of result ≡ spec.option_rule name.now }
-    ensures local { result.global ≡ false }
-{
-    Arg::new(alloc, name).long(name)
-}
 
 fn command_line<'a>(alloc: Global) -> Result<clap::Command<'a>, AllocError>
     ensures { IfOk result (λ c. app_of c ≡ spec.command_line) }
@@ -41,24 +33,10 @@ fn command_line<'a>(alloc: Global) -> Result<clap::Command<'a>, AllocError>
         .arg(option_arg(alloc, NUMBER))
 }
 
-fn error_of(error: &clap::Error) -> WordsError
-    ensures { result ≡ errors.Usage → kind_of error.now ≢ ErrorKind.OutOfMemory }
-{
-    match error.kind() {
-        ErrorKind::OutOfMemory => WordsError::OutOfMemory,
-        _ => WordsError::Usage,
-    }
-}
-
 /// What clap finds in the words. `Usage` where it does not take them.
 pub fn matches_in<'a>(alloc: Global, words: &'a [&str]) -> Result<ArgMatches<'a>, WordsError>
-    ensures taken { IfOk result (λ m. spec.IsTaken (map (λ w. w.now) words.now)) }
-    ensures values { IfOk result (λ m. spec.Finds (map (λ w. w.now) words.now) (found_of m)) }
-    ensures usage { IfErr result (λ e. e ≡ errors.Usage → spec.IsTaken (map (λ w. w.now) words.now) → ⊥) }
+    ensures { HasMatches spec.command_line (map (λ w. w.now) words.now) result }
 {
     let line = command_line(alloc)?;
-    match line.try_get_matches_from(words) {
-        Ok(matches) => Ok(matches),
-        Err(error) => Err(error_of(&error)),
-    }
+    matches_by(line, words)
 }

@@ -1,27 +1,18 @@
 //! From the words to a command.
-ghost use Rattle.std.specs.Prelude.{◌≡◌, ◌≢◌, IfOk, IfErr, MatchOption, MatchResult, Some, codes, map};
+ghost use Rattle.std.specs.Prelude.{◌≡◌, ◌≢◌, IfOk, IfErr, MatchOption, MatchResult, Some, codes};
 ghost use Rattle.clap.specs.Words.{first_value, found_of};
-ghost use Rattle.command_words.specs.Table.{IsCommand, mode_text, options_by};
-ghost use Rattle.command_words.specs.declared.answer.WordsError.TheVariants as errors;
+ghost use Rattle.command_words.specs.Table.{IsCommand, IsCommandBy, mode_text, options_by};
+ghost use Rattle.word_options.specs.declared.answer.WordsError.TheVariants as errors;
 
-use crate::answer::{Command, WordsError};
+use crate::answer::Command;
 use crate::line::{DEVICE, MODE, NUMBER, PNAME, SEQUENCE, VARIANT, matches_in};
 use crate::mode::{Mode, mode_of};
 use crate::options::Options;
 use crate::table::command_in;
 use clap::ArgMatches;
-use dap_base::{NameText, OutOfMemory, Words};
-use std::alloc::{AllocError, Global};
-
-fn texts_of<'a>(alloc: Global, words: &'a Words) -> Result<Vec<&'a str>, AllocError>
-    ensures { IfOk result (λ texts. map (λ t. t.now) texts.items ≡ words.now) }
-{
-    let mut texts = Vec::new(alloc);
-    for word in words.as_slice() {
-        texts.push(word.as_str())?;
-    }
-    Ok(texts)
-}
+use dap_base::{OutOfMemory, Words};
+use std::alloc::Global;
+use word_options::{WordsError, texts_of, value_of};
 
 fn found_mode(matches: &ArgMatches<'_>) -> Option<Mode>
     ensures { let value = first_value (found_of matches.now) (codes "mode") in
@@ -30,23 +21,6 @@ fn found_mode(matches: &ArgMatches<'_>) -> Option<Mode>
     match matches.get_str(MODE) {
         Some(text) => mode_of(text),
         None => None,
-    }
-}
-
-// The value of an option, which then outlives the list of texts that clap lends it from.
-fn value_of(
-    alloc: Global,
-    matches: &ArgMatches<'_>,
-    name: &str,
-) -> Result<Option<NameText>, OutOfMemory>
-    ensures { IfOk result (λ v. v ≡ first_value (found_of matches.now) name.now) }
-{
-    match matches.get_str(name) {
-        Some(text) => {
-            let value = NameText::new(alloc, text)?;
-            Ok(Some(value))
-        }
-        None => Ok(None),
     }
 }
 
@@ -60,6 +34,21 @@ fn options_of(alloc: Global, matches: &ArgMatches<'_>) -> Result<Options, OutOfM
         sequence: value_of(alloc, matches, SEQUENCE)?,
         number: value_of(alloc, matches, NUMBER)?,
     })
+}
+
+// The command of the mode and the options that are found.
+fn command_by(alloc: Global, matches: &ArgMatches<'_>) -> Result<Command, WordsError>
+    ensures answer { IfOk result (IsCommandBy (first_value (found_of matches.now))) }
+    ensures usage { IfErr result (λ e. e ≡ errors.Usage → (c : _) → IsCommandBy (first_value (found_of matches.now)) c → ⊥) }
+{
+    let Some(mode) = found_mode(matches) else {
+        return Err(WordsError::Usage);
+    };
+    let options = options_of(alloc, matches)?;
+    match command_in(mode, options) {
+        Some(command) => Ok(command),
+        None => Err(WordsError::Usage),
+    }
 }
 
 /// The command that the words after the program's name ask for.
@@ -80,12 +69,5 @@ pub fn command_of(alloc: Global, words: &Words) -> Result<Command, WordsError>
 {
     let texts = texts_of(alloc, words)?;
     let matches = matches_in(alloc, texts.as_slice())?;
-    let Some(mode) = found_mode(&matches) else {
-        return Err(WordsError::Usage);
-    };
-    let options = options_of(alloc, &matches)?;
-    match command_in(mode, options) {
-        Some(command) => Ok(command),
-        None => Err(WordsError::Usage),
-    }
+    command_by(alloc, &matches)
 }

@@ -1,10 +1,10 @@
 -- What words ask for.
-use Rattle.std.specs.Prelude.{◌≡◌, ℕ, Bool, false, List, Option, Some, None, codes}
-use Rattle.std.specs.Str.{bytes_eq}
+use Rattle.std.specs.Prelude.{◌≡◌, ℕ, List, Option, Some, None, codes}
 use Rattle.faults_words.specs.declared.answer.Asked.{Asked}
 use Rattle.faults_words.specs.declared.format.Format.{Format}
 use Rattle.faults_words.specs.declared.format.Format.TheVariants as formats
-use Rattle.faults_words.specs.Line.{IsTaken, given}
+use Rattle.word_options.specs.Line.{AsksFor, is_set}
+use Rattle.faults_words.specs.Line.{command_line}
 
 -- the name of a format
 abbrev pub format_text : Format → List ℕ
@@ -17,11 +17,6 @@ abbrev pub IsFormat : Option (List ℕ) → Format → Type 0
 IsFormat None format = format ≡ formats.Text
 IsFormat (Some name) format = name ≡ format_text format
 
--- a flag that is given has this value
-abbrev pub is_set : Option (List ℕ) → Bool
-is_set None = false
-is_set (Some value) = bytes_eq value (codes "true")
-
 -- what the values of the options ask for, by the value of each name
 pub record IsAskedBy (value : List ℕ → Option (List ℕ)) (a : Asked) : Type 0 where
   pub device : a.device ≡ value (codes "device")
@@ -31,6 +26,5 @@ pub record IsAskedBy (value : List ℕ → Option (List ℕ)) (a : Asked) : Type
   pub warnings : a.warnings ≡ is_set (value (codes "warnings"))
 
 -- clap takes the words, and finds these values in them
-pub record Asks (words : List (List ℕ)) (a : Asked) : Type 0 where
-  pub taken : IsTaken words
-  pub found : IsAskedBy (given words) a
+abbrev pub Asks : List (List ℕ) → Asked → Type 0
+Asks = AsksFor command_line IsAskedBy

@@ -1,7 +1,6 @@
-//! What the words ask for, and why they ask for nothing.
+//! What the words ask for.
 use crate::format::Format;
-use dap_base::{NameText, OutOfMemory};
-use std::alloc::AllocError;
+use dap_base::NameText;
 
 /// What the words ask for.
 #[derive(Debug, Drop)]
@@ -16,35 +15,4 @@ pub struct Asked {
     pub format: Format,
     /// Whether the warnings of valid sets are written too.
     pub warnings: bool,
-}
-
-/// Why the words ask for nothing.
-#[derive(Clone, Copy, Debug, PartialEq, Eq)]
-pub enum WordsError {
-    /// The words are wrong.
-    Usage,
-    /// Memory was refused.
-    OutOfMemory,
-}
-
-impl From<OutOfMemory> for WordsError {
-    ghost use Rattle.std.specs.Prelude.{◌≡◌};
-    ghost use Rattle.faults_words.specs.declared.answer.WordsError.TheVariants as errors;
-
-    ghost from_gives = { λ _ e. e ≡ errors.OutOfMemory };
-
-    fn from(_refused: OutOfMemory) -> WordsError {
-        WordsError::OutOfMemory
-    }
-}
-
-impl From<AllocError> for WordsError {
-    ghost use Rattle.std.specs.Prelude.{◌≡◌};
-    ghost use Rattle.faults_words.specs.declared.answer.WordsError.TheVariants as errors;
-
-    ghost from_gives = { λ _ e. e ≡ errors.OutOfMemory };
-
-    fn from(_refused: AllocError) -> WordsError {
-        WordsError::OutOfMemory
-    }
 }

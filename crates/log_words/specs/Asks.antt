@@ -1,9 +1,9 @@
 -- What words ask for.
-use Rattle.std.specs.Prelude.{◌≡◌, ℕ, ◌≤◌, Bool, false, List, length, Option, Some, None, codes}
-use Rattle.std.specs.Str.{bytes_eq}
+use Rattle.std.specs.Prelude.{◌≡◌, ℕ, ◌≤◌, List, length, Option, Some, None, codes}
 use Rattle.std.specs.Str.Parse.{IsNumeral, digits_value}
 use Rattle.log_words.specs.declared.answer.Asked.{Asked}
-use Rattle.log_words.specs.Line.{IsTaken, given}
+use Rattle.word_options.specs.Line.{AsksFor, is_set}
+use Rattle.log_words.specs.Line.{command_line}
 
 -- one to seven decimal digits, which write n, of at most 1,000,000
 pub record IsTurnsText (text : List ℕ) (n : ℕ) : Type 0 where
@@ -17,11 +17,6 @@ abbrev pub IsTurns : Option (List ℕ) → ℕ → Type 0
 IsTurns None n = n ≡ 2
 IsTurns (Some text) n = IsTurnsText text n
 
--- a flag that is given has this value
-abbrev pub is_set : Option (List ℕ) → Bool
-is_set None = false
-is_set (Some value) = bytes_eq value (codes "true")
-
 -- what the values of the options ask for, by the value of each name
 pub record IsAskedBy (value : List ℕ → Option (List ℕ)) (a : Asked) : Type 0 where
   pub device : value (codes "device") ≡ Some a.selection.device
@@ -32,6 +27,5 @@ pub record IsAskedBy (value : List ℕ → Option (List ℕ)) (a : Asked) : Type
   pub fail : a.fail ≡ is_set (value (codes "fail"))
 
 -- clap takes the words, and finds these values in them
-pub record Asks (words : List (List ℕ)) (a : Asked) : Type 0 where
-  pub taken : IsTaken words
-  pub found : IsAskedBy (given words) a
+abbrev pub Asks : List (List ℕ) → Asked → Type 0
+Asks = AsksFor command_line IsAskedBy

@@ -1,7 +1,6 @@
-//! What the words ask for, and why they ask for nothing.
-use dap_base::{NameText, OutOfMemory};
+//! What the words ask for.
+use dap_base::NameText;
 use sequence_resolve::Selection;
-use std::alloc::AllocError;
 
 /// What the words ask for.
 #[derive(Debug, Drop)]
@@ -14,35 +13,4 @@ pub struct Asked {
     pub turns: u32,
     /// Whether `--fail` is given.
     pub fail: bool,
-}
-
-/// Why the words ask for nothing.
-#[derive(Clone, Copy, Debug, PartialEq, Eq)]
-pub enum WordsError {
-    /// The words are wrong.
-    Usage,
-    /// Memory was refused.
-    OutOfMemory,
-}
-
-impl From<OutOfMemory> for WordsError {
-    ghost use Rattle.std.specs.Prelude.{◌≡◌};
-    ghost use Rattle.log_words.specs.declared.answer.WordsError.TheVariants as errors;
-
-    ghost from_gives = { λ _ e. e ≡ errors.OutOfMemory };
-
-    fn from(_refused: OutOfMemory) -> WordsError {
-        WordsError::OutOfMemory
-    }
-}
-
-impl From<AllocError> for WordsError {
-    ghost use Rattle.std.specs.Prelude.{◌≡◌};
-    ghost use Rattle.log_words.specs.declared.answer.WordsError.TheVariants as errors;
-
-    ghost from_gives = { λ _ e. e ≡ errors.OutOfMemory };
-
-    fn from(_refused: AllocError) -> WordsError {
-        WordsError::OutOfMemory
-    }
 }

@@ -6,5 +6,6 @@ mod line;
 mod top;
 mod turns;
 
-pub use answer::{Asked, WordsError};
+pub use answer::Asked;
 pub use top::asked_of;
+pub use word_options::WordsError;

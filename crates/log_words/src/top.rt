@@ -1,64 +1,17 @@
 //! From the words to what they ask for.
-ghost use Rattle.std.specs.Prelude.{◌≡◌, IfOk, IfErr, MatchResult, None, Some, map};
+ghost use Rattle.std.specs.Prelude.{◌≡◌, IfOk, IfErr, MatchResult};
 ghost use Rattle.clap.specs.Words.{first_value, found_of};
-ghost use Rattle.log_words.specs.Asks.{Asks, IsAskedBy, is_set};
-ghost use Rattle.log_words.specs.declared.answer.WordsError.TheVariants as errors;
+ghost use Rattle.log_words.specs.Asks.{Asks, IsAskedBy};
+ghost use Rattle.word_options.specs.declared.answer.WordsError.TheVariants as errors;
 
-use crate::answer::{Asked, WordsError};
+use crate::answer::Asked;
 use crate::line::{DEVICE, FAIL, PNAME, SEQUENCE, TURNS, VARIANT, matches_in};
 use crate::turns::turns_of;
 use clap::ArgMatches;
-use dap_base::{NameText, OutOfMemory, Words};
+use dap_base::Words;
 use sequence_resolve::Selection;
-use std::alloc::{AllocError, Global};
-
-fn texts_of<'a>(alloc: Global, words: &'a Words) -> Result<Vec<&'a str>, AllocError>
-    ensures { IfOk result (λ texts. map (λ t. t.now) texts.items ≡ words.now) }
-{
-    let mut texts = Vec::new(alloc);
-    for word in words.as_slice() {
-        texts.push(word.as_str())?;
-    }
-    Ok(texts)
-}
-
-// The value of an option, which then outlives the list of texts that clap lends it from.
-fn value_of(
-    alloc: Global,
-    matches: &ArgMatches<'_>,
-    name: &str,
-) -> Result<Option<NameText>, OutOfMemory>
-    ensures { IfOk result (λ v. v ≡ first_value (found_of matches.now) name.now) }
-{
-    match matches.get_str(name) {
-        Some(text) => {
-            let value = NameText::new(alloc, text)?;
-            Ok(Some(value))
-        }
-        None => Ok(None),
-    }
-}
-
-// The value of an option that must be given.
-fn needed_value(alloc: Global, matches: &ArgMatches<'_>, name: &str) -> Result<NameText, WordsError>
-    ensures value { IfOk result (λ v. first_value (found_of matches.now) name.now ≡ Some v) }
-    ensures usage { IfErr result (λ e. e ≡ errors.Usage → first_value (found_of matches.now) name.now ≡ None) }
-{
-    match matches.get_str(name) {
-        Some(text) => Ok(NameText::new(alloc, text)?),
-        None => Err(WordsError::Usage),
-    }
-}
-
-// Whether a flag is given.
-fn is_set(matches: &ArgMatches<'_>, name: &str) -> bool
-    ensures { result ≡ is_set (first_value (found_of matches.now) name.now) }
-{
-    match matches.get_str(name) {
-        Some(value) => value == "true",
-        None => false,
-    }
-}
+use std::alloc::Global;
+use word_options::{WordsError, is_set, needed_value, texts_of, value_of};
 
 // What the values of the options ask for.
 fn asked_by(alloc: Global, matches: &ArgMatches<'_>) -> Result<Asked, WordsError>

@@ -1,7 +1,8 @@
 use Rattle.std.proofs.Common.{◌≡◌, ◌∙◌, ap, false}
 use Rattle.std.proofs.lemmas.Result.{IfOk-weaker}
 use Rattle.clap.specs.Words.{app_of}
-use Rattle.command_words.proofs.LineLemmas.{is_whole, needed_rule, one_more, unnamed, unnamed_app, with_device, with_mode, with_pname, with_sequence, with_variant}
+use Rattle.word_options.proofs.LineLemmas.{needed_rule, one_more, unnamed, unnamed_app}
+use Rattle.command_words.proofs.LineLemmas.{is_whole, with_device, with_mode, with_pname, with_sequence, with_variant}
 use Rattle.command_words.proofs.line.command_line.Goals as goal
 
 pub returns : goal.returns

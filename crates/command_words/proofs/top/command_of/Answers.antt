@@ -1,30 +1,23 @@
 use Rattle.std.proofs.Common.{◌∙◌, ap, map, List, ℕ, Bor}
-use Rattle.clap.specs.Words.{found_of}
-use Rattle.command_words.proofs.TableLemmas.{is_command, no_mode, one_command}
+use Rattle.word_options.proofs.AskLemmas.{answered, no_usage, only_asked}
+use Rattle.command_words.specs.Line.{command_line}
+use Rattle.command_words.specs.Table.{IsCommand, IsCommandBy}
+use Rattle.command_words.proofs.TableLemmas.{one_command}
 use Rattle.command_words.proofs.top.command_of.Goals as goal
 
 abbrev texts : List (Bor (List ℕ)) → List (List ℕ)
 texts = map (λ t. t.now)
 
-pub returns-in_default-clause-only : goal.returns-in_default-clause-only
-returns-in_default-clause-only c =
-    λ it is. absurd (no_mode c.args.words.now (texts c.as_slice.result.now) (found_of c.in_ok-matches.matches)
-    (ap texts c.as_slice.ensures.value ∙ c.in_ok-texts.ensures) c.in_ok-matches.ensures.values c.in_default.ensures it is)
+pub returns-clause-answer : goal.returns-clause-answer
+returns-clause-answer c =
+    answered command_line IsCommandBy c.args.words.now (texts c.as_slice.result.now) c.in_ok-matches.matches c.command_by.result
+    (ap texts c.as_slice.ensures.value ∙ c.in_ok-texts.ensures) c.in_ok-matches.ensures c.command_by.ensures.answer
 
-pub returns-in_default-clause-usage : goal.returns-in_default-clause-usage
-returns-in_default-clause-usage c =
-    λ _. no_mode c.args.words.now (texts c.as_slice.result.now) (found_of c.in_ok-matches.matches)
-    (ap texts c.as_slice.ensures.value ∙ c.in_ok-texts.ensures) c.in_ok-matches.ensures.values c.in_default.ensures
+pub returns-clause-usage : goal.returns-clause-usage
+returns-clause-usage c =
+    no_usage command_line IsCommandBy c.args.words.now (texts c.as_slice.result.now) c.in_ok-matches.matches c.command_by.result
+    (ap texts c.as_slice.ensures.value ∙ c.in_ok-texts.ensures) c.in_ok-matches.ensures c.command_by.ensures.usage
 
-pub returns-in-Some-command_in-clause-answer : goal.returns-in-Some-command_in-clause-answer
-returns-in-Some-command_in-clause-answer c =
-    is_command c.args.words.now (texts c.as_slice.result.now) (found_of c.in_ok-matches.matches)
-    (ap texts c.as_slice.ensures.value ∙ c.in_ok-texts.ensures) c.in_ok-matches.ensures.values
-    c.in-Some.mode c.in_ok-options.options c.in-Some-command_in.command c.in_ok-matches.ensures.taken c.in-Some.ensures c.in_ok-options.ensures c.in-Some-command_in.ensures
-
-pub returns-in-Some-command_in-clause-only : goal.returns-in-Some-command_in-clause-only
-returns-in-Some-command_in-clause-only c =
-    λ it is. one_command c.args.words.now c.in-Some-command_in.command it
-    (is_command c.args.words.now (texts c.as_slice.result.now) (found_of c.in_ok-matches.matches)
-    (ap texts c.as_slice.ensures.value ∙ c.in_ok-texts.ensures) c.in_ok-matches.ensures.values
-    c.in-Some.mode c.in_ok-options.options c.in-Some-command_in.command c.in_ok-matches.ensures.taken c.in-Some.ensures c.in_ok-options.ensures c.in-Some-command_in.ensures) is
+pub returns-clause-only : goal.returns-clause-only
+returns-clause-only c =
+    only_asked (IsCommand c.args.words.now) c.command_by.result (one_command c.args.words.now) (returns-clause-answer c) (returns-clause-usage c)

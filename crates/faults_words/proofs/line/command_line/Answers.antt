@@ -1,7 +1,8 @@
 use Rattle.std.proofs.Common.{◌≡◌, ◌∙◌, ap}
 use Rattle.std.proofs.lemmas.Result.{IfOk-weaker}
 use Rattle.clap.specs.Words.{app_of}
-use Rattle.faults_words.proofs.LineLemmas.{is_whole, one_more, unnamed, unnamed_app, with_device, with_format, with_pname, with_variant}
+use Rattle.word_options.proofs.LineLemmas.{one_more, unnamed, unnamed_app}
+use Rattle.faults_words.proofs.LineLemmas.{is_whole, with_device, with_format, with_pname, with_variant}
 use Rattle.faults_words.proofs.line.command_line.Goals as goal
 
 pub returns : goal.returns

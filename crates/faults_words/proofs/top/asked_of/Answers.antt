@@ -1,6 +1,8 @@
 use Rattle.std.proofs.Common.{◌∙◌, ap, map, List, ℕ, Bor}
-use Rattle.clap.specs.Words.{found_of}
-use Rattle.faults_words.proofs.AskLemmas.{answered, no_usage, only_asked}
+use Rattle.word_options.proofs.AskLemmas.{answered, no_usage, only_asked}
+use Rattle.faults_words.specs.Asks.{Asks, IsAskedBy}
+use Rattle.faults_words.specs.Line.{command_line}
+use Rattle.faults_words.proofs.AskLemmas.{one_asked}
 use Rattle.faults_words.proofs.top.asked_of.Goals as goal
 
 abbrev texts : List (Bor (List ℕ)) → List (List ℕ)
@@ -8,18 +10,14 @@ texts = map (λ t. t.now)
 
 pub returns-clause-answer : goal.returns-clause-answer
 returns-clause-answer c =
-    answered c.args.words.now (texts c.as_slice.result.now) (found_of c.in_ok-matches.matches) c.asked_by.result
-    (ap texts c.as_slice.ensures.value ∙ c.in_ok-texts.ensures) c.in_ok-matches.ensures.values c.in_ok-matches.ensures.taken c.asked_by.ensures.answer
+    answered command_line IsAskedBy c.args.words.now (texts c.as_slice.result.now) c.in_ok-matches.matches c.asked_by.result
+    (ap texts c.as_slice.ensures.value ∙ c.in_ok-texts.ensures) c.in_ok-matches.ensures c.asked_by.ensures.answer
 
 pub returns-clause-usage : goal.returns-clause-usage
 returns-clause-usage c =
-    no_usage c.args.words.now (texts c.as_slice.result.now) (found_of c.in_ok-matches.matches) c.asked_by.result
-    (ap texts c.as_slice.ensures.value ∙ c.in_ok-texts.ensures) c.in_ok-matches.ensures.values c.asked_by.ensures.usage
+    no_usage command_line IsAskedBy c.args.words.now (texts c.as_slice.result.now) c.in_ok-matches.matches c.asked_by.result
+    (ap texts c.as_slice.ensures.value ∙ c.in_ok-texts.ensures) c.in_ok-matches.ensures c.asked_by.ensures.usage
 
 pub returns-clause-only : goal.returns-clause-only
 returns-clause-only c =
-    only_asked c.args.words.now c.asked_by.result
-    (answered c.args.words.now (texts c.as_slice.result.now) (found_of c.in_ok-matches.matches) c.asked_by.result
-    (ap texts c.as_slice.ensures.value ∙ c.in_ok-texts.ensures) c.in_ok-matches.ensures.values c.in_ok-matches.ensures.taken c.asked_by.ensures.answer)
-    (no_usage c.args.words.now (texts c.as_slice.result.now) (found_of c.in_ok-matches.matches) c.asked_by.result
-    (ap texts c.as_slice.ensures.value ∙ c.in_ok-texts.ensures) c.in_ok-matches.ensures.values c.asked_by.ensures.usage)
+    only_asked (Asks c.args.words.now) c.asked_by.result (one_asked c.args.words.now) (returns-clause-answer c) (returns-clause-usage c)

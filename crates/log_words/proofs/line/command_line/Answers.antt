@@ -1,7 +1,8 @@
 use Rattle.std.proofs.Common.{◌≡◌, ◌∙◌, ap}
 use Rattle.std.proofs.lemmas.Result.{IfOk-weaker}
 use Rattle.clap.specs.Words.{app_of}
-use Rattle.log_words.proofs.LineLemmas.{is_whole, one_more, unnamed, unnamed_app, with_device, with_pname, with_sequence, with_turns, with_variant}
+use Rattle.word_options.proofs.LineLemmas.{one_more, unnamed, unnamed_app}
+use Rattle.log_words.proofs.LineLemmas.{is_whole, with_device, with_pname, with_sequence, with_turns, with_variant}
 use Rattle.log_words.proofs.line.command_line.Goals as goal
 
 pub returns : goal.returns
