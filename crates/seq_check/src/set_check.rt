@@ -14,8 +14,8 @@ ghost use Rattle.seq_check.specs.Answers.{AnswersCheck, GivesTrees, ReportsFault
 
 use crate::checked::{CheckFault, Checked};
 use crate::faulty::{HeldFault, Holder};
-use crate::set_calls::{call_spot, graph_of, set_calls};
 use crate::sequences::sequence_names;
+use crate::set_calls::{call_spot, graph_of, set_calls};
 use crate::sets::set_fault;
 use call_graph::{first_cycle, first_deep};
 use code_check::{FaultKind, Names};
