@@ -4,8 +4,9 @@ use Rattle.std.specs.Prelude.{max, drop, take, slice_get, IfSome, Option, Some, 
 use Rattle.target_machine.specs.Start.{start}
 use Rattle.target_machine.specs.State.{Agree, TargetState}
 use Rattle.target_machine.specs.declared.unit.Settings.{Settings}
-use Rattle.probe_core.specs.Bench.{BenchState, fresh}
+use Rattle.probe_core.specs.Bench.{BenchState, Reported, fresh}
 use Rattle.probe_core.specs.Probe.{ended_retries_of, target_of, work_of}
+use Rattle.probe_core.specs.Ranges.{IsBenchJob}
 use Rattle.probe_core.specs.declared.job.BenchJob.{BenchJob}
 use Rattle.probe_core.specs.declared.job.Config.{Config}
 use Rattle.probe_core.specs.declared.job.Limits.{Limits}
@@ -29,7 +30,8 @@ use Rattle.access_calls.specs.declared.stop.StopCause.{StopCause}
 use Rattle.access_calls.specs.declared.stop.StopCause.TheVariants.{Faulted, NoAnswer}
 use Rattle.control_flow.specs.Answers.{IsWhole as IsWholeEnd, StopsAfter}
 use Rattle.job_check.specs.declared.running.ValidRun.{ValidRun}
-use Rattle.access_calls.specs.Opening.{HasTried, opened_bench}
+use Rattle.job_text.specs.Ranges.{AreSettings}
+use Rattle.access_calls.specs.Opening.{HasTried, IsIdle, opened_bench}
 use Rattle.sequence_rules.specs.Late.{Grows}
 use Rattle.sequence_rules.specs.Runs as runs
 use Rattle.seq_check.specs.Answers.{checked_trees}
@@ -301,3 +303,11 @@ pub record IsNotOpened (config : Config) (job : BenchJob) (before : Option (List
 pub data ComesTo (access : AccessKind) (config : Config) (job : BenchJob) (k : Task) (before : Option (List ℕ)) (l : Left) : Type 0 where
   not_opened : IsNotOpened config job before l → ComesTo access config job k before l
   opened : LeavesAs l.ended.ending (run_of access config job k before) l → ComesTo access config job k before l
+
+-- A run may begin over a bench that reports this. No packet is held and no reply waits, the limits are those of the job, and the numbers of the job
+-- are in their ranges.
+pub record MayRun (run : ValidRun) (reported : Reported) : Type 0 where
+  pub idle : IsIdle reported
+  pub limits : run.job.bench.limits ≡ reported.limits
+  pub settings : AreSettings run.job.settings
+  pub job : IsBenchJob run.job.bench

@@ -1,17 +1,14 @@
 //! A run of a job over a bench.
-ghost use Rattle.std.specs.Prelude.{◌≡◌, ◌≤◌, ℕ, List, Some, take};
-ghost use Rattle.job_text.specs.Ranges.{AreSettings};
+ghost use Rattle.std.specs.Prelude.{◌≡◌, ◌≤◌, Some, take};
 ghost use Rattle.probe_core.specs.Bench.{BenchState, fresh, seen};
-ghost use Rattle.probe_core.specs.Ranges.{IsBenchJob};
 ghost use Rattle.access_calls.specs.Endings.{ending_of};
 ghost use Rattle.access_calls.specs.declared.ended.Ending.TheVariants as ends;
 ghost use Rattle.control_flow.specs.Answers.{HasLines, HasSinkCause};
-ghost use Rattle.sequence_rules.specs.Runs.{variables_of};
 ghost use Rattle.access_calls.specs.Causes.{code_of_cause};
 ghost use Rattle.access_calls.specs.declared.stop.Report.{Report};
 ghost use Rattle.job_runs.specs.Ends.{HasBenchCause, HasGotResponse};
-ghost use Rattle.access_calls.specs.Opening.{GoesOnTo, HasBadReply, IsIdle};
-ghost use Rattle.job_runs.specs.Runs.{ComesTo, access_kind, config_of, job_close, known_after, task_in, task_with};
+ghost use Rattle.access_calls.specs.Opening.{GoesOnTo, HasBadReply};
+ghost use Rattle.job_runs.specs.Runs.{ComesTo, MayRun, access_kind, config_of, job_close, known_after, task_in, task_with};
 ghost use Rattle.task_runs.specs.Tasks.{ClosesAs, sequel_of};
 
 use crate::kept::Kept;
@@ -95,10 +92,7 @@ pub fn run_whole<B: Bench, K: Sink, A: OverBench<B>>(
     bench: B,
     sink: &mut K,
 ) -> Ran<B>
-    requires idle { IsIdle (B.reported bench) }
-    requires limits { run_of.now.job.bench.limits ≡ (B.reported bench).limits }
-    requires settings { AreSettings run_of.now.job.settings }
-    requires job { IsBenchJob run_of.now.job.bench }
+    requires may { MayRun run_of.now (B.reported bench) }
     // What it comes to over an observable bench that was just loaded.
     ensures run { B.state bench ≡ Some (fresh run_of.now.job.bench)
         → (n : BenchState) × (B.state result.bench ≡ Some n)
@@ -168,10 +162,7 @@ pub fn run_on<B: Bench, K: Sink, A: OverBench<B>>(
     bench: B,
     sink: &mut K,
 ) -> Ran<B>
-    requires idle { IsIdle (B.reported bench) }
-    requires limits { run_of.now.job.bench.limits ≡ (B.reported bench).limits }
-    requires settings { AreSettings run_of.now.job.settings }
-    requires job { IsBenchJob run_of.now.job.bench }
+    requires may { MayRun run_of.now (B.reported bench) }
     // What it comes to over an observable bench that was just loaded.
     ensures run { B.state bench ≡ Some (fresh run_of.now.job.bench)
         → (n : BenchState) × (B.state result.bench ≡ Some n)

@@ -1,14 +1,13 @@
 //! What is written after a run.
 ghost use Rattle.std.specs.Prelude.{◌≡◌, ◌≢◌, ◌++◌, ◌&&◌, Ok, false, IfErr, IfSome};
 ghost use Rattle.dap_base.specs.Streams.{PutAppends};
-ghost use Rattle.job_text.specs.Ranges.{AreWatched};
 ghost use Rattle.probe_core.specs.Bench.{IsAsBefore, seen};
-ghost use Rattle.probe_core.specs.Ranges.{IsBenchJob};
 ghost use Rattle.report_lines.specs.Closes.{loaded_line};
 ghost use Rattle.report_lines.specs.Endings.{ending_lines, shows_target};
 ghost use Rattle.report_lines.specs.Frame.{EndsShowing, KeepsBench, PutsFirst};
 ghost use Rattle.text_lines.specs.Causes.{NamesFault};
 ghost use Rattle.job_runs.specs.Texts.{first_lines, has_report, run_text, trace_part, whole_text};
+ghost use Rattle.report_lines.specs.Shown.{IsShownJob};
 
 use crate::running::Ran;
 use access_calls::Ending;
@@ -62,8 +61,7 @@ fn write_report<K: Sink, B: Bench>(
     ran: &mut Ran<B>,
     sink: &mut K,
 ) -> Result<(), TextEnd>
-    requires bench { IsBenchJob job.now.bench }
-    requires watch { AreWatched job.now.bench.target.memory job.now.watch }
+    requires job { IsShownJob job.now }
     ensures text { IfSome (B.state ran.old.bench) (λ n. PutAppends (K.written sink.old) (K.written sink.new) result
         (run_text is_traced ran.old.ended ran.old.sent ran.old.got job.now n)) }
     ensures alone { shows_target ran.old.ended.ending ≡ false
@@ -101,8 +99,7 @@ pub fn write_run<K: Sink, B: Bench>(
     ran: &mut Ran<B>,
     sink: &mut K,
 ) -> Result<(), TextEnd>
-    requires bench { IsBenchJob job.now.bench }
-    requires watch { AreWatched job.now.bench.target.memory job.now.watch }
+    requires job { IsShownJob job.now }
     ensures text { IfSome (B.state ran.old.bench) (λ n. PutAppends (K.written sink.old) (K.written sink.new) result
         (run_text is_traced ran.old.ended ran.old.sent ran.old.got job.now n)) }
     ensures alone { shows_target ran.old.ended.ending ≡ false
@@ -135,8 +132,7 @@ fn write_loaded<K: Sink, B: Bench>(
     bytes: u32,
     writes: u32,
 ) -> Result<(), TextEnd>
-    requires bench { IsBenchJob job.now.bench }
-    requires watch { AreWatched job.now.bench.target.memory job.now.watch }
+    requires job { IsShownJob job.now }
     ensures text { IfSome (B.state ran.old.bench) (λ n. PutAppends (K.written sink.old) (K.written sink.new) result
         (loaded_line bytes writes ++ run_text is_traced ran.old.ended ran.old.sent ran.old.got job.now n)) }
     ensures front { PutsFirst (loaded_line bytes writes ++ ending_lines ran.old.ended.ending ran.old.ended ran.old.sent ran.old.got)
@@ -165,8 +161,7 @@ pub fn write_whole<K: Sink, B: Bench>(
     ran: &mut Ran<B>,
     sink: &mut K,
 ) -> Result<(), TextEnd>
-    requires bench { IsBenchJob job.now.bench }
-    requires watch { AreWatched job.now.bench.target.memory job.now.watch }
+    requires job { IsShownJob job.now }
     ensures text { IfSome (B.state ran.old.bench) (λ n. PutAppends (K.written sink.old) (K.written sink.new) result
         (whole_text is_traced ran.old.ended ran.old.close ran.old.sent ran.old.got job.now n)) }
     ensures alone { ran.old.close ≡ Close.Nothing → shows_target ran.old.ended.ending ≡ false

@@ -1,5 +1,7 @@
 -- What follows a sequence, as a sequel.
-use Rattle.std.specs.Prelude.{◌≡◌, ℕ, Bool, true, false, Option, Some, None, length}
+use Rattle.std.specs.Prelude.{◌≡◌, ◌<◌, ℕ, map, Bool, true, false, Option, Some, None, length}
+use Rattle.target_machine.specs.declared.unit.Settings.{Settings}
+use Rattle.function_table.specs.Variables.{predefined}
 use Rattle.access_calls.specs.declared.ended.Ending.{Ending}
 use Rattle.access_calls.specs.declared.ended.Ending.TheVariants as e
 use Rattle.hex_image.specs.Image.{Bytes}
@@ -73,3 +75,8 @@ abbrev pub ClosesAs : Followed → Close → Type 0
 ClosesAs Nothing end = end ≡ close.Nothing
 ClosesAs (Load ap image) end = ClosesLoad image.now end
 ClosesAs (Scan ap) end = ClosesScan end
+
+-- A task may run with these settings: a turn takes at least a microsecond, and there is a starting value for each predefined variable, in their order.
+pub record AreTaskSettings (settings : Settings) : Type 0 where
+  pub turns : 0 < settings.turn_us
+  pub names : map (λ variable. variable.name) settings.start ≡ predefined

@@ -1,6 +1,5 @@
 //! A run over an access, with what follows it.
-ghost use Rattle.std.specs.Prelude.{◌≡◌, ◌+◌, ◌^◌, ◌<◌, ℕ, Bool, true, Option, None, IfOk, is_none, map};
-ghost use Rattle.function_table.specs.Variables.{predefined};
+ghost use Rattle.std.specs.Prelude.{◌≡◌, ◌+◌, ◌^◌, ◌<◌, ℕ, Bool, true, Option, None, IfOk, is_none};
 ghost use Rattle.probe_core.specs.Bench.{BenchState};
 ghost use Rattle.target_calls.specs.NeedPoints.{nothing_asked};
 ghost use Rattle.access_calls.specs.Left.{IsLeft, answered_by};
@@ -15,7 +14,7 @@ ghost use Rattle.control_flow.specs.Answers.{EndBy, EndsAs, HasLines, HasNeeds, 
 ghost use Rattle.control_flow.specs.Closing.{ComesToEnd};
 ghost use Rattle.sequels.specs.declared.close.Close.TheVariants.{Nothing};
 ghost use Rattle.task_runs.specs.Following.{IsClosed, ending_by};
-ghost use Rattle.task_runs.specs.Tasks.{ClosesAs, goes_on, sequel_of, task_of};
+ghost use Rattle.task_runs.specs.Tasks.{AreTaskSettings, ClosesAs, goes_on, sequel_of, task_of};
 
 use crate::followed::Followed;
 use crate::following::{Closed, Unclosed, follow};
@@ -101,8 +100,7 @@ pub fn run_task<A: Access, K: Sink>(
     access: &mut A,
     sink: &mut K,
 ) -> TaskEnded
-    requires turns { 0 < settings.now.turn_us }
-    requires names { map (λ variable. variable.name) settings.now.start ≡ predefined }
+    requires settings { AreTaskSettings settings.now }
     requires open { (A.reported access.old).end ≡ None }
     requires fresh { (A.reported access.old).asks ≡ nothing_asked }
     // How it ended, what is answered, and the lines are those of what the task comes to in the world that is left.

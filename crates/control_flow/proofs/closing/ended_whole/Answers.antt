@@ -18,7 +18,7 @@ returns-in-Err-clause-answer g c = λ m written out q b is p.
     let s = state_of c.args.held.now (g.A.Access.reported c.args.access.now).asks written in
     let r = ran c.ended_early.result a.asks written in
     subst (λ x. EndsAs x a.lines (outcome_of q) r × HasNeeds x a.asks out) (sym (c.ended_early.ensures.ending ∙ c.from.ensures)) (
-      stops_closing (world_from m (answered_by a)) c.args.ending c.in-Err.stop s out q a.lines r is p (answered_as c.in-Err.stop a (stopped_ended c.in-Err.stop a.end c.in-Err.ensures.end c.in-Err.ensures.memory))
+      stops_closing (world_from m (answered_by a)) c.args.ending c.in-Err.stop s out q a.lines r is p (answered_as c.in-Err.stop a (stopped_ended c.in-Err.stop a.end c.in-Err.ensures.ends.end c.in-Err.ensures.ends.memory))
           (c.in-Err.ensures.stops m (answered_by a) b (left_by a) c.requires.open) (finished_calls (g.A.Access.reported c.args.access.now) _ c.requires.open c.in-Err.ensures.calls) refl,
       no_needs c.in-Err.stop a.asks out,
     )
@@ -28,7 +28,7 @@ returns-in-Ok-look_up_variables-clause-answer g c = λ m written out q b is p.
     let a = g.A.Access.reported c.look_up_variables.new.access in
     let n = answered_by a in
     let s = state_of c.args.held.now (g.A.Access.reported c.args.access.now).asks written in
-    let on = c.in-Ok.ensures.on m b in
+    let on = c.in-Ok.ensures.ends.keeps.on m b in
     closes (world_from m n) c.args.ending s out q a.lines _ (g.A.Access.reported c.finish.new.self).asks is p (c.in-Ok.ensures.whole m n b (c.in-Ok-look_up_variables.ensures.keeps.goes.left n (left_by a))) (record {
       variables = rw c.all.ensures at (c.in-Ok-look_up_variables.ensures.values m n on (left_by a));
       units = refl;
@@ -47,7 +47,7 @@ returns-in-Err-look_up_variables-clause-answer g c = λ m written out q b is p.
     let s = state_of c.args.held.now (g.A.Access.reported c.args.access.now).asks written in
     let r = ran c.ended_early-in-Err-look_up_variables.result a.asks written in
     let calls = finished_calls (g.A.Access.reported c.args.access.now) (g.A.Access.reported c.finish.new.self).asks.calls c.requires.open c.in-Ok.ensures.calls in
-    let stops = c.in-Err-look_up_variables.ensures.stops m n (c.in-Ok.ensures.on m b) (left_by a) in
+    let stops = c.in-Err-look_up_variables.ensures.stops m n (c.in-Ok.ensures.ends.keeps.on m b) (left_by a) in
     subst (λ x. EndsAs x a.lines (outcome_of q) r × HasNeeds x a.asks out) (sym (c.ended_early-in-Err-look_up_variables.ensures.ending ∙ c.from-in-Err-look_up_variables.ensures)) (
       stops_closing (world_from m n) c.args.ending st s out q a.lines r is p (answered_as st a c.in-Err-look_up_variables.ensures.end)
           (settles (world_from m n) s.rest.asks.calls a.lines st (subst (λ x. StopsCalls (world_from m n) x a.lines st) calls stops)) (c.in-Err-look_up_variables.ensures.calls ∙ calls) refl,

@@ -12,7 +12,7 @@ returns-in-Ok-clause-gives g c = λ m answered b l whole.
 
 pub returns-in-Ok-clause-ends : goal.returns-in-Ok-clause-ends
 returns-in-Ok-clause-ends g c =
-    let e = c.in-Ok.ensures.ends in
+    let e = c.in-Ok.ensures.ends.ends in
     record { end = e.end; lines = whole_lines _ _ e.lines; cause = e.cause; keeps = e.keeps }
 
 pub returns-in-Err-Full-clause-gives : goal.returns-in-Err-Full-clause-gives
@@ -24,7 +24,7 @@ returns-in-Err-Full-clause-gives g c = λ m answered b l whole.
 
 pub returns-in-Err-Full-clause-ends : goal.returns-in-Err-Full-clause-ends
 returns-in-Err-Full-clause-ends g c =
-    let ends = ends_at g.A.Access.begun g.A.Access.reported g.A.Access.identity g.K.Sink.written g.K.Sink.faults _ e.Full _ _ _ _ c.in-Err-Full.field-0-is c.in-Err-Full.ensures.ends in
+    let ends = ends_at g.A.Access.begun g.A.Access.reported g.A.Access.identity g.K.Sink.written g.K.Sink.faults _ e.Full _ _ _ _ c.in-Err-Full.field-0-is c.in-Err-Full.ensures.ends.ends in
     record { end = ends.end; lines = whole_lines _ _ ends.lines; cause = ends.cause; keeps = ends.keeps }
 
 pub returns-in-Err-WriteFault-clause-gives : goal.returns-in-Err-WriteFault-clause-gives
@@ -43,5 +43,5 @@ returns-in-Err-Stop-clause-gives g c = λ m answered b l whole.
 
 pub returns-in-Err-Stop-clause-ends : goal.returns-in-Err-Stop-clause-ends
 returns-in-Err-Stop-clause-ends g c =
-    let ends = ends_at g.A.Access.begun g.A.Access.reported g.A.Access.identity g.K.Sink.written g.K.Sink.faults _ (e.Stop c.in-Err-Stop.stop) _ _ _ _ c.in-Err-Stop.field-0-is c.in-Err-Stop.ensures.ends in
+    let ends = ends_at g.A.Access.begun g.A.Access.reported g.A.Access.identity g.K.Sink.written g.K.Sink.faults _ (e.Stop c.in-Err-Stop.stop) _ _ _ _ c.in-Err-Stop.field-0-is c.in-Err-Stop.ensures.ends.ends in
     record { end = ends.end; lines = whole_lines _ _ ends.lines; cause = ends.cause; keeps = ends.keeps }
