@@ -1,8 +1,8 @@
 //! A report and a trace after packets that the program sends.
 ghost use Rattle.std.specs.Prelude.{◌≡◌, ◌<◌, ◌≤◌, false, OnOk, length};
-ghost use Rattle.job_text.specs.Ranges.{AreWatched};
 ghost use Rattle.probe_core.specs.Probe.{is_queued};
 ghost use Rattle.probe_core.specs.Ranges.{IsBenchJob};
+ghost use Rattle.report_lines.specs.Shown.{IsShownJob};
 
 use crate::reports::{ended_of, text_of};
 use dap_base::Failed;
@@ -65,8 +65,7 @@ fn word_written(alloc: Global, job: &mut Job) -> Result<MemoryBench, Failed>
 
 // What is written of a run of three units that is done, after the write.
 fn text_after(alloc: Global, job: &mut Job) -> Result<Vec<u8>, AllocError>
-    requires bench { IsBenchJob job.old.bench }
-    requires watch { AreWatched job.old.bench.target.memory job.old.watch }
+    requires { IsShownJob job.old }
 {
     let Ok(mut bench) = word_written(alloc, job) else {
         return Err(AllocError);

@@ -1,6 +1,6 @@
 //! The report of a run and the trace after it, of runs whose endings the rows name.
-ghost use Rattle.job_text.specs.Ranges.{AreWatched};
 ghost use Rattle.probe_core.specs.Ranges.{IsBenchJob};
+ghost use Rattle.report_lines.specs.Shown.{IsShownJob};
 
 use crate::options::refused;
 use access_calls::{Ended, Ending, Report, StopCause};
@@ -157,8 +157,7 @@ fn texts<B: Bench>(
     bench: &mut B,
     sink: &mut MemorySink,
 ) -> Result<(), TextEnd>
-    requires bench { IsBenchJob job.now.bench }
-    requires watch { AreWatched job.now.bench.target.memory job.now.watch }
+    requires { IsShownJob job.now }
 {
     report_text(alloc, ended, &[0x05, 0x00], &[0xff], job, bench, sink)?;
     trace_text(alloc, bench, sink)
@@ -207,8 +206,7 @@ pub fn text_of<B: Bench>(
     bench: &mut B,
     put: u32,
 ) -> Result<Vec<u8>, AllocError>
-    requires bench { IsBenchJob job.now.bench }
-    requires watch { AreWatched job.now.bench.target.memory job.now.watch }
+    requires { IsShownJob job.now }
 {
     let mut sink = MemorySink::new(alloc, &[put]).map_err(refused)?;
     let end = texts(alloc, job, ended, bench, &mut sink);
@@ -217,8 +215,7 @@ pub fn text_of<B: Bench>(
 
 // The same, where words name the ending and the numbers.
 fn report_of(alloc: Global, job: &Job, words: &str) -> Result<Vec<u8>, AllocError>
-    requires bench { IsBenchJob job.now.bench }
-    requires watch { AreWatched job.now.bench.target.memory job.now.watch }
+    requires { IsShownJob job.now }
 {
     let numbers = numbers_of(words);
     let ended = ended_of(alloc, words)?;
