@@ -1,5 +1,5 @@
 -- What comes later, for the exits of the evaluator.
-use Rattle.std.proofs.Common.{◌≡◌, ℕ, true, false, cond, List, nat_eq, codes, Option, Ok, refl, sym, subst}
+use Rattle.std.proofs.Common.{◌≡◌, ℕ, true, false, cond, List, nat_eq, Option, Ok, refl, sym, subst}
 use Rattle.dap_base.specs.Outcome.{◌>>=◌}
 use Rattle.function_table.specs.declared.function.Function.{Function}
 use Rattle.function_table.specs.Lookup.{function_named}
@@ -11,20 +11,21 @@ use Rattle.target_calls.specs.declared.calls.Value.TheVariants.{Number}
 use Rattle.target_calls.specs.NeedPoints.{Costs}
 use Rattle.target_calls.specs.World.{World}
 use Rattle.access_calls.proofs.KeepLemmas.{goes_same, goes_trans}
-use Rattle.access_calls.specs.Reported.{AccessView}
 use Rattle.sequence_rules.specs.declared.bindings.Binding.{Binding}
-use Rattle.sequence_rules.specs.Calls.{global}
+use Rattle.sequence_rules.specs.Calls.{guarded}
 use Rattle.sequence_rules.specs.Late.{Late, late, Later}
-use Rattle.sequence_rules.specs.Machine.{State, Out, end_state, with_locals, with_variables}
-use Rattle.sequence_rules.specs.Steps.{turn, turns, counted, inside, poll_result, poll_result_at, repeat_result, block, steps_result, debugged, steps_at, sequence_at}
-use Rattle.sequence_rules.specs.Values.{value, stored, used_now, operands, result_of, truth_of, arguments, numbers_of, all_used, call_result, call_of, text_of}
+use Rattle.sequence_rules.specs.Machine.{State, Out, with_locals, with_variables}
+use Rattle.sequence_rules.specs.Steps.{turns, inside, poll_result_at, repeat_result, block, steps_result, debugged, steps_at, sequence_at}
+use Rattle.sequence_rules.specs.Values.{value, stored, used_now, result_of, truth_of, arguments, call_result, is_call, text_of}
 use Rattle.sequence_rules.proofs.Goes as g
 use Rattle.sequence_rules.proofs.LateLemmas.{steady_late, later_same}
 use Rattle.sequence_rules.proofs.Made.{no_cost}
 use Rattle.sequence_rules.specs.Steady.{Goes}
-use Rattle.function_calls.specs.declared.end.End.{End}
-use Rattle.function_calls.specs.Ends.{EndsLate}
-use Rattle.function_calls.proofs.Leaves.{After, ends_on, later_bind, later_cond, later_ok, later_halt, later_use, later_all_used, later_both, later_global, later_ask, left_on}
+use Rattle.seq_check.specs.Answers.{checked_trees}
+use Rattle.control_flow.specs.declared.runner.Runner.{Runner}
+use Rattle.control_flow.specs.Calls.{late_calls_of}
+use Rattle.control_flow.specs.Parts.{late_inside_of, late_repeat_of, late_steps_of, late_truth_of, late_value_of}
+use Rattle.function_calls.proofs.Leaves.{After, ends_on, later_bind, later_cond, later_ok, later_halt, later_use, later_both, later_global, later_ask, left_on}
 
 abbrev S : Type 0
 S = State Value Late
@@ -103,41 +104,40 @@ later_debugged cost w turn_us set code s = back w s _ (g.goes_debugged (late cos
 pub later_steps_at : (cost : Costs) (w : World) (turn_us : ℕ) (set : SetTrees) (name : List ℕ) (s : S) → After w s (steps_at (late cost w) turn_us set name s)
 later_steps_at cost w turn_us set name s = back w s _ (g.goes_steps_at (late cost w) (Later w) (steady_late cost w) turn_us set name s)
 
--- ---- exits with more than one part after them
-
-pub operands_first : (cost : Costs) (w : World) (reached : AccessView) (e : End) (now : S) (out : O Value) (f : S → O Value) → EndsLate w reached e now out → ((s : S) → After w s (f s)) → EndsLate w reached e now (operands (late cost w) out f)
-unfolding operands
-operands_first cost w reached e now out f h k = ends_on w reached e now out _ h (λ x. later_bind w x.1 (f x.1) _ (k x.1) (λ y. later_both cost w x.0 y.0 y.1))
-
--- the arguments of a call ended
-pub call_first : (cost : Costs) (w : World) (reached : AccessView) (e : End) (now : S) (seq : List ℕ → S → O (Unit {0})) (name : Name) (args : ArgTrees) (out : O (List Value)) → CallsLater w seq → EndsLate w reached e now out → EndsLate w reached e now (call_of (late cost w) seq name args out)
-unfolding call_of numbers_of
-call_first cost w reached e now seq name args out q h =
-    ends_on w reached e now (out >>= λ x. all_used (late cost w) x.0 x.1) _
-    (ends_on w reached e now out _ h (λ x. later_all_used cost w x.0 x.1))
-    (λ x. back w x.1 _ (g.goes_guarded (late cost w) (Later w) (steady_late cost w) _ _ x.1 (go w x.1 _ (later_called cost w seq (function_named name.text) (text_of args) x.0 x.1 q))))
-
 later_turn_rest : (w : World) (n : ℕ) (body : S → O (Unit {0})) (s : S) → ((r : S) → After w r (body r)) → After w s (cond (nat_eq n 0) (Ok (false, s)) (body s >>= λ y. Ok (true, y.1)))
 later_turn_rest w n body s k = later_cond w s (nat_eq n 0) _ _ (later_ok w s false) (later_bind w s (body s) _ (k s) (λ y. later_ok w y.1 true))
-
-pub turn_test : (cost : Costs) (w : World) (reached : AccessView) (e : End) (now s r : S) (test : S → O Value) (body : S → O (Unit {0})) → counted (late cost w) s ≡ Ok (tt, r) → EndsLate w reached e now (used_now (late cost w) (test r)) → ((r : S) → After w r (body r))
-    → EndsLate w reached e now (turn (late cost w) test body s)
-unfolding turn
-turn_test cost w reached e now s r test body is h l = rw is (ends_on w reached e now (used_now (late cost w) (test r)) _ h (λ x. later_turn_rest w x.0 body x.1 l))
-
--- memory was refused after a part
-pub refused_after : {A B : Type 0} (w : World) (now : S) (out : O A) (f : A × S → O B) (x : A) → out ≡ Ok (x, now) → ((y : A × S) → After w y.1 (f y)) → Later w now.rest (end_state (out >>= f)).rest
-refused_after w now out f x is k = rw is ((k (x, now)).so)
-
--- a poll was counted, and the look-up of `__dp` ended
-pub polled_first : (cost : Costs) (w : World) (reached : AccessView) (e : End) (form : ℕ × ℕ) (n : ℕ) (s k now : S) → counted (late cost w) s ≡ Ok (tt, k) → EndsLate w reached e now (global (late cost w) (codes "__dp") k) → EndsLate w reached e now (poll_result (late cost w) form n s)
-unfolding poll_result
-polled_first cost w reached e form n s k now is h = rw is (ends_on w reached e now (global (late cost w) (codes "__dp") k) _ h (λ d. later_polled_at cost w form n d.0 d.1))
 
 -- a number is itself, and nothing is lost
 pub late_number : (cost : Costs) (w : World) (n : ℕ) → (late cost w).number n ≡ Number n
 unfolding late
 late_number cost w n = refl
+
+-- ---- what comes of the parts of a program
+
+module _ (runner : Runner) (depth : ℕ) (cost : Costs) (w : World) where
+  pub calls_later : CallsLater w (late_calls_of (late cost w) runner depth)
+  calls_later = later_sequence cost w runner.turn_us (checked_trees runner.set.now) depth
+
+  pub value_later : (e : Tree) (s : S) → After w s (late_value_of runner depth e (late cost w) s)
+  value_later e s = later_value cost w (late_calls_of (late cost w) runner depth) e s calls_later
+
+  pub truth_later : (e : Tree) (s : S) → After w s (late_truth_of runner depth e (late cost w) s)
+  truth_later e s = later_truth_of cost w _ s (value_later e s)
+
+  pub steps_later : (steps : CodeSteps) (s : S) → After w s (late_steps_of runner depth steps (late cost w) s)
+  steps_later steps s = later_done cost w runner.turn_us (late_calls_of (late cost w) runner depth) steps s calls_later
+
+  pub inside_later : (steps : CodeSteps) (s : S) → After w s (late_inside_of runner depth steps (late cost w) s)
+  inside_later steps s = later_inside cost w (late_steps_of runner depth steps (late cost w)) s (λ r. steps_later steps r)
+
+  pub repeat_later : (repeat : Option Tree) (timeout : Option ℕ) (steps : CodeSteps) (s : S) → After w s (late_repeat_of runner depth repeat timeout steps (late cost w) s)
+  repeat_later repeat timeout steps s = later_repeated cost w runner.turn_us (late_calls_of (late cost w) runner depth) repeat timeout steps (late_steps_of runner depth steps (late cost w)) s calls_later (λ r. steps_later steps r)
+
+  pub turn_later : (steps : CodeSteps) (n : ℕ) (s : S) → After w s (cond (nat_eq n 0) (Ok (false, s)) (late_inside_of runner depth steps (late cost w) s >>= λ y. Ok (true, y.1)))
+  turn_later steps n s = later_turn_rest w n (late_inside_of runner depth steps (late cost w)) s (λ r. inside_later steps r)
+
+  pub called_later : (name : Name) (args : ArgTrees) (ns : List ℕ) (s : S) → After w s (guarded (late cost w) (is_call (function_named name.text) args) (λ r. call_result (late cost w) (late_calls_of (late cost w) runner depth) (function_named name.text) (text_of args) ns r) s)
+  called_later name args ns s = back w s _ (g.goes_guarded (late cost w) (Later w) (steady_late cost w) _ _ s (go w s _ (later_called cost w (late_calls_of (late cost w) runner depth) (function_named name.text) (text_of args) ns s calls_later)))
 
 pub ruleset goes_on = (
   ends_on,

@@ -16,7 +16,7 @@ use Rattle.sequence_rules.specs.Late.{Late, late, Later}
 use Rattle.sequence_rules.specs.Machine.{State, Out, end_state, with_locals, with_variables}
 use Rattle.sequence_rules.specs.Variables.{bound, value_named, set_in}
 use Rattle.sequence_rules.specs.Values.{argument, arguments, chained}
-use Rattle.sequence_rules.specs.Steps.{in_order, counted, after_counted, declared, inside, block, step, steps_result, turn, turns, sequence_result, sequence_at}
+use Rattle.sequence_rules.specs.Steps.{in_order, counted, after_counted, declared, block, step, steps_result, turn, turns, sequence_result, sequence_at}
 use Rattle.sequence_rules.specs.Steps as steps
 use Rattle.sequence_rules.proofs.LoopLemmas as loop
 use Rattle.function_calls.specs.declared.end.End.{End}
@@ -78,11 +78,6 @@ module _ (cost : Costs) (w : World) where
   pub declare_refused : (name : Name) (f : S → O Value) (s k r o : S) (v : Value) → counted (late cost w) s ≡ Ok (tt, k) → f k ≡ Ok (v, r) → o ≡ r → Later w o.rest (end_state (after_counted (late cost w) (λ q. declared (late cost w) name (f q)) s)).rest
   unfolding after_counted declared
   declare_refused name f s k r o v h i j = rw h (rw i (rw j ((later_variables w r r.globals (r.locals ++ bound name.text v ∷ [])).so)))
-
-  -- the value of a declaration ended
-  pub declare_first : (name : Name) (f : S → O Value) (reached : AccessView) (e : End) (s k now : S) → counted (late cost w) s ≡ Ok (tt, k) → EndsLate w reached e now (f k) → EndsLate w reached e now (after_counted (late cost w) (λ q. declared (late cost w) name (f q)) s)
-  unfolding after_counted declared
-  declare_first name f reached e s k now h i = rw h (ends_on w reached e now (f k) _ i (λ x. later_variables w x.1 x.1.globals (x.1.locals ++ bound name.text x.0 ∷ [])))
 
   -- a called sequence gives back; no value is used
   pub entered_as : (body : S → O (Unit {0})) (s r q p : S) (dp ap control : Value) (outer : List (Binding Value)) → r ≡ with_locals s [] → body r ≡ Ok (tt, q)

@@ -6,19 +6,17 @@ use Rattle.expr_grammar.specs.declared.code.Name.{Name}
 use Rattle.expr_grammar.specs.Tree as t
 use Rattle.expr_grammar.specs.Tree.{Tree, ArgTree, ArgTrees, StmtTree}
 use Rattle.target_calls.specs.declared.calls.Value.{Value}
-use Rattle.target_calls.specs.NeedPoints.{Costs}
-use Rattle.target_calls.specs.World.{World}
 use Rattle.seq_check.specs.Answers.{checked_trees}
 use Rattle.sequence_trees.specs.Trees.{SetTrees}
-use Rattle.sequence_rules.specs.Late.{Late, late}
-use Rattle.sequence_rules.specs.Machine.{State, Out}
+use Rattle.sequence_rules.specs.Late.{Late}
+use Rattle.sequence_rules.specs.Machine.{Machine, State, Out}
 use Rattle.sequence_rules.specs.Steps.{sequence_at}
 use Rattle.sequence_rules.specs.Values.{value, stored}
 use Rattle.control_flow.specs.declared.runner.Runner.{Runner}
 
 -- the sequences of the runner's set, from which calls lead at most so deep
-abbrev pub calls_of : Costs → World → Runner → ℕ → List ℕ → State Value Late → Out Value Late (Unit {0})
-calls_of cost w runner depth name s = sequence_at (late cost w) runner.turn_us (checked_trees runner.set.now) depth name s
+abbrev pub late_calls_of : Machine Value Late → Runner → ℕ → List ℕ → State Value Late → Out Value Late (Unit {0})
+late_calls_of m runner depth name s = sequence_at m runner.turn_us (checked_trees runner.set.now) depth name s
 
 -- one argument, a number at this place
 abbrev pub one_number : Place → Tree → ArgTrees
@@ -44,11 +42,11 @@ pub record AreTwo (args : ArgTrees) (a b : Tree) : Type 0 where
   pub later : Place
   pub is : args ≡ two_numbers at a later b
 
-module _ (cost : Costs) (w : World) (turn_us : ℕ) (set : SetTrees) where
+module _ (m : Machine Value Late) (turn_us : ℕ) (set : SetTrees) where
   -- a debug variable gets its value
   abbrev pub defined : Name → Tree → State Value Late → Out Value Late (Unit {0})
   defined name e s =
-      value (late cost w) (λ n q. sequence_at (late cost w) turn_us set 0 n q) e s >>= λ x. stored (late cost w) name x.0 x.1 >>= λ y. Ok (tt, y.1)
+      value m (λ n q. sequence_at m turn_us set 0 n q) e s >>= λ x. stored m name x.0 x.1 >>= λ y. Ok (tt, y.1)
 
   -- one statement of the debug variables
   abbrev pub debugged_one : StmtTree → State Value Late → Out Value Late (Unit {0})

@@ -1,17 +1,14 @@
 //! Calls of functions and of sequences.
 ghost use Rattle.std.specs.Prelude.{◌≡◌, [], Option, None, unwrap_or};
 ghost use Rattle.dap_base.specs.declared.text.Place.{Place};
-ghost use Rattle.access_calls.specs.Keeps.{Keeps};
 ghost use Rattle.expr_grammar.specs.Tree.{arg_tree, arg_trees, tree};
 ghost use Rattle.function_table.specs.declared.function.Function.{Function};
 ghost use Rattle.seq_check.specs.Answers.{checked_trees};
 ghost use Rattle.sequence_trees.specs.Trees.{NoSteps, steps_named, steps_tree};
-ghost use Rattle.sequence_rules.specs.Steps as st;
-ghost use Rattle.sequence_rules.specs.Values as v;
-ghost use Rattle.function_calls.specs.Frame.{EndsWriting, IsReady};
-ghost use Rattle.function_calls.specs.Means.{MeansWriting, MeansWritingAs};
-ghost use Rattle.sequence_rules.specs.Late.{late};
-ghost use Rattle.control_flow.specs.Calls.{calls_of, one_number, two_numbers};
+ghost use Rattle.function_calls.specs.Ends.{answer_by};
+ghost use Rattle.function_calls.specs.Frame.{IsReady, RunsWriting};
+ghost use Rattle.control_flow.specs.Calls.{one_number, two_numbers};
+ghost use Rattle.control_flow.specs.Parts.{late_argument_of, late_arguments_of, late_call_of, late_function_of, late_named_of, late_sequence_of, late_value_after};
 
 use crate::arguments::{both_numbers, only_number};
 use crate::runner::Runner;
@@ -38,10 +35,8 @@ impl Runner<'_> {
         sink: &mut K,
     ) -> Result<(), End>
         requires ready { IsReady held.old.units (A.reported access.old) }
-        ensures gives { MeansWritingAs values.new.items A.begun A.reported K.written access.old access.new sink.old sink.new held.old held.new result
-            (λ w. v.argument (late A.cost w) (calls_of A.cost w self.now depth) (arg_tree arg.now) values.old.items) }
-        ensures keeps { Keeps A.begun A.reported A.identity access.old access.new }
-        ensures ends { EndsWriting K.written K.faults result held.new.units (A.reported access.new) sink.old sink.new }
+        ensures { RunsWriting (late_argument_of self.now depth (arg_tree arg.now) values.old.items)
+            A.cost A.begun A.reported A.identity K.written K.faults held.old access.old sink.old held.new access.new sink.new (answer_by (λ x. values.new.items) result) }
     {
         match arg {
             Arg::Number(_, expr) => self.push_value(expr, values, depth, held, access, sink),
@@ -62,10 +57,8 @@ impl Runner<'_> {
         sink: &mut K,
     ) -> Result<(), End>
         requires ready { IsReady held.old.units (A.reported access.old) }
-        ensures gives { MeansWritingAs values.new.items A.begun A.reported K.written access.old access.new sink.old sink.new held.old held.new result
-            (λ w s. v.appended (late A.cost w) values.old.items (v.value (late A.cost w) (calls_of A.cost w self.now depth) (tree expr.now) s)) }
-        ensures keeps { Keeps A.begun A.reported A.identity access.old access.new }
-        ensures ends { EndsWriting K.written K.faults result held.new.units (A.reported access.new) sink.old sink.new }
+        ensures { RunsWriting (late_value_after self.now depth values.old.items (tree expr.now))
+            A.cost A.begun A.reported A.identity K.written K.faults held.old access.old sink.old held.new access.new sink.new (answer_by (λ x. values.new.items) result) }
     {
         let value = self.evaluate(expr, depth, held, access, sink)?;
         match values.push(value) {
@@ -87,10 +80,8 @@ impl Runner<'_> {
         sink: &mut K,
     ) -> Result<(), End>
         requires ready { IsReady held.old.units (A.reported access.old) }
-        ensures gives { MeansWritingAs values.new.items A.begun A.reported K.written access.old access.new sink.old sink.new held.old held.new result
-            (λ w. v.arguments (late A.cost w) (calls_of A.cost w self.now depth) (arg_trees args.now) values.old.items) }
-        ensures keeps { Keeps A.begun A.reported A.identity access.old access.new }
-        ensures ends { EndsWriting K.written K.faults result held.new.units (A.reported access.new) sink.old sink.new }
+        ensures { RunsWriting (late_arguments_of self.now depth (arg_trees args.now) values.old.items)
+            A.cost A.begun A.reported A.identity K.written K.faults held.old access.old sink.old held.new access.new sink.new (answer_by (λ x. values.new.items) result) }
     {
         for arg in args {
             self.evaluate_argument(arg, values, depth, held, access, sink)?;
@@ -111,11 +102,8 @@ impl Runner<'_> {
         sink: &mut K,
     ) -> Result<Value, End>
         requires ready { IsReady held.old.units (A.reported access.old) }
-        ensures gives { MeansWriting A.begun A.reported K.written access.old access.new sink.old sink.new held.old held.new result
-            (λ w s. v.call_of (late A.cost w) (calls_of A.cost w self.now depth) called.now.name (arg_trees args.now)
-            (v.arguments (late A.cost w) (calls_of A.cost w self.now depth) (arg_trees args.now) [] s)) }
-        ensures keeps { Keeps A.begun A.reported A.identity access.old access.new }
-        ensures ends { EndsWriting K.written K.faults result held.new.units (A.reported access.new) sink.old sink.new }
+        ensures { RunsWriting (late_call_of self.now depth called.now.name (arg_trees args.now))
+            A.cost A.begun A.reported A.identity K.written K.faults held.old access.old sink.old held.new access.new sink.new result }
     {
         let mut values = Vec::new(self.alloc);
         self.evaluate_arguments(args, &mut values, depth, held, access, sink)?;
@@ -144,11 +132,8 @@ impl Runner<'_> {
         sink: &mut K,
     ) -> Result<Value, End>
         requires ready { IsReady held.old.units (A.reported access.old) }
-        ensures gives { (at : Place) → MeansWriting A.begun A.reported K.written access.old access.new sink.old sink.new held.old held.new result
-            (λ w s. v.call_of (late A.cost w) (calls_of A.cost w self.now depth) called.now.name (one_number at (tree only.now))
-            (v.arguments (late A.cost w) (calls_of A.cost w self.now depth) (one_number at (tree only.now)) [] s)) }
-        ensures keeps { Keeps A.begun A.reported A.identity access.old access.new }
-        ensures ends { EndsWriting K.written K.faults result held.new.units (A.reported access.new) sink.old sink.new }
+        ensures { (at : Place) → RunsWriting (late_call_of self.now depth called.now.name (one_number at (tree only.now)))
+            A.cost A.begun A.reported A.identity K.written K.faults held.old access.old sink.old held.new access.new sink.new result }
     {
         let number = self.evaluate_number(only, depth, held, access, sink)?;
         self.call_function(called.function, "", &[number], depth, held, access, sink)
@@ -168,11 +153,8 @@ impl Runner<'_> {
         sink: &mut K,
     ) -> Result<Value, End>
         requires ready { IsReady held.old.units (A.reported access.old) }
-        ensures gives { (at later : Place) → MeansWriting A.begun A.reported K.written access.old access.new sink.old sink.new held.old held.new result
-            (λ w s. v.call_of (late A.cost w) (calls_of A.cost w self.now depth) called.now.name (two_numbers at (tree first.now) later (tree second.now))
-            (v.arguments (late A.cost w) (calls_of A.cost w self.now depth) (two_numbers at (tree first.now) later (tree second.now)) [] s)) }
-        ensures keeps { Keeps A.begun A.reported A.identity access.old access.new }
-        ensures ends { EndsWriting K.written K.faults result held.new.units (A.reported access.new) sink.old sink.new }
+        ensures { (at later : Place) → RunsWriting (late_call_of self.now depth called.now.name (two_numbers at (tree first.now) later (tree second.now)))
+            A.cost A.begun A.reported A.identity K.written K.faults held.old access.old sink.old held.new access.new sink.new result }
     {
         let (first, second) = self.evaluate_operands(first, second, depth, held, access, sink)?;
         self.call_function(
@@ -199,11 +181,8 @@ impl Runner<'_> {
         sink: &mut K,
     ) -> Result<Value, End>
         requires ready { IsReady held.old.units (A.reported access.old) }
-        ensures gives { MeansWriting A.begun A.reported K.written access.old access.new sink.old sink.new held.old held.new result
-            (λ w s. v.call_of (late A.cost w) (calls_of A.cost w self.now depth) called.now.name (arg_trees args.now)
-            (v.arguments (late A.cost w) (calls_of A.cost w self.now depth) (arg_trees args.now) [] s)) }
-        ensures keeps { Keeps A.begun A.reported A.identity access.old access.new }
-        ensures ends { EndsWriting K.written K.faults result held.new.units (A.reported access.new) sink.old sink.new }
+        ensures { RunsWriting (late_call_of self.now depth called.now.name (arg_trees args.now))
+            A.cost A.begun A.reported A.identity K.written K.faults held.old access.old sink.old held.new access.new sink.new result }
     {
         if let Some(only) = only_number(args) {
             return self.call_one(called, only, depth, held, access, sink);
@@ -228,10 +207,8 @@ impl Runner<'_> {
         sink: &mut K,
     ) -> Result<Value, End>
         requires ready { IsReady held.old.units (A.reported access.old) }
-        ensures gives { MeansWriting A.begun A.reported K.written access.old access.new sink.old sink.new held.old held.new result
-            (λ w. v.call_result (late A.cost w) (calls_of A.cost w self.now depth) function text.now numbers.now) }
-        ensures keeps { Keeps A.begun A.reported A.identity access.old access.new }
-        ensures ends { EndsWriting K.written K.faults result held.new.units (A.reported access.new) sink.old sink.new }
+        ensures { RunsWriting (late_function_of self.now depth function text.now numbers.now)
+            A.cost A.begun A.reported A.identity K.written K.faults held.old access.old sink.old held.new access.new sink.new result }
     {
         match function {
             None => Ok(Value::Number(0)),
@@ -252,10 +229,8 @@ impl Runner<'_> {
         sink: &mut K,
     ) -> Result<Value, End>
         requires ready { IsReady held.old.units (A.reported access.old) }
-        ensures gives { MeansWriting A.begun A.reported K.written access.old access.new sink.old sink.new held.old held.new result
-            (λ w. v.call_result (late A.cost w) (calls_of A.cost w self.now depth) (Some Function.Sequence) name.now []) }
-        ensures keeps { Keeps A.begun A.reported A.identity access.old access.new }
-        ensures ends { EndsWriting K.written K.faults result held.new.units (A.reported access.new) sink.old sink.new }
+        ensures { RunsWriting (late_function_of self.now depth (Some Function.Sequence) name.now [])
+            A.cost A.begun A.reported A.identity K.written K.faults held.old access.old sink.old held.new access.new sink.new result }
     {
         self.run_named(name, depth, held, access, sink)?;
         Ok(Value::Number(0))
@@ -273,10 +248,8 @@ impl Runner<'_> {
         sink: &mut K,
     ) -> Result<(), End>
         requires ready { IsReady held.old.units (A.reported access.old) }
-        ensures gives { MeansWriting A.begun A.reported K.written access.old access.new sink.old sink.new held.old held.new result
-            (λ w. (calls_of A.cost w self.now depth) name.now) }
-        ensures keeps { Keeps A.begun A.reported A.identity access.old access.new }
-        ensures ends { EndsWriting K.written K.faults result held.new.units (A.reported access.new) sink.old sink.new }
+        ensures { RunsWriting (late_named_of self.now depth name.now)
+            A.cost A.begun A.reported A.identity K.written K.faults held.old access.old sink.old held.new access.new sink.new result }
     {
         if depth == 0 {
             return Ok(());
@@ -307,10 +280,8 @@ impl Runner<'_> {
         sink: &mut K,
     ) -> Result<(), End>
         requires ready { IsReady held.old.units (A.reported access.old) }
-        ensures gives { MeansWriting A.begun A.reported K.written access.old access.new sink.old sink.new held.old held.new result
-            (λ w. st.sequence_result (late A.cost w) (st.steps_result (late A.cost w) self.now.turn_us (calls_of A.cost w self.now depth) (steps_tree steps.now))) }
-        ensures keeps { Keeps A.begun A.reported A.identity access.old access.new }
-        ensures ends { EndsWriting K.written K.faults result held.new.units (A.reported access.new) sink.old sink.new }
+        ensures { RunsWriting (late_sequence_of self.now depth (steps_tree steps.now))
+            A.cost A.begun A.reported A.identity K.written K.faults held.old access.old sink.old held.new access.new sink.new result }
     {
         let dp = held.globals.dp();
         let ap = held.globals.ap();

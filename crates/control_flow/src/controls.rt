@@ -1,15 +1,9 @@
 //! Controls, their turns, and polls.
 ghost use Rattle.std.specs.Prelude.{◌≤◌, Option, None, Some, option_map};
-ghost use Rattle.access_calls.specs.Keeps.{Keeps};
 ghost use Rattle.expr_grammar.specs.Tree.{tree};
 ghost use Rattle.sequence_trees.specs.Trees.{steps_tree};
-ghost use Rattle.sequence_rules.specs.Polls as p;
-ghost use Rattle.sequence_rules.specs.Steps as st;
-ghost use Rattle.sequence_rules.specs.Values as v;
-ghost use Rattle.function_calls.specs.Frame.{EndsWriting, IsReady};
-ghost use Rattle.function_calls.specs.Means.{MeansWriting};
-ghost use Rattle.sequence_rules.specs.Late.{late};
-ghost use Rattle.control_flow.specs.Calls.{calls_of};
+ghost use Rattle.function_calls.specs.Frame.{IsReady, RunsWriting};
+ghost use Rattle.control_flow.specs.Parts.{late_condition_of, late_control_of, late_inside_of, late_loop_of, late_repeat_of, late_turn_of, late_turns_of};
 
 use crate::polling::run_poll;
 use crate::runner::Runner;
@@ -36,11 +30,8 @@ impl Runner<'_> {
         sink: &mut K,
     ) -> Result<(), End>
         requires ready { IsReady held.old.units (A.reported access.old) }
-        ensures gives { MeansWriting A.begun A.reported K.written access.old access.new sink.old sink.new held.old held.new result
-            (λ w. st.controlled (late A.cost w) self.now.turn_us (calls_of A.cost w self.now depth) (option_map tree cond.now) (option_map tree repeat.now) timeout
-            (steps_tree steps.now) (st.steps_result (late A.cost w) self.now.turn_us (calls_of A.cost w self.now depth) (steps_tree steps.now))) }
-        ensures keeps { Keeps A.begun A.reported A.identity access.old access.new }
-        ensures ends { EndsWriting K.written K.faults result held.new.units (A.reported access.new) sink.old sink.new }
+        ensures { RunsWriting (late_control_of self.now depth (option_map tree cond.now) (option_map tree repeat.now) timeout (steps_tree steps.now))
+            A.cost A.begun A.reported A.identity K.written K.faults held.old access.old sink.old held.new access.new sink.new result }
     {
         if self.test_condition(cond, depth, held, access, sink)? {
             self.repeat_steps(repeat, timeout, steps, depth, held, access, sink)
@@ -61,10 +52,8 @@ impl Runner<'_> {
         sink: &mut K,
     ) -> Result<bool, End>
         requires ready { IsReady held.old.units (A.reported access.old) }
-        ensures gives { MeansWriting A.begun A.reported K.written access.old access.new sink.old sink.new held.old held.new result
-            (λ w. st.condition (late A.cost w) self.now.turn_us (calls_of A.cost w self.now depth) (option_map tree cond.now)) }
-        ensures keeps { Keeps A.begun A.reported A.identity access.old access.new }
-        ensures ends { EndsWriting K.written K.faults result held.new.units (A.reported access.new) sink.old sink.new }
+        ensures { RunsWriting (late_condition_of self.now depth (option_map tree cond.now))
+            A.cost A.begun A.reported A.identity K.written K.faults held.old access.old sink.old held.new access.new sink.new result }
     {
         match cond {
             None => Ok(true),
@@ -84,10 +73,8 @@ impl Runner<'_> {
         sink: &mut K,
     ) -> Result<bool, End>
         requires ready { IsReady held.old.units (A.reported access.old) }
-        ensures gives { MeansWriting A.begun A.reported K.written access.old access.new sink.old sink.new held.old held.new result
-            (λ w. st.condition (late A.cost w) self.now.turn_us (calls_of A.cost w self.now depth) (Some (tree expr.now))) }
-        ensures keeps { Keeps A.begun A.reported A.identity access.old access.new }
-        ensures ends { EndsWriting K.written K.faults result held.new.units (A.reported access.new) sink.old sink.new }
+        ensures { RunsWriting (late_condition_of self.now depth (Some (tree expr.now)))
+            A.cost A.begun A.reported A.identity K.written K.faults held.old access.old sink.old held.new access.new sink.new result }
     {
         let number = self.evaluate_number(expr, depth, held, access, sink)?;
         Ok(number != 0)
@@ -107,11 +94,8 @@ impl Runner<'_> {
         sink: &mut K,
     ) -> Result<(), End>
         requires ready { IsReady held.old.units (A.reported access.old) }
-        ensures gives { MeansWriting A.begun A.reported K.written access.old access.new sink.old sink.new held.old held.new result
-            (λ w. st.repeat_result (late A.cost w) self.now.turn_us (calls_of A.cost w self.now depth) (option_map tree repeat.now) timeout (steps_tree steps.now)
-            (st.steps_result (late A.cost w) self.now.turn_us (calls_of A.cost w self.now depth) (steps_tree steps.now))) }
-        ensures keeps { Keeps A.begun A.reported A.identity access.old access.new }
-        ensures ends { EndsWriting K.written K.faults result held.new.units (A.reported access.new) sink.old sink.new }
+        ensures { RunsWriting (late_repeat_of self.now depth (option_map tree repeat.now) timeout (steps_tree steps.now))
+            A.cost A.begun A.reported A.identity K.written K.faults held.old access.old sink.old held.new access.new sink.new result }
     {
         match repeat {
             None => self.run_inside(steps, depth, held, access, sink),
@@ -143,11 +127,8 @@ impl Runner<'_> {
         requires least { 1 ≤ count }
         requires most { count ≤ 60000000 }
         requires ready { IsReady held.old.units (A.reported access.old) }
-        ensures gives { MeansWriting A.begun A.reported K.written access.old access.new sink.old sink.new held.old held.new result
-            (λ w. st.loop_result (late A.cost w) self.now.turn_us (calls_of A.cost w self.now depth) (p.poll_of (tree expr.now) (steps_tree steps.now))
-            (tree expr.now) count (st.steps_result (late A.cost w) self.now.turn_us (calls_of A.cost w self.now depth) (steps_tree steps.now))) }
-        ensures keeps { Keeps A.begun A.reported A.identity access.old access.new }
-        ensures ends { EndsWriting K.written K.faults result held.new.units (A.reported access.new) sink.old sink.new }
+        ensures { RunsWriting (late_loop_of self.now depth (tree expr.now) count (steps_tree steps.now))
+            A.cost A.begun A.reported A.identity K.written K.faults held.old access.old sink.old held.new access.new sink.new result }
     {
         match poll_of(expr, steps) {
             Some((mask, requested)) => run_poll(mask, requested, count, held, access),
@@ -169,11 +150,8 @@ impl Runner<'_> {
         sink: &mut K,
     ) -> Result<(), End>
         requires ready { IsReady held.old.units (A.reported access.old) }
-        ensures gives { MeansWriting A.begun A.reported K.written access.old access.new sink.old sink.new held.old held.new result
-            (λ w. st.turns (late A.cost w) (v.value (late A.cost w) (calls_of A.cost w self.now depth) (tree expr.now))
-            (λ r. st.inside (late A.cost w) (st.steps_result (late A.cost w) self.now.turn_us (calls_of A.cost w self.now depth) (steps_tree steps.now)) r) count) }
-        ensures keeps { Keeps A.begun A.reported A.identity access.old access.new }
-        ensures ends { EndsWriting K.written K.faults result held.new.units (A.reported access.new) sink.old sink.new }
+        ensures { RunsWriting (late_turns_of self.now depth (tree expr.now) count (steps_tree steps.now))
+            A.cost A.begun A.reported A.identity K.written K.faults held.old access.old sink.old held.new access.new sink.new result }
     {
         let mut left = count;
         while left > 0 {
@@ -199,11 +177,8 @@ impl Runner<'_> {
         sink: &mut K,
     ) -> Result<bool, End>
         requires ready { IsReady held.old.units (A.reported access.old) }
-        ensures gives { MeansWriting A.begun A.reported K.written access.old access.new sink.old sink.new held.old held.new result
-            (λ w. st.turn (late A.cost w) (v.value (late A.cost w) (calls_of A.cost w self.now depth) (tree expr.now))
-            (λ r. st.inside (late A.cost w) (st.steps_result (late A.cost w) self.now.turn_us (calls_of A.cost w self.now depth) (steps_tree steps.now)) r)) }
-        ensures keeps { Keeps A.begun A.reported A.identity access.old access.new }
-        ensures ends { EndsWriting K.written K.faults result held.new.units (A.reported access.new) sink.old sink.new }
+        ensures { RunsWriting (late_turn_of self.now depth (tree expr.now) (steps_tree steps.now))
+            A.cost A.begun A.reported A.identity K.written K.faults held.old access.old sink.old held.new access.new sink.new result }
     {
         match held.count_step() {
             Ok(()) => {}
@@ -229,10 +204,8 @@ impl Runner<'_> {
         sink: &mut K,
     ) -> Result<(), End>
         requires ready { IsReady held.old.units (A.reported access.old) }
-        ensures gives { MeansWriting A.begun A.reported K.written access.old access.new sink.old sink.new held.old held.new result
-            (λ w. st.inside (late A.cost w) (st.steps_result (late A.cost w) self.now.turn_us (calls_of A.cost w self.now depth) (steps_tree steps.now))) }
-        ensures keeps { Keeps A.begun A.reported A.identity access.old access.new }
-        ensures ends { EndsWriting K.written K.faults result held.new.units (A.reported access.new) sink.old sink.new }
+        ensures { RunsWriting (late_inside_of self.now depth (steps_tree steps.now))
+            A.cost A.begun A.reported A.identity K.written K.faults held.old access.old sink.old held.new access.new sink.new result }
     {
         let count = held.local_count();
         self.run_steps(steps, depth, held, access, sink)?;

@@ -1,12 +1,7 @@
 //! Whole runs of the evaluator: the debug variables, and then the sequence that a run starts with.
-ghost use Rattle.access_calls.specs.Keeps.{Keeps};
 ghost use Rattle.expr_grammar.specs.Tree.{code_trees, stmt_tree, tree};
-ghost use Rattle.seq_check.specs.Answers.{checked_trees};
-ghost use Rattle.sequence_rules.specs.Late.{late};
-ghost use Rattle.sequence_rules.specs.Steps as st;
-ghost use Rattle.function_calls.specs.Frame.{EndsWriting, IsReady};
-ghost use Rattle.function_calls.specs.Means.{MeansWriting};
-ghost use Rattle.control_flow.specs.Calls.{debugged_one, defined};
+ghost use Rattle.function_calls.specs.Frame.{IsReady, RunsWriting};
+ghost use Rattle.control_flow.specs.Parts.{late_debug_of, late_debugs_of, late_definition_of, late_run_of};
 
 use crate::runner::Runner;
 use access_calls::Access;
@@ -27,10 +22,8 @@ impl Runner<'_> {
         sink: &mut K,
     ) -> Result<(), End>
         requires ready { IsReady held.old.units (A.reported access.old) }
-        ensures gives { MeansWriting A.begun A.reported K.written access.old access.new sink.old sink.new held.old held.new result
-            (λ w. defined A.cost w self.now.turn_us (checked_trees self.now.set.now) name.now (tree expr.now)) }
-        ensures keeps { Keeps A.begun A.reported A.identity access.old access.new }
-        ensures ends { EndsWriting K.written K.faults result held.new.units (A.reported access.new) sink.old sink.new }
+        ensures { RunsWriting (late_definition_of self.now name.now (tree expr.now))
+            A.cost A.begun A.reported A.identity K.written K.faults held.old access.old sink.old held.new access.new sink.new result }
     {
         let value = self.evaluate(expr, 0, held, access, sink)?;
         held.store(name.text.as_str(), value);
@@ -47,10 +40,8 @@ impl Runner<'_> {
         sink: &mut K,
     ) -> Result<(), End>
         requires ready { IsReady held.old.units (A.reported access.old) }
-        ensures gives { MeansWriting A.begun A.reported K.written access.old access.new sink.old sink.new held.old held.new result
-            (λ w. debugged_one A.cost w self.now.turn_us (checked_trees self.now.set.now) (stmt_tree one.now)) }
-        ensures keeps { Keeps A.begun A.reported A.identity access.old access.new }
-        ensures ends { EndsWriting K.written K.faults result held.new.units (A.reported access.new) sink.old sink.new }
+        ensures { RunsWriting (late_debug_of self.now (stmt_tree one.now))
+            A.cost A.begun A.reported A.identity K.written K.faults held.old access.old sink.old held.new access.new sink.new result }
     {
         match one {
             Stmt::Declare(name, expr) => self.define(name, expr, held, access, sink),
@@ -68,10 +59,8 @@ impl Runner<'_> {
         sink: &mut K,
     ) -> Result<(), End>
         requires ready { IsReady held.old.units (A.reported access.old) }
-        ensures gives { MeansWriting A.begun A.reported K.written access.old access.new sink.old sink.new held.old held.new result
-            (λ w. st.debugged (late A.cost w) self.now.turn_us (checked_trees self.now.set.now) (code_trees code.now)) }
-        ensures keeps { Keeps A.begun A.reported A.identity access.old access.new }
-        ensures ends { EndsWriting K.written K.faults result held.new.units (A.reported access.new) sink.old sink.new }
+        ensures { RunsWriting (late_debugs_of self.now (code_trees code.now))
+            A.cost A.begun A.reported A.identity K.written K.faults held.old access.old sink.old held.new access.new sink.new result }
     {
         for one in code {
             self.define_one(one, held, access, sink)?;
@@ -89,10 +78,8 @@ impl Runner<'_> {
         sink: &mut K,
     ) -> Result<(), End>
         requires ready { IsReady held.old.units (A.reported access.old) }
-        ensures gives { MeansWriting A.begun A.reported K.written access.old access.new sink.old sink.new held.old held.new result
-            (λ w. st.run_of (late A.cost w) self.now.turn_us (checked_trees self.now.set.now) start.now) }
-        ensures keeps { Keeps A.begun A.reported A.identity access.old access.new }
-        ensures ends { EndsWriting K.written K.faults result held.new.units (A.reported access.new) sink.old sink.new }
+        ensures { RunsWriting (late_run_of self.now start.now)
+            A.cost A.begun A.reported A.identity K.written K.faults held.old access.old sink.old held.new access.new sink.new result }
     {
         self.define_all(self.set.debugvars().as_slice(), held, access, sink)?;
         self.run_steps(self.steps_of(start), MOST_CALLS_DEEP, held, access, sink)

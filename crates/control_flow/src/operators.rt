@@ -1,13 +1,9 @@
 //! Operators and their operands.
 ghost use Rattle.std.specs.Prelude.{◌≡◌, None};
-ghost use Rattle.access_calls.specs.Keeps.{Keeps};
 ghost use Rattle.expr_grammar.specs.Arithmetic.{truth};
 ghost use Rattle.expr_grammar.specs.Tree.{tree};
-ghost use Rattle.sequence_rules.specs.Late.{late};
-ghost use Rattle.sequence_rules.specs.Values as v;
-ghost use Rattle.function_calls.specs.Frame.{EndsWriting, IsReady};
-ghost use Rattle.function_calls.specs.Means.{MeansWriting};
-ghost use Rattle.control_flow.specs.Calls.{calls_of};
+ghost use Rattle.function_calls.specs.Frame.{IsReady, RunsWriting};
+ghost use Rattle.control_flow.specs.Parts.{late_and_of, late_binary_of, late_operands_of, late_or_of, late_strict_of, late_truth_of, late_unary_of};
 
 use crate::runner::Runner;
 use access_calls::Access;
@@ -32,10 +28,8 @@ impl Runner<'_> {
         sink: &mut K,
     ) -> Result<Value, End>
         requires ready { IsReady held.old.units (A.reported access.old) }
-        ensures gives { MeansWriting A.begun A.reported K.written access.old access.new sink.old sink.new held.old held.new result
-            (λ w s. v.of_unary (late A.cost w) op (v.value (late A.cost w) (calls_of A.cost w self.now depth) (tree operand.now) s)) }
-        ensures keeps { Keeps A.begun A.reported A.identity access.old access.new }
-        ensures ends { EndsWriting K.written K.faults result held.new.units (A.reported access.new) sink.old sink.new }
+        ensures { RunsWriting (late_unary_of self.now depth op (tree operand.now))
+            A.cost A.begun A.reported A.identity K.written K.faults held.old access.old sink.old held.new access.new sink.new result }
     {
         let number = self.evaluate_number(operand, depth, held, access, sink)?;
         Ok(Value::Number(unary_value(op, number)))
@@ -55,11 +49,8 @@ impl Runner<'_> {
         sink: &mut K,
     ) -> Result<(u64, u64), End>
         requires ready { IsReady held.old.units (A.reported access.old) }
-        ensures gives { MeansWriting A.begun A.reported K.written access.old access.new sink.old sink.new held.old held.new result
-            (λ w s. v.operands (late A.cost w) (v.value (late A.cost w) (calls_of A.cost w self.now depth) (tree left.now) s)
-            (v.value (late A.cost w) (calls_of A.cost w self.now depth) (tree right.now))) }
-        ensures keeps { Keeps A.begun A.reported A.identity access.old access.new }
-        ensures ends { EndsWriting K.written K.faults result held.new.units (A.reported access.new) sink.old sink.new }
+        ensures { RunsWriting (late_operands_of self.now depth (tree left.now) (tree right.now))
+            A.cost A.begun A.reported A.identity K.written K.faults held.old access.old sink.old held.new access.new sink.new result }
     {
         let left = self.evaluate_operand(left, depth, held, access, sink)?;
         let right = self.evaluate_operand(right, depth, held, access, sink)?;
@@ -80,11 +71,8 @@ impl Runner<'_> {
         sink: &mut K,
     ) -> Result<Value, End>
         requires ready { IsReady held.old.units (A.reported access.old) }
-        ensures gives { MeansWriting A.begun A.reported K.written access.old access.new sink.old sink.new held.old held.new result
-            (λ w s. v.strict_binary (late A.cost w) op (v.value (late A.cost w) (calls_of A.cost w self.now depth) (tree left.now) s)
-            (v.value (late A.cost w) (calls_of A.cost w self.now depth) (tree right.now))) }
-        ensures keeps { Keeps A.begun A.reported A.identity access.old access.new }
-        ensures ends { EndsWriting K.written K.faults result held.new.units (A.reported access.new) sink.old sink.new }
+        ensures { RunsWriting (late_strict_of self.now depth op (tree left.now) (tree right.now))
+            A.cost A.begun A.reported A.identity K.written K.faults held.old access.old sink.old held.new access.new sink.new result }
     {
         let (left, right) = self.evaluate_operands(left, right, depth, held, access, sink)?;
         match binary_value(op, left, right) {
@@ -105,10 +93,8 @@ impl Runner<'_> {
         sink: &mut K,
     ) -> Result<Value, End>
         requires ready { IsReady held.old.units (A.reported access.old) }
-        ensures gives { MeansWriting A.begun A.reported K.written access.old access.new sink.old sink.new held.old held.new result
-            (λ w s. v.truth_of (late A.cost w) (v.value (late A.cost w) (calls_of A.cost w self.now depth) (tree expr.now) s)) }
-        ensures keeps { Keeps A.begun A.reported A.identity access.old access.new }
-        ensures ends { EndsWriting K.written K.faults result held.new.units (A.reported access.new) sink.old sink.new }
+        ensures { RunsWriting (late_truth_of self.now depth (tree expr.now))
+            A.cost A.begun A.reported A.identity K.written K.faults held.old access.old sink.old held.new access.new sink.new result }
     {
         let number = self.evaluate_number(expr, depth, held, access, sink)?;
         Ok(Value::Number(truth(number != 0)))
@@ -128,11 +114,8 @@ impl Runner<'_> {
         sink: &mut K,
     ) -> Result<Value, End>
         requires ready { IsReady held.old.units (A.reported access.old) }
-        ensures gives { MeansWriting A.begun A.reported K.written access.old access.new sink.old sink.new held.old held.new result
-            (λ w s. v.conjunction (late A.cost w) (v.value (late A.cost w) (calls_of A.cost w self.now depth) (tree left.now) s)
-            (v.value (late A.cost w) (calls_of A.cost w self.now depth) (tree right.now))) }
-        ensures keeps { Keeps A.begun A.reported A.identity access.old access.new }
-        ensures ends { EndsWriting K.written K.faults result held.new.units (A.reported access.new) sink.old sink.new }
+        ensures { RunsWriting (late_and_of self.now depth (tree left.now) (tree right.now))
+            A.cost A.begun A.reported A.identity K.written K.faults held.old access.old sink.old held.new access.new sink.new result }
     {
         let number = self.evaluate_number(left, depth, held, access, sink)?;
         if number == 0 {
@@ -155,11 +138,8 @@ impl Runner<'_> {
         sink: &mut K,
     ) -> Result<Value, End>
         requires ready { IsReady held.old.units (A.reported access.old) }
-        ensures gives { MeansWriting A.begun A.reported K.written access.old access.new sink.old sink.new held.old held.new result
-            (λ w s. v.disjunction (late A.cost w) (v.value (late A.cost w) (calls_of A.cost w self.now depth) (tree left.now) s)
-            (v.value (late A.cost w) (calls_of A.cost w self.now depth) (tree right.now))) }
-        ensures keeps { Keeps A.begun A.reported A.identity access.old access.new }
-        ensures ends { EndsWriting K.written K.faults result held.new.units (A.reported access.new) sink.old sink.new }
+        ensures { RunsWriting (late_or_of self.now depth (tree left.now) (tree right.now))
+            A.cost A.begun A.reported A.identity K.written K.faults held.old access.old sink.old held.new access.new sink.new result }
     {
         let number = self.evaluate_number(left, depth, held, access, sink)?;
         if number != 0 {
@@ -182,11 +162,8 @@ impl Runner<'_> {
         sink: &mut K,
     ) -> Result<Value, End>
         requires ready { IsReady held.old.units (A.reported access.old) }
-        ensures gives { MeansWriting A.begun A.reported K.written access.old access.new sink.old sink.new held.old held.new result
-            (λ w s. v.of_binary (late A.cost w) op (v.value (late A.cost w) (calls_of A.cost w self.now depth) (tree left.now) s)
-            (v.value (late A.cost w) (calls_of A.cost w self.now depth) (tree right.now))) }
-        ensures keeps { Keeps A.begun A.reported A.identity access.old access.new }
-        ensures ends { EndsWriting K.written K.faults result held.new.units (A.reported access.new) sink.old sink.new }
+        ensures { RunsWriting (late_binary_of self.now depth op (tree left.now) (tree right.now))
+            A.cost A.begun A.reported A.identity K.written K.faults held.old access.old sink.old held.new access.new sink.new result }
     {
         match op {
             BinaryOp::And => self.evaluate_and(left, right, depth, held, access, sink),

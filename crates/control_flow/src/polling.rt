@@ -1,10 +1,7 @@
 //! Polls of CTRL/STAT.
 ghost use Rattle.std.specs.Prelude.{◌≤◌};
-ghost use Rattle.access_calls.specs.Keeps.{Keeps};
-ghost use Rattle.sequence_rules.specs.Late.{late};
 ghost use Rattle.sequence_rules.specs.Steps as st;
-ghost use Rattle.function_calls.specs.Frame.{EndsCall, IsReady};
-ghost use Rattle.function_calls.specs.Means.{MeansCall};
+ghost use Rattle.function_calls.specs.Frame.{IsReady, RunsCall};
 
 use access_calls::Access;
 use function_calls::{End, Held, ask, use_debug_port};
@@ -23,10 +20,7 @@ fn run_poll_at<A: Access>(
     requires least { 1 ≤ count }
     requires most { count ≤ 60000000 }
     requires ready { IsReady held.old.units (A.reported access.old) }
-    ensures gives { MeansCall A.begun A.reported access.old access.new held.old held.new result
-        (λ w. st.poll_result_at (late A.cost w) (mask, requested) count dp) }
-    ensures keeps { Keeps A.begun A.reported A.identity access.old access.new }
-    ensures ends { EndsCall result held.new.units (A.reported access.new) }
+    ensures { RunsCall (λ m. st.poll_result_at m (mask, requested) count dp) A.cost A.begun A.reported A.identity held.old access.old held.new access.new result }
 {
     if dp != 0 {
         return Err(End::Halted(HaltCause::Unsupported));
@@ -52,10 +46,7 @@ pub(crate) fn run_poll<A: Access>(
     requires least { 1 ≤ count }
     requires most { count ≤ 60000000 }
     requires ready { IsReady held.old.units (A.reported access.old) }
-    ensures gives { MeansCall A.begun A.reported access.old access.new held.old held.new result
-        (λ w. st.poll_result (late A.cost w) (mask, requested) count) }
-    ensures keeps { Keeps A.begun A.reported A.identity access.old access.new }
-    ensures ends { EndsCall result held.new.units (A.reported access.new) }
+    ensures { RunsCall (λ m. st.poll_result m (mask, requested) count) A.cost A.begun A.reported A.identity held.old access.old held.new access.new result }
 {
     match held.count_step() {
         Ok(()) => {}

@@ -1,13 +1,8 @@
 //! Steps and statements.
-ghost use Rattle.access_calls.specs.Keeps.{Keeps};
 ghost use Rattle.expr_grammar.specs.Tree.{code_trees, stmt_tree, tree};
 ghost use Rattle.sequence_trees.specs.Trees.{step_tree, steps_tree};
-ghost use Rattle.sequence_rules.specs.Steps as st;
-ghost use Rattle.sequence_rules.specs.Values as v;
-ghost use Rattle.function_calls.specs.Frame.{EndsWriting, IsReady};
-ghost use Rattle.function_calls.specs.Means.{MeansWriting};
-ghost use Rattle.sequence_rules.specs.Late.{late};
-ghost use Rattle.control_flow.specs.Calls.{calls_of};
+ghost use Rattle.function_calls.specs.Frame.{IsReady, RunsWriting};
+ghost use Rattle.control_flow.specs.Parts.{late_block_of, late_declaration_of, late_plain_of, late_statement_of, late_step_of, late_steps_of};
 
 use crate::runner::Runner;
 use access_calls::Access;
@@ -29,10 +24,8 @@ impl Runner<'_> {
         sink: &mut K,
     ) -> Result<(), End>
         requires ready { IsReady held.old.units (A.reported access.old) }
-        ensures gives { MeansWriting A.begun A.reported K.written access.old access.new sink.old sink.new held.old held.new result
-            (λ w. st.steps_result (late A.cost w) self.now.turn_us (calls_of A.cost w self.now depth) (steps_tree steps.now)) }
-        ensures keeps { Keeps A.begun A.reported A.identity access.old access.new }
-        ensures ends { EndsWriting K.written K.faults result held.new.units (A.reported access.new) sink.old sink.new }
+        ensures { RunsWriting (late_steps_of self.now depth (steps_tree steps.now))
+            A.cost A.begun A.reported A.identity K.written K.faults held.old access.old sink.old held.new access.new sink.new result }
     {
         for one in steps {
             self.run_step(one, depth, held, access, sink)?;
@@ -52,10 +45,8 @@ impl Runner<'_> {
         sink: &mut K,
     ) -> Result<(), End>
         requires ready { IsReady held.old.units (A.reported access.old) }
-        ensures gives { MeansWriting A.begun A.reported K.written access.old access.new sink.old sink.new held.old held.new result
-            (λ w. st.step (late A.cost w) self.now.turn_us (calls_of A.cost w self.now depth) (step_tree one.now)) }
-        ensures keeps { Keeps A.begun A.reported A.identity access.old access.new }
-        ensures ends { EndsWriting K.written K.faults result held.new.units (A.reported access.new) sink.old sink.new }
+        ensures { RunsWriting (late_step_of self.now depth (step_tree one.now))
+            A.cost A.begun A.reported A.identity K.written K.faults held.old access.old sink.old held.new access.new sink.new result }
     {
         match one {
             CheckedStep::Block(code) => self.run_block(code.as_slice(), depth, held, access, sink),
@@ -89,10 +80,8 @@ impl Runner<'_> {
         sink: &mut K,
     ) -> Result<(), End>
         requires ready { IsReady held.old.units (A.reported access.old) }
-        ensures gives { MeansWriting A.begun A.reported K.written access.old access.new sink.old sink.new held.old held.new result
-            (λ w. st.block (late A.cost w) self.now.turn_us (calls_of A.cost w self.now depth) (code_trees code.now)) }
-        ensures keeps { Keeps A.begun A.reported A.identity access.old access.new }
-        ensures ends { EndsWriting K.written K.faults result held.new.units (A.reported access.new) sink.old sink.new }
+        ensures { RunsWriting (late_block_of self.now depth (code_trees code.now))
+            A.cost A.begun A.reported A.identity K.written K.faults held.old access.old sink.old held.new access.new sink.new result }
     {
         for one in code {
             self.run_statement(one, depth, held, access, sink)?;
@@ -112,10 +101,8 @@ impl Runner<'_> {
         sink: &mut K,
     ) -> Result<(), End>
         requires ready { IsReady held.old.units (A.reported access.old) }
-        ensures gives { MeansWriting A.begun A.reported K.written access.old access.new sink.old sink.new held.old held.new result
-            (λ w. st.statement (late A.cost w) self.now.turn_us (calls_of A.cost w self.now depth) (stmt_tree one.now)) }
-        ensures keeps { Keeps A.begun A.reported A.identity access.old access.new }
-        ensures ends { EndsWriting K.written K.faults result held.new.units (A.reported access.new) sink.old sink.new }
+        ensures { RunsWriting (late_statement_of self.now depth (stmt_tree one.now))
+            A.cost A.begun A.reported A.identity K.written K.faults held.old access.old sink.old held.new access.new sink.new result }
     {
         match one {
             Stmt::Empty(_) => match held.count_step() {
@@ -140,11 +127,8 @@ impl Runner<'_> {
         sink: &mut K,
     ) -> Result<(), End>
         requires ready { IsReady held.old.units (A.reported access.old) }
-        ensures gives { MeansWriting A.begun A.reported K.written access.old access.new sink.old sink.new held.old held.new result
-            (λ w. st.after_counted (late A.cost w) (λ r. st.declared (late A.cost w) name.now
-            (v.value (late A.cost w) (calls_of A.cost w self.now depth) (tree expr.now) r))) }
-        ensures keeps { Keeps A.begun A.reported A.identity access.old access.new }
-        ensures ends { EndsWriting K.written K.faults result held.new.units (A.reported access.new) sink.old sink.new }
+        ensures { RunsWriting (late_declaration_of self.now depth name.now (tree expr.now))
+            A.cost A.begun A.reported A.identity K.written K.faults held.old access.old sink.old held.new access.new sink.new result }
     {
         match held.count_step() {
             Ok(()) => {}
@@ -169,10 +153,8 @@ impl Runner<'_> {
         sink: &mut K,
     ) -> Result<(), End>
         requires ready { IsReady held.old.units (A.reported access.old) }
-        ensures gives { MeansWriting A.begun A.reported K.written access.old access.new sink.old sink.new held.old held.new result
-            (λ w. st.after_counted (late A.cost w) (λ r. st.dropped (late A.cost w) (v.value (late A.cost w) (calls_of A.cost w self.now depth) (tree expr.now) r))) }
-        ensures keeps { Keeps A.begun A.reported A.identity access.old access.new }
-        ensures ends { EndsWriting K.written K.faults result held.new.units (A.reported access.new) sink.old sink.new }
+        ensures { RunsWriting (late_plain_of self.now depth (tree expr.now))
+            A.cost A.begun A.reported A.identity K.written K.faults held.old access.old sink.old held.new access.new sink.new result }
     {
         match held.count_step() {
             Ok(()) => {}

@@ -1,11 +1,7 @@
 //! The values of expressions.
-ghost use Rattle.access_calls.specs.Keeps.{Keeps};
 ghost use Rattle.expr_grammar.specs.Tree.{tree};
-ghost use Rattle.sequence_rules.specs.Late.{late};
-ghost use Rattle.sequence_rules.specs.Values as v;
-ghost use Rattle.function_calls.specs.Frame.{EndsWriting, IsReady};
-ghost use Rattle.function_calls.specs.Means.{MeansWriting};
-ghost use Rattle.control_flow.specs.Calls.{calls_of};
+ghost use Rattle.function_calls.specs.Frame.{IsReady, RunsWriting};
+ghost use Rattle.control_flow.specs.Parts.{late_assignment_of, late_choice_of, late_number_of, late_value_of};
 
 use crate::runner::Runner;
 use access_calls::Access;
@@ -27,10 +23,8 @@ impl Runner<'_> {
         sink: &mut K,
     ) -> Result<Value, End>
         requires ready { IsReady held.old.units (A.reported access.old) }
-        ensures gives { MeansWriting A.begun A.reported K.written access.old access.new sink.old sink.new held.old held.new result
-            (λ w. v.value (late A.cost w) (calls_of A.cost w self.now depth) (tree expr.now)) }
-        ensures keeps { Keeps A.begun A.reported A.identity access.old access.new }
-        ensures ends { EndsWriting K.written K.faults result held.new.units (A.reported access.new) sink.old sink.new }
+        ensures { RunsWriting (late_value_of self.now depth (tree expr.now))
+            A.cost A.begun A.reported A.identity K.written K.faults held.old access.old sink.old held.new access.new sink.new result }
     {
         match expr {
             Expr::Number(number) => Ok(Value::Number(*number)),
@@ -70,10 +64,8 @@ impl Runner<'_> {
         sink: &mut K,
     ) -> Result<Value, End>
         requires ready { IsReady held.old.units (A.reported access.old) }
-        ensures gives { MeansWriting A.begun A.reported K.written access.old access.new sink.old sink.new held.old held.new result
-            (λ w. v.value (late A.cost w) (calls_of A.cost w self.now depth) (tree expr.now)) }
-        ensures keeps { Keeps A.begun A.reported A.identity access.old access.new }
-        ensures ends { EndsWriting K.written K.faults result held.new.units (A.reported access.new) sink.old sink.new }
+        ensures { RunsWriting (late_value_of self.now depth (tree expr.now))
+            A.cost A.begun A.reported A.identity K.written K.faults held.old access.old sink.old held.new access.new sink.new result }
     {
         match expr {
             Expr::Number(number) => Ok(Value::Number(*number)),
@@ -94,10 +86,8 @@ impl Runner<'_> {
         sink: &mut K,
     ) -> Result<u64, End>
         requires ready { IsReady held.old.units (A.reported access.old) }
-        ensures gives { MeansWriting A.begun A.reported K.written access.old access.new sink.old sink.new held.old held.new result
-            (λ w s. v.used_now (late A.cost w) (v.value (late A.cost w) (calls_of A.cost w self.now depth) (tree expr.now) s)) }
-        ensures keeps { Keeps A.begun A.reported A.identity access.old access.new }
-        ensures ends { EndsWriting K.written K.faults result held.new.units (A.reported access.new) sink.old sink.new }
+        ensures { RunsWriting (late_number_of self.now depth (tree expr.now))
+            A.cost A.begun A.reported A.identity K.written K.faults held.old access.old sink.old held.new access.new sink.new result }
     {
         let value = self.evaluate_operand(expr, depth, held, access, sink)?;
         use_value(value, access)
@@ -118,12 +108,8 @@ impl Runner<'_> {
         sink: &mut K,
     ) -> Result<Value, End>
         requires ready { IsReady held.old.units (A.reported access.old) }
-        ensures gives { MeansWriting A.begun A.reported K.written access.old access.new sink.old sink.new held.old held.new result
-            (λ w s. v.choice (late A.cost w) (v.value (late A.cost w) (calls_of A.cost w self.now depth) (tree test.now) s)
-            (v.value (late A.cost w) (calls_of A.cost w self.now depth) (tree first.now))
-            (v.value (late A.cost w) (calls_of A.cost w self.now depth) (tree second.now))) }
-        ensures keeps { Keeps A.begun A.reported A.identity access.old access.new }
-        ensures ends { EndsWriting K.written K.faults result held.new.units (A.reported access.new) sink.old sink.new }
+        ensures { RunsWriting (late_choice_of self.now depth (tree test.now) (tree first.now) (tree second.now))
+            A.cost A.begun A.reported A.identity K.written K.faults held.old access.old sink.old held.new access.new sink.new result }
     {
         let number = self.evaluate_number(test, depth, held, access, sink)?;
         if number == 0 {
@@ -147,10 +133,8 @@ impl Runner<'_> {
         sink: &mut K,
     ) -> Result<Value, End>
         requires ready { IsReady held.old.units (A.reported access.old) }
-        ensures gives { MeansWriting A.begun A.reported K.written access.old access.new sink.old sink.new held.old held.new result
-            (λ w s. v.assigned (late A.cost w) name.now (v.value (late A.cost w) (calls_of A.cost w self.now depth) (tree right.now) s)) }
-        ensures keeps { Keeps A.begun A.reported A.identity access.old access.new }
-        ensures ends { EndsWriting K.written K.faults result held.new.units (A.reported access.new) sink.old sink.new }
+        ensures { RunsWriting (late_assignment_of self.now depth name.now (tree right.now))
+            A.cost A.begun A.reported A.identity K.written K.faults held.old access.old sink.old held.new access.new sink.new result }
     {
         let value = self.evaluate(right, depth, held, access, sink)?;
         held.store(name.text.as_str(), value);

@@ -3,17 +3,19 @@ use Rattle.std.proofs.Common.{◌≡◌, ◌∙◌, ℕ, List, Option, Result, O
 use Rattle.std.specs.Prelude.{IsErrAnd}
 use Rattle.dap_base.specs.Outcome.{◌>>=◌}
 use Rattle.probe_core.specs.Bench.{BenchState}
+use Rattle.target_machine.specs.declared.unit.HaltCause.{HaltCause}
 use Rattle.target_calls.specs.declared.calls.Ask.{Ask}
 use Rattle.target_calls.specs.declared.calls.Value.{Value}
-use Rattle.target_calls.specs.NeedPoints.{Costs}
+use Rattle.target_calls.specs.NeedPoints.{Asks, Costs}
 use Rattle.target_calls.specs.World.{World}
 use Rattle.access_calls.specs.Reported.{AccessView, world_from}
 use Rattle.access_calls.specs.declared.stop.Stop.{Stop}
 use Rattle.access_calls.proofs.KeepLemmas.{keeps_on, keeps_same}
 use Rattle.sequence_rules.specs.Known.{known_part}
-use Rattle.sequence_rules.specs.Late.{Late, late}
+use Rattle.sequence_rules.specs.Late.{Late, Later, late}
 use Rattle.sequence_rules.specs.Locals.{locals_of}
-use Rattle.sequence_rules.specs.Machine.{Machine, State, Out}
+use Rattle.sequence_rules.specs.Machine as machine
+use Rattle.sequence_rules.specs.Machine.{Machine, Out, State, end_state}
 use Rattle.sequence_rules.specs.Shared.{bindings_of}
 use Rattle.function_calls.specs.declared.end.End.{End}
 use Rattle.function_calls.specs.declared.end.End.TheVariants as end
@@ -71,21 +73,26 @@ call_passed : (T U : Type 0) (e : End) (units : ℕ) (a : AccessView) → EndsCa
 call_passed T U e units a h =
     record { end = end_passed T U e a.end h.end; counted = count_passed T U e units a.asks.calls h.counted; cause = quiet_passed T U e h.cause }
 
-writing_passed : {K : Type 0} (T U : Type 0) (written : K → Option (List ℕ)) (faults : K → ℕ) (e : End) (units : ℕ) (a : AccessView) (old new : K) → EndsWriting {T = T} written faults (Err e) units a old new → EndsWriting {T = U} written faults (Err e) units a old new
-writing_passed T U written faults e units a old new h = record {
+pub ends_passed : {K T U : Type 0} {written : K → Option (List ℕ)} {faults : K → ℕ} {units : ℕ} {a : AccessView} {old new : K} (e : End) (result : Result U End) → IsErrAnd result (λ x. x ≡ e) → EndsWriting {T = T} written faults (Err e) units a old new → EndsWriting written faults result units a old new
+ends_passed e (Ok y) is h = absurd is
+ends_passed {T = T} {U = U} {written = written} {faults = faults} {units = units} {a = a} {old = old} {new = new} e (Err x) is h = rw is (record {
   end = end_passed T U e a.end h.end;
   counted = count_passed T U e units a.asks.calls h.counted;
   knows = h.knows;
   lines = λ before k. lines_passed T U e before (written new) (h.lines before k);
   cause = cause_passed T U e (faults old) (faults new) h.cause;
-}
+})
 
 -- ---- one after the other
 
+-- after a call that answers, another may be made
+pub ready_after : {T K : Type 0} {written : K → Option (List ℕ)} {faults : K → ℕ} {x : T} {units : ℕ} {a : AccessView} {old new : K} → EndsWriting written faults (Ok x) units a old new → IsReady units a
+ready_after ends = record { no_end = ends.end; counted = ends.counted }
+
 -- a call after one that answers ends both
-pub ends_after : {T U K : Type 0} (written : K → Option (List ℕ)) (faults : K → ℕ) (x : T) (result : Result U End) (first last : ℕ) (a b : AccessView) (r s t : K)
+pub ends_after : {T U K : Type 0} {written : K → Option (List ℕ)} {faults : K → ℕ} {x : T} {result : Result U End} {first last : ℕ} {a b : AccessView} {r s t : K}
     → EndsWriting written faults (Ok x) first a r s → EndsWriting written faults result last b s t → EndsWriting written faults result last b r t
-ends_after written faults x result first last a b r s t one two = record {
+ends_after {faults = faults} {result = result} {t = t} one two = record {
   end = two.end;
   counted = two.counted;
   knows = λ known k. two.knows known (one.knows known k);
@@ -93,9 +100,9 @@ ends_after written faults x result first last a b r s t one two = record {
   cause = subst (λ n. HasSinkCause result n (faults t)) one.cause two.cause;
 }
 
--- another answer ends the same
-pub ends_same : {T U K : Type 0} (written : K → Option (List ℕ)) (faults : K → ℕ) (x : T) (y : U) (units : ℕ) (a : AccessView) (old new : K) → EndsWriting written faults (Ok x) units a old new → EndsWriting written faults (Ok y) units a old new
-ends_same written faults x y units a old new ends = record { end = ends.end; counted = ends.counted; knows = ends.knows; lines = ends.lines; cause = ends.cause }
+-- another answer ends the same, and so it does after a change that counts no unit
+pub ends_moved : {T U K : Type 0} {written : K → Option (List ℕ)} {faults : K → ℕ} {x : T} {before now : ℕ} {a : AccessView} {old new : K} (y : U) → now ≡ before → EndsWriting written faults (Ok x) before a old new → EndsWriting written faults (Ok y) now a old new
+ends_moved y same ends = record { end = ends.end; counted = same ∙ ends.counted; knows = ends.knows; lines = ends.lines; cause = ends.cause }
 
 -- a use after one that answers ends both
 pub use_after : {T U : Type 0} {x : T} {result : Result U End} {a b c : AccessView} → EndsUse (Ok x) a b → EndsUse result b c → EndsUse result a c
@@ -157,6 +164,36 @@ module _ {A : Type 0} {p : LateMeaning A} {T : Type 0} {cost : Costs} {begun : T
       lines = λ since h. lines_kept result since (written sink) h;
       cause = quiet_cause result (faults sink) runs.ends.cause;
     };
+  }
+
+  -- what is held is changed, and nothing is asked
+  pub call_changes : {before now : Held} {a : T} {x : A} → IsReady before.units (reported a) → now.units ≡ before.units
+      → ((w : World) (asks : Asks) (written : Option (List ℕ)) → p (late cost w) (state_of before asks written) ≡ Ok (x, state_of now asks written))
+      → RunsCall p cost begun reported identity before a now a (Ok x)
+  call_changes {a = a} ready units is = record {
+    gives = λ m answered written b l. is (world_from m answered) (reported a).asks written;
+    keeps = keeps_same begun reported identity a;
+    ends = record { end = ready.no_end; counted = units ∙ ready.counted; cause = tt };
+  }
+
+  -- it is changed, and then the run halts
+  pub call_halts : {before now : Held} {a : T} {cause : HaltCause} → IsReady before.units (reported a) → now.units ≡ before.units
+      → ((w : World) (asks : Asks) (written : Option (List ℕ)) → p (late cost w) (state_of before asks written) ≡ Err (machine.Halted cause, state_of now asks written))
+      → RunsCall p cost begun reported identity before a now a (Err (end.Halted cause))
+  call_halts {a = a} ready units is = record {
+    gives = λ m answered written b l. is (world_from m answered) (reported a).asks written;
+    keeps = keeps_same begun reported identity a;
+    ends = record { end = ready.no_end; counted = units ∙ ready.counted; cause = tt };
+  }
+
+  -- memory is refused, before what the meaning does
+  pub call_refused : {before now : Held} {a : T} → IsReady before.units (reported a)
+      → ((w : World) (asks : Asks) (written : Option (List ℕ)) → Later w (state_of now asks written).rest (end_state (p (late cost w) (state_of before asks written))).rest)
+      → RunsCall p cost begun reported identity before a now a (Err end.OutOfMemory)
+  call_refused {a = a} ready is = record {
+    gives = λ m answered written b l. is (world_from m answered) (reported a).asks written;
+    keeps = keeps_same begun reported identity a;
+    ends = record { end = ready.no_end; counted = tt; cause = tt };
   }
 
   -- nothing is done
@@ -221,7 +258,7 @@ module _ {A : Type 0} {p : LateMeaning A} {T : Type 0} {cost : Costs} {begun : T
       writing_on {i = i} {j = j} {a = a} {b = b} {c = c} {k = k} {l = l} {n = n} {x = x} {result = result} one two = record {
         gives = λ m answered known on left knows. rw (one.gives m answered known on (two.keeps.goes.left answered left) knows) (two.gives m answered known (one.keeps.on m on) left (one.ends.knows known knows));
         keeps = keeps_on begun reported identity a b c one.keeps two.keeps;
-        ends = ends_after written faults x result i.units j.units (reported b) (reported c) k l n one.ends two.ends;
+        ends = ends_after one.ends two.ends;
       }
 
       -- a call that may write lines ended, and nothing is done after it
@@ -231,5 +268,11 @@ module _ {A : Type 0} {p : LateMeaning A} {T : Type 0} {cost : Costs} {begun : T
       writing_end {i = i} {b = b} {k = k} {l = l} {e = e} {result = Err x} later is one = rw is (record {
         gives = λ m answered known on left knows. ends_on (world_from m answered) (reported b) e _ _ (f (late cost (world_from m answered))) (one.gives m answered known on left knows) (later cost (world_from m answered));
         keeps = one.keeps;
-        ends = writing_passed A B written faults e i.units (reported b) k l one.ends;
+        ends = ends_passed e (Err e) refl one.ends;
       })
+
+-- a call that may write lines, and then a use
+pub writing_use : {A B T K : Type 0} {p : LateMeaning A} {cost : Costs} {begun : T → BenchState → Type 0} {reported : T → AccessView} {identity : T → ℕ} {written : K → Option (List ℕ)} {faults : K → ℕ} (f : Machine Value Late → A × S → O B)
+    {h i : Held} {a b c : T} {k l : K} {x : A} {result : Result B End} → RunsWriting p cost begun reported identity written faults h a k i b l (Ok x)
+    → UsesValues (λ m s. f m (x, s)) cost begun reported identity b c result → RunsWriting (λ m s. p m s >>= f m) cost begun reported identity written faults h a k i c l result
+writing_use f one two = writing_on f one (writing_by_call (call_by_use (ready_after one.ends) (use_at two)))
