@@ -1,10 +1,9 @@
--- The statuses of answers, and what was put.
-use Rattle.std.proofs.Common.{◌≡◌, ◌⊎◌, ℕ, List, [], ◌∷◌, inl, inr, refl, subst, sym}
+-- The statuses of answers.
+use Rattle.std.proofs.Common.{◌≡◌, List, [], ◌∷◌, inl, inr, refl, subst, sym}
 use Rattle.pack_faults.specs.declared.answer.PackFault.{PackFault}
-use Rattle.text_lines.specs.declared.putting.TextError.{TextError}
-use Rattle.text_lines.specs.declared.putting.TextError.TheVariants as errors
-use Rattle.faults_tool.specs.Answers.{answer_status, failed_status, list_status}
-use Rattle.faults_tool.specs.Calls.{Blames, FailsPutting, IsDisturbed}
+use Rattle.tool_calls.specs.Calls.{FailsPutting, IsDisturbed}
+use Rattle.faults_tool.specs.Answers.{answer_status, list_status}
+use Rattle.faults_tool.specs.Calls.{faults}
 use Rattle.faults_tool.specs.declared.asking.Answer.{Answer}
 use Rattle.faults_tool.specs.declared.asking.Answer.TheVariants as answers
 use Rattle.faults_tool.specs.declared.status.Status.{Status}
@@ -12,19 +11,34 @@ use Rattle.faults_tool.specs.declared.status.Status.TheVariants as status
 
 -- ---- the status of an answer
 
-list_undisturbed : (faults : List PackFault) → IsDisturbed (list_status faults) → ⊥
-list_undisturbed [] is = is
-list_undisturbed (f ∷ fs) is = is
+-- a status of a fault outside
+abbrev pub IsFault : Status → Type 0
+IsFault status.ReadFault = Unit {0}
+IsFault status.WriteFault = Unit {0}
+IsFault status.OutOfMemory = Unit {0}
+IsFault other = ⊥
+
+pub is_fault : (end : Status) → IsDisturbed faults end → IsFault end
+is_fault end (inl is) = subst IsFault (sym is) tt
+is_fault end (inr (inl is)) = subst IsFault (sym is) tt
+is_fault end (inr (inr is)) = subst IsFault (sym is) tt
+
+list_is_own : (faults : List PackFault) → IsFault (list_status faults) → ⊥
+list_is_own [] is = is
+list_is_own (f ∷ fs) is = is
+
+is_own : (answer : Answer) → IsFault (answer_status answer) → ⊥
+unfolding answer_status
+is_own answers.Usage is = is
+is_own answers.TooLong is = is
+is_own (answers.Refused refusal) is = is
+is_own answers.NoPname is = is
+is_own (answers.Faults format faults) is = list_is_own faults.faults is
+is_own (answers.Warned format faults warnings) is = list_is_own faults.faults is
 
 -- it is none of a fault outside
-pub undisturbed : (answer : Answer) → IsDisturbed (answer_status answer) → ⊥
-unfolding answer_status
-undisturbed answers.Usage is = is
-undisturbed answers.TooLong is = is
-undisturbed (answers.Refused refusal) is = is
-undisturbed answers.NoPname is = is
-undisturbed (answers.Faults format faults) is = list_undisturbed faults.faults is
-undisturbed (answers.Warned format faults warnings) is = list_undisturbed faults.faults is
+pub undisturbed : (answer : Answer) → IsDisturbed faults (answer_status answer) → ⊥
+undisturbed answer is = is_own answer (is_fault (answer_status answer) is)
 
 list_unused : (faults : List PackFault) → list_status faults ≡ status.Usage → ⊥
 list_unused [] e = cc
@@ -44,32 +58,11 @@ pub usage_status : answer_status answers.Usage ≡ status.Usage
 unfolding answer_status
 usage_status = refl
 
--- ---- where a text was not put whole
+-- ---- the statuses of faults
 
-pub failed_fails : (end : TextError) (got : Status) → got ≡ failed_status end → FailsPutting got
-failed_fails errors.Failed got e = subst FailsPutting (sym e) tt
-failed_fails errors.OutOfMemory got e = subst FailsPutting (sym e) tt
+pub read_apart : FailsPutting faults faults.read → ⊥
+read_apart (inl is) = absurd (cc)
+read_apart (inr is) = absurd (cc)
 
-pub fails_disturbed : (end : Status) → FailsPutting end → IsDisturbed end
-fails_disturbed status.Done h = h
-fails_disturbed status.Faulty h = h
-fails_disturbed status.Refused h = h
-fails_disturbed status.Usage h = h
-fails_disturbed status.ReadFault h = absurd h
-fails_disturbed status.WriteFault h = h
-fails_disturbed status.OutOfMemory h = h
-
-pub fails_how : (end : Status) → FailsPutting end → (end ≡ status.WriteFault) ⊎ (end ≡ status.OutOfMemory)
-fails_how status.Done h = absurd h
-fails_how status.Faulty h = absurd h
-fails_how status.Refused h = absurd h
-fails_how status.Usage h = absurd h
-fails_how status.ReadFault h = absurd h
-fails_how status.WriteFault h = inl refl
-fails_how status.OutOfMemory h = inr refl
-
--- ---- counts of the sink
-
--- the status of an answer blames nothing
-pub own_blames : (answer : Answer) (got : Status) (before now : ℕ) → got ≡ answer_status answer → now ≡ before → Blames status.WriteFault got before now
-own_blames answer got before now own same = record { failed = λ is. absurd (undisturbed answer (subst IsDisturbed own (subst IsDisturbed (sym is) tt))); else = inl same }
+pub memory_apart : faults.memory ≡ faults.write → ⊥
+memory_apart is = absurd (cc)

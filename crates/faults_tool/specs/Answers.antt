@@ -1,7 +1,5 @@
 -- What is written, and the exit statuses.
 use Rattle.std.specs.Prelude.{ℕ, List, [], ◌∷◌, codes}
-use Rattle.text_lines.specs.declared.putting.TextError.{TextError}
-use Rattle.text_lines.specs.declared.putting.TextError.TheVariants as errors
 use Rattle.check_lines.specs.RefusalLines.{refusal_line, too_long_line}
 use Rattle.pack_faults.specs.declared.answer.PackFault.{PackFault}
 use Rattle.pack_faults.specs.declared.answer.PackFaults.{PackFaults}
@@ -39,10 +37,6 @@ usage_line = codes "usage dapseq_faults [--device NAME] [--variant NAME] [--pnam
 abbrev pub no_pname_line : List ℕ
 no_pname_line = codes "refused NoPname\n"
 
--- the line of a source that failed
-abbrev pub fault_text : List ℕ
-fault_text = codes "end readfault\n"
-
 -- all faults, in this format
 abbrev pub formatted : Format → PackFaults → List ℕ
 formatted formats.Text faults = faults_text faults
@@ -79,8 +73,3 @@ answer_status (answers.Refused refusal) = status.Refused
 answer_status answers.NoPname = status.Refused
 answer_status (answers.Faults format faults) = list_status faults.faults
 answer_status (answers.Warned format faults warnings) = list_status faults.faults
-
--- the status where a text was not written whole
-abbrev pub failed_status : TextError → Status
-failed_status errors.Failed = status.WriteFault
-failed_status errors.OutOfMemory = status.OutOfMemory

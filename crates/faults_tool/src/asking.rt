@@ -4,6 +4,7 @@ ghost use Rattle.text_lines.specs.Causes.{NamesFault};
 ghost use Rattle.faults_words.specs.Asks as words_asked;
 ghost use Rattle.faults_tool.specs.Asked.{Asks, AsksOfBytes, AsksOfPack, IsLine, IsList, of_refusal};
 ghost use Rattle.job_source.specs.Source.{AreBytesOf, AreTaken};
+ghost use Rattle.tool_calls.specs.Calls.{ReadsJob};
 
 use crate::packs::read_pack;
 use dap_base::{ItemList, OutOfMemory, Source, Words};
@@ -14,6 +15,7 @@ use job_source::{Unread, read_job};
 use pack_faults::{PackFaults, PackRefusal, Request, pack_faults};
 use pack_warnings::{PackWarning, pack_warnings};
 use std::alloc::Global;
+use tool_calls::Unasked;
 
 /// What is answered.
 #[derive(Drop)]
@@ -30,15 +32,6 @@ pub enum Answer {
     Faults(Format, PackFaults),
     /// The same, and all warnings of these sets.
     Warned(Format, PackFaults, ItemList<PackWarning>),
-}
-
-/// Why it is not known what is asked for.
-#[derive(Clone, Copy, Debug, PartialEq, Eq)]
-pub enum Unasked {
-    /// The source failed.
-    ReadFault,
-    /// Memory was refused.
-    OutOfMemory,
 }
 
 // What is answered where there is no set.
@@ -103,8 +96,7 @@ fn ask_of_bytes(alloc: Global, asked: Asked, bytes: &[u8]) -> Result<Answer, Out
 fn ask_of_source<S: Source>(alloc: Global, asked: Asked, source: &mut S) -> Result<Answer, Unasked>
     ensures asked { (given : List (List ℕ)) → words_asked.Asks given asked
         → IfOk result (λ answer. (bytes : List ℕ) × AreBytesOf (S.left source.old) bytes × Asks given bytes answer) }
-    ensures taken { OnOk result (AreTaken (S.left source.old) (S.left source.new)) }
-    ensures source { NamesFault Unasked.ReadFault (S.faults source.old) (S.faults source.new) result }
+    ensures reads { ReadsJob result (S.left source.old) (S.left source.new) (S.faults source.old) (S.faults source.new) }
 {
     let bytes = match read_job(alloc, source) {
         Ok(bytes) => bytes,

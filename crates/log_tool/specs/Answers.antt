@@ -1,7 +1,5 @@
 -- What is written, and the exit statuses.
 use Rattle.std.specs.Prelude.{ℕ, List, ◌++◌, codes}
-use Rattle.text_lines.specs.declared.putting.TextError.{TextError}
-use Rattle.text_lines.specs.declared.putting.TextError.TheVariants as errors
 use Rattle.check_lines.specs.RefusalLines.{no_sequence_line, refusal_line, too_long_line}
 use Rattle.log_tool.specs.declared.asking.Answer.{Answer}
 use Rattle.log_tool.specs.declared.asking.Answer.TheVariants as answers
@@ -27,10 +25,6 @@ code_of status.Failed = 10
 abbrev pub usage_line : List ℕ
 usage_line = codes "usage dapseq_log --device NAME --sequence NAME [--variant NAME] [--pname NAME] [--turns N] [--fail] < JOB\n"
 
--- the line of a source that failed
-abbrev pub fault_text : List ℕ
-fault_text = codes "end readfault\n"
-
 -- the text of an answer
 unfoldable pub answer_text : Answer → List ℕ
 answer_text answers.Usage = usage_line
@@ -54,8 +48,3 @@ answer_status answers.TooLong = status.Refused
 answer_status answers.NoSequence = status.Refused
 answer_status (answers.Refused refusal) = status.Refused
 answer_status (answers.Log log) = of_run log.status
-
--- the status where a text was not written whole
-abbrev pub failed_status : TextError → Status
-failed_status errors.Failed = status.WriteFault
-failed_status errors.OutOfMemory = status.OutOfMemory

@@ -1,7 +1,6 @@
 //! What is written.
 ghost use Rattle.std.specs.Prelude.{◌≡◌, ◌++◌};
-ghost use Rattle.dap_base.specs.Streams.{PutAppends};
-ghost use Rattle.text_lines.specs.Causes.{NamesFault};
+ghost use Rattle.text_lines.specs.Puts.{PutsText};
 ghost use Rattle.log_tool.specs.Answers.{answer_status, answer_text, of_run, usage_line};
 
 use crate::asking::Answer;
@@ -40,16 +39,14 @@ const USAGE: &[u8] =
 
 // Writes the line of words that ask for nothing.
 fn write_usage<K: Sink>(sink: &mut K) -> Result<(), TextError>
-    ensures text { PutAppends (K.written sink.old) (K.written sink.new) result usage_line }
-    ensures sink { NamesFault TextError.Failed (K.faults sink.old) (K.faults sink.new) result }
+    ensures puts { PutsText usage_line result TextError.Failed K.written K.faults sink.old sink.new }
 {
     put_text(USAGE, sink)
 }
 
 // Writes a log: what was seen, by one `put`, and then the last lines.
 fn write_log<K: Sink>(log: &RunLog, sink: &mut K) -> Result<(), TextError>
-    ensures text { PutAppends (K.written sink.old) (K.written sink.new) result (log.now.log.text ++ log.now.last) }
-    ensures sink { NamesFault TextError.Failed (K.faults sink.old) (K.faults sink.new) result }
+    ensures puts { PutsText (log.now.log.text ++ log.now.last) result TextError.Failed K.written K.faults sink.old sink.new }
 {
     match put_text(log.log.as_bytes(), sink) {
         Ok(()) => put_text(log.last.as_bytes(), sink),
@@ -60,8 +57,7 @@ fn write_log<K: Sink>(log: &RunLog, sink: &mut K) -> Result<(), TextError>
 /// Writes the text of an answer. At an error a part of it was written, from its front.
 #[tactic(auto, unfolding(crate::specs::Answers::answer_text))]
 pub fn write_answer<K: Sink>(alloc: Global, answer: &Answer, sink: &mut K) -> Result<(), TextError>
-    ensures text { PutAppends (K.written sink.old) (K.written sink.new) result (answer_text answer.now) }
-    ensures sink { NamesFault TextError.Failed (K.faults sink.old) (K.faults sink.new) result }
+    ensures puts { PutsText (answer_text answer.now) result TextError.Failed K.written K.faults sink.old sink.new }
 {
     match answer {
         Answer::Usage => write_usage(sink),

@@ -2,6 +2,7 @@
 ghost use Rattle.std.specs.Prelude.{◌≡◌, ℕ, List, Some, IfOk, OnOk, IsErrOf};
 ghost use Rattle.text_lines.specs.Causes.{NamesFault};
 ghost use Rattle.job_source.specs.Source.{AreBytesOf, AreTaken};
+ghost use Rattle.tool_calls.specs.Calls.{ReadsJob};
 ghost use Rattle.log_words.specs.Asks as words_asked;
 ghost use Rattle.log_tool.specs.Asked.{Asks, AsksOfBytes, IsLine, of_refusal};
 
@@ -11,6 +12,7 @@ use job_check::{Own, Refusal, RunRefusal, valid_run};
 use job_source::{Unread, read_job};
 use log_words::{Asked, WordsError, asked_of};
 use std::alloc::Global;
+use tool_calls::Unasked;
 
 /// What is answered.
 #[derive(Drop)]
@@ -25,15 +27,6 @@ pub enum Answer {
     Refused(Refusal),
     /// The log of the run.
     Log(RunLog),
-}
-
-/// Why it is not known what is asked for.
-#[derive(Clone, Copy, Debug, PartialEq, Eq)]
-pub enum Unasked {
-    /// The source failed.
-    ReadFault,
-    /// Memory was refused.
-    OutOfMemory,
 }
 
 // What is answered where no sequence runs.
@@ -62,8 +55,7 @@ fn ask_of_bytes(alloc: Global, asked: &Asked, bytes: &[u8]) -> Result<Answer, Ou
 fn ask_of_source<S: Source>(alloc: Global, asked: &Asked, source: &mut S) -> Result<Answer, Unasked>
     ensures asked { (given : List (List ℕ)) → words_asked.Asks given asked.now
         → IfOk result (λ answer. (bytes : List ℕ) × AreBytesOf (S.left source.old) bytes × Asks given bytes answer) }
-    ensures taken { OnOk result (AreTaken (S.left source.old) (S.left source.new)) }
-    ensures source { NamesFault Unasked.ReadFault (S.faults source.old) (S.faults source.new) result }
+    ensures reads { ReadsJob result (S.left source.old) (S.left source.new) (S.faults source.old) (S.faults source.new) }
 {
     let bytes = match read_job(alloc, source) {
         Ok(bytes) => bytes,

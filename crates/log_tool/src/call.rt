@@ -1,21 +1,23 @@
 //! The whole call.
 ghost use Rattle.std.specs.Prelude.{◌≡◌, ◌≢◌, ◌⊎◌, ℕ, List, Some};
 ghost use Rattle.dap_base.specs.Causes.{IsQuiet, Rose};
-ghost use Rattle.log_tool.specs.Answers.{answer_status, answer_text, failed_status, fault_text};
+ghost use Rattle.log_tool.specs.Answers.{answer_status, answer_text};
 ghost use Rattle.log_tool.specs.Asked.{IsLine, IsUsage, Runs};
-ghost use Rattle.log_tool.specs.Calls.{moment, Blames, Does, IsOfRun, RunsTo, IsDisturbed, IsDone, IsFinished, IsPut};
+ghost use Rattle.log_tool.specs.Calls.{faults, tool, IsOfRun, RunsTo};
 ghost use Rattle.job_source.specs.Source.{AreTaken};
+ghost use Rattle.tool_calls.specs.Calls.{failed_status, fault_text, moment, Blames, Does, Finishes, IsDisturbed, IsDone, PutsAs};
 
 use crate::answering::{status_of, write_answer};
-use crate::asking::{Answer, Unasked, ask};
+use crate::asking::{Answer, ask};
 use crate::status::Status;
 use dap_base::{Sink, Source, Words};
 use std::alloc::Global;
 use text_lines::TextError;
+use tool_calls::Unasked;
 
 // The status where a text was not written whole.
 fn failed_status(end: TextError) -> Status
-    ensures { result ≡ failed_status end }
+    ensures { result ≡ failed_status faults end }
 {
     match end {
         TextError::Failed => Status::WriteFault,
@@ -25,8 +27,7 @@ fn failed_status(end: TextError) -> Status
 
 // Writes an answer.
 fn answer<K: Sink>(alloc: Global, answer: &Answer, sink: &mut K) -> Status
-    ensures text { IsPut (K.written sink.old) (K.written sink.new) (answer_text answer.now) (answer_status answer.now) result }
-    ensures sink { Blames Status.WriteFault result (K.faults sink.old) (K.faults sink.new) }
+    ensures { PutsAs faults (answer_text answer.now) (answer_status answer.now) result K.written K.faults sink.old sink.new }
 {
     match write_answer(alloc, answer, sink) {
         Ok(()) => status_of(answer),
@@ -36,9 +37,8 @@ fn answer<K: Sink>(alloc: Global, answer: &Answer, sink: &mut K) -> Status
 
 // Reports that the source failed.
 fn read_fault<K: Sink>(sink: &mut K) -> Status
-    ensures text { IsPut (K.written sink.old) (K.written sink.new) fault_text Status.ReadFault result }
+    ensures puts { PutsAs faults fault_text Status.ReadFault result K.written K.faults sink.old sink.new }
     ensures ends { (result ≡ Status.ReadFault) ⊎ (result ≡ Status.WriteFault) }
-    ensures sink { Blames Status.WriteFault result (K.faults sink.old) (K.faults sink.new) }
 {
     match sink.put(b"end readfault\n") {
         Ok(()) => Status::ReadFault,
@@ -48,8 +48,7 @@ fn read_fault<K: Sink>(sink: &mut K) -> Status
 
 // Writes what is asked for, or what is written where that is not known.
 fn finish<K: Sink>(alloc: Global, asked: &Result<Answer, Unasked>, sink: &mut K) -> Status
-    ensures done { IsFinished asked.now (K.written sink.old) (K.written sink.new) result }
-    ensures sink { Blames Status.WriteFault result (K.faults sink.old) (K.faults sink.new) }
+    ensures { Finishes tool asked.now result K.written K.faults sink.old sink.new }
 {
     match asked {
         Ok(asked) => answer(alloc, asked, sink),
@@ -81,16 +80,16 @@ pub fn dapseq_log<S: Source, K: Sink>(
 ) -> Status
     // What the words and the bytes ask for was written.
     ensures asked { let at = moment S.left S.faults K.written K.faults in
-        Does (record { words = words.now; old = at source.old sink.old; new = at source.new sink.new; end = result }) }
+        Does tool (record { words = words.now; old = at source.old sink.old; new = at source.new sink.new; end = result }) }
     // It was written whole with its own status, unless the source or the sink failed or memory was refused.
     ensures success { let at = moment S.left S.faults K.written K.faults in
         IsQuiet (S.faults source.old) (S.faults source.new) → IsQuiet (K.faults sink.old) (K.faults sink.new) → result ≢ Status.OutOfMemory
-        → IsDone (record { words = words.now; old = at source.old sink.old; new = at source.new sink.new; end = result }) }
+        → IsDone tool (record { words = words.now; old = at source.old sink.old; new = at source.new sink.new; end = result }) }
 
     // The status of a run comes only where a sequence of the job runs, and is that of its run. Where one runs, it is no other without a
     // fault outside.
     ensures run { IsOfRun result → RunsTo words.now (S.left source.old) result }
-    ensures run_only { (bytes : List ℕ) (end : Status) → S.left source.old ≡ Some bytes → Runs words.now bytes end → (result ≡ end) ⊎ IsDisturbed result }
+    ensures run_only { (bytes : List ℕ) (end : Status) → S.left source.old ≡ Some bytes → Runs words.now bytes end → (result ≡ end) ⊎ IsDisturbed faults result }
 
     // The words alone decide on the usage, and whether the source is read: to its end, or one byte too far.
     ensures usage { result ≡ Status.Usage → IsUsage words.now }

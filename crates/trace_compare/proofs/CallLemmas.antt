@@ -1,6 +1,7 @@
 -- The statuses of a file that cannot be opened.
-use Rattle.std.proofs.Common.{◌≡◌, ℕ, true, List, Option}
+use Rattle.std.proofs.Common.{◌≡◌, ℕ, true, List, Option, inl, refl, subst}
 use Rattle.dap_base.specs.Causes.{Rose}
+use Rattle.tool_calls.specs.Calls.{Blames}
 use Rattle.trace_compare.specs.declared.call.Status.{Status}
 use Rattle.trace_compare.specs.declared.call.Status.TheVariants as status
 use Rattle.trace_compare.specs.Blames.{BlamesFile, leaves_file}
@@ -19,3 +20,7 @@ leaves name status.OutOfMemory old new text is = let no : ⊥ = cc in no
 -- the count of the file rose
 pub refused : (name : List ℕ) (result : Status) (old new : Option (List ℕ)) (before now : ℕ) → WritesRefusal name result old new → Rose before now → BlamesFile result before now
 refused name result old new before now text rose = record { failed = λ is. rose; else = λ is. absurd (leaves name result old new text is) }
+
+-- the source did not fail
+pub unblamed : (name : List ℕ) (result : Status) (old new : Option (List ℕ)) (count : ℕ) → WritesRefusal name result old new → Blames status.ReadFault result count count
+unblamed name result old new count text = record { failed = λ is. absurd (subst (λ (s : Status). WritesRefusal name s old new) is text); else = inl refl }

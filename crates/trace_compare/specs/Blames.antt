@@ -1,14 +1,9 @@
 -- Which object a status names.
-use Rattle.std.specs.Prelude.{◌≡◌, ◌≢◌, ℕ, Bool, true, false}
+use Rattle.std.specs.Prelude.{◌≡◌, ℕ, Bool, true, false, List, Option}
 use Rattle.dap_base.specs.Causes.{Rose}
+use Rattle.tool_calls.specs.Calls.{Blames}
 use Rattle.trace_compare.specs.declared.call.Status.{Status}
 use Rattle.trace_compare.specs.declared.call.Status.TheVariants as status
-
--- The status that names an object comes only where the object's count of faults rose, or is at its last value. Any other status leaves the
--- count.
-pub record Blames (fault result : Status) (before now : ℕ) : Type 0 where
-  pub failed : result ≡ fault → Rose before now
-  pub else : result ≢ fault → now ≡ before
 
 -- the statuses of the file
 abbrev pub is_of_file : Status → Bool
@@ -37,3 +32,15 @@ leaves_file status.OutOfMemory = false
 pub record BlamesFile (result : Status) (before now : ℕ) : Type 0 where
   pub failed : is_of_file result ≡ true → Rose before now
   pub else : leaves_file result ≡ true → now ≡ before
+
+-- a status names the source, the file or the sink only where that object failed
+pub record BlamesEach (result : Status) (source_old source_new file_old file_new sink_old sink_new : ℕ) : Type 0 where
+  pub source : Blames status.ReadFault result source_old source_new
+  pub file : BlamesFile result file_old file_new
+  pub sink : Blames status.WriteFault result sink_old sink_new
+
+-- what is written by how a call ended; the status names the sink only where it failed
+pub record WritesInto {K : Type 0} (Writes : Status → Option (List ℕ) → Option (List ℕ) → Type 0) (result : Status) (written : K → Option (List ℕ))
+    (faults : K → ℕ) (old new : K) : Type 0 where
+  pub text : Writes result (written old) (written new)
+  pub sink : Blames status.WriteFault result (faults old) (faults new)

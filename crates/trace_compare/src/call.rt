@@ -1,7 +1,8 @@
 //! A call of the program `dapseq_words`.
 ghost use Rattle.std.specs.Prelude.{◌≡◌, ◌≢◌, ℕ, List, [], IfOk, Some, None, false};
 ghost use Rattle.std.specs.Option.{option_copied};
-ghost use Rattle.trace_compare.specs.Blames.{Blames, BlamesFile, is_of_file};
+ghost use Rattle.tool_calls.specs.Calls.{Blames};
+ghost use Rattle.trace_compare.specs.Blames.{BlamesEach, BlamesFile, is_of_file, WritesInto};
 ghost use Rattle.trace_compare.specs.Calls.{code_of, file_named, refusal_line, Writes, WritesAgainst, WritesFile, WritesRefusal, WritesUsage};
 
 use crate::compare::{CompareEnd, compare_traces};
@@ -51,8 +52,7 @@ impl Status {
 
 // The line of a wrong call.
 fn write_usage<K: Sink>(sink: &mut K) -> Status
-    ensures usage { WritesUsage result (K.written sink.old) (K.written sink.new) }
-    ensures sink { Blames Status.WriteFault result (K.faults sink.old) (K.faults sink.new) }
+    ensures { WritesInto WritesUsage result K.written K.faults sink.old sink.new }
 {
     match sink.put(b"usage dapseq_words [--against FILE] < TRACE\n") {
         Ok(()) => Status::Usage,
@@ -81,8 +81,7 @@ fn refusal_line(alloc: Global, name: &str) -> Result<Line, OutOfMemory>
 
 // Writes it.
 fn write_refusal<K: Sink>(alloc: Global, name: &str, sink: &mut K) -> Status
-    ensures text { WritesRefusal name.now result (K.written sink.old) (K.written sink.new) }
-    ensures sink { Blames Status.WriteFault result (K.faults sink.old) (K.faults sink.new) }
+    ensures { WritesInto (WritesRefusal name.now) result K.written K.faults sink.old sink.new }
 {
     let Ok(line) = refusal_line(alloc, name) else {
         return Status::OutOfMemory;
@@ -118,9 +117,7 @@ fn write_comparison<S: Source, F: Source, K: Sink>(
 ) -> Status
     ensures text { (bytes others : List ℕ) → S.left source.old ≡ Some bytes → F.left file.old ≡ Some others
         → WritesAgainst bytes others result (K.written sink.old) (K.written sink.new) }
-    ensures source { Blames Status.ReadFault result (S.faults source.old) (S.faults source.new) }
-    ensures file { BlamesFile result (F.faults file.old) (F.faults file.new) }
-    ensures sink { Blames Status.WriteFault result (K.faults sink.old) (K.faults sink.new) }
+    ensures faults { BlamesEach result (S.faults source.old) (S.faults source.new) (F.faults file.old) (F.faults file.new) (K.faults sink.old) (K.faults sink.new) }
 {
     match compare_traces(alloc, source, file, sink) {
         Ok(true) => Status::Done,
@@ -142,9 +139,7 @@ fn write_against<S: Source, F: NamedFile, K: Sink>(
 ) -> Status
     ensures text { (bytes others : List ℕ) → S.left source.old ≡ Some bytes → F.contents file.old name.now ≡ Some others
         → WritesFile name.now bytes others result (K.written sink.old) (K.written sink.new) }
-    ensures source { Blames Status.ReadFault result (S.faults source.old) (S.faults source.new) }
-    ensures file { BlamesFile result (F.faults file.old) (F.faults file.new) }
-    ensures sink { Blames Status.WriteFault result (K.faults sink.old) (K.faults sink.new) }
+    ensures faults { BlamesEach result (S.faults source.old) (S.faults source.new) (F.faults file.old) (F.faults file.new) (K.faults sink.old) (K.faults sink.new) }
 {
     match file.open(name) {
         Ok(()) => write_comparison(alloc, source, file, sink),

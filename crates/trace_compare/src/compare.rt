@@ -4,7 +4,7 @@ ghost use Rattle.std.specs.Io.KnownBytes.{Appends};
 ghost use Rattle.dap_base.specs.Streams.{AppendsPrefix};
 ghost use Rattle.text_lines.specs.Causes.{NamesFault};
 ghost use Rattle.trace_compare.specs.Comparison.{are_alike, is_end, is_right, words_against};
-ghost use Rattle.trace_compare.specs.Faults.{IsOfSink};
+ghost use Rattle.trace_compare.specs.Faults.{IsOfSink, NamesEach};
 ghost use Rattle.trace_compare.specs.Pairs.{alike_left, compared_left, comparison_left, PutsDifference};
 ghost use Rattle.trace_compare.specs.Texts.{two_text};
 
@@ -60,9 +60,7 @@ fn put_difference<S: Source, A: Source, K: Sink>(
         (A.left against.new) (K.written sink.old) (K.written sink.new)) }
     ensures part { (a b : List ℕ) → S.left source.old ≡ Some a → A.left against.old ≡ Some b
         → OnErr result (AppendsPrefix (K.written sink.old) (K.written sink.new) (compared_left 0 traces.old a b).text) }
-    ensures source { NamesFault CompareEnd.ReadFault (S.faults source.old) (S.faults source.new) result }
-    ensures against { NamesFault CompareEnd.AgainstFault (A.faults against.old) (A.faults against.new) result }
-    ensures sink { NamesFault CompareEnd.WriteFault (K.faults sink.old) (K.faults sink.new) result }
+    ensures faults { NamesEach result (S.faults source.old) (S.faults source.new) (A.faults against.old) (A.faults against.new) (K.faults sink.old) (K.faults sink.new) }
 {
     let mut last = 0u64;
     for _ in 0..u64::MAX {
@@ -95,9 +93,7 @@ fn put_comparison<S: Source, A: Source, K: Sink>(
         → IfOk result (λ alike. Appends (K.written sink.old) (K.written sink.new) (comparison_left traces.old a b) × (alike ≡ alike_left traces.old a b)) }
     ensures part { (a b : List ℕ) → S.left source.old ≡ Some a → A.left against.old ≡ Some b
         → OnErr result (AppendsPrefix (K.written sink.old) (K.written sink.new) (comparison_left traces.old a b)) }
-    ensures source { NamesFault CompareEnd.ReadFault (S.faults source.old) (S.faults source.new) result }
-    ensures against { NamesFault CompareEnd.AgainstFault (A.faults against.old) (A.faults against.new) result }
-    ensures sink { NamesFault CompareEnd.WriteFault (K.faults sink.old) (K.faults sink.new) result }
+    ensures faults { NamesEach result (S.faults source.old) (S.faults source.new) (A.faults against.old) (A.faults against.new) (K.faults sink.old) (K.faults sink.new) }
 {
     let is_same = put_difference(alloc, traces, source, against, sink)?;
     traces.take_all(alloc, source, against)?;

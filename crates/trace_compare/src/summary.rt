@@ -1,9 +1,7 @@
 //! What is counted of two traces, into a sink.
-ghost use Rattle.std.specs.Prelude.{◌<◌, IfErr};
-ghost use Rattle.dap_base.specs.Streams.{PutAppends};
-ghost use Rattle.text_lines.specs.Causes.{NamesFault};
+ghost use Rattle.std.specs.Prelude.{◌<◌};
 ghost use Rattle.trace_compare.specs.Comparison.{summary};
-ghost use Rattle.trace_compare.specs.Faults.{IsOfSink};
+ghost use Rattle.trace_compare.specs.Faults.{PutsOnly};
 ghost use Rattle.trace_compare.specs.Texts.{count_line, count_lines};
 
 use crate::compare::CompareEnd;
@@ -24,9 +22,7 @@ fn put_count<K: Sink>(
     sink: &mut K,
 ) -> Result<(), CompareEnd>
     requires { place < 32800 }
-    ensures text { PutAppends (K.written sink.old) (K.written sink.new) result (count_line place first second) }
-    ensures sink { NamesFault CompareEnd.WriteFault (K.faults sink.old) (K.faults sink.new) result }
-    ensures other { IfErr result IsOfSink }
+    ensures { PutsOnly (count_line place first second) result K.written K.faults sink.old sink.new }
 {
     if first == second {
         return Ok(());
@@ -41,9 +37,7 @@ fn put_counts<K: Sink>(
     second: &Counts,
     sink: &mut K,
 ) -> Result<(), CompareEnd>
-    ensures text { PutAppends (K.written sink.old) (K.written sink.new) result (count_lines 32800 first.now second.now) }
-    ensures sink { NamesFault CompareEnd.WriteFault (K.faults sink.old) (K.faults sink.new) result }
-    ensures other { IfErr result IsOfSink }
+    ensures { PutsOnly (count_lines 32800 first.now second.now) result K.written K.faults sink.old sink.new }
 {
     for place in 0..PLACES {
         match put_count(alloc, place, first.get(place), second.get(place), sink) {
@@ -61,9 +55,7 @@ pub fn put_summary<K: Sink>(
     second: &Counter,
     sink: &mut K,
 ) -> Result<(), CompareEnd>
-    ensures text { PutAppends (K.written sink.old) (K.written sink.new) result (summary first.now second.now) }
-    ensures sink { NamesFault CompareEnd.WriteFault (K.faults sink.old) (K.faults sink.new) result }
-    ensures other { IfErr result IsOfSink }
+    ensures { PutsOnly (summary first.now second.now) result K.written K.faults sink.old sink.new }
 {
     match put_line(
         wrong_line(alloc, first.count_wrong(), second.count_wrong()),

@@ -1,7 +1,6 @@
 //! Two traces side by side.
-ghost use Rattle.std.specs.Prelude.{◌≡◌, ◌≢◌, IfErr, IfOk, OnOk};
-ghost use Rattle.text_lines.specs.Causes.{NamesFault};
-ghost use Rattle.trace_compare.specs.Faults.{against_end, trace_end};
+ghost use Rattle.std.specs.Prelude.{◌≡◌, IfOk, OnOk};
+ghost use Rattle.trace_compare.specs.Faults.{against_end, trace_end, ReadsTwo};
 ghost use Rattle.trace_compare.specs.Pairs.{first_two, GivesTwo, TakesBoth};
 ghost use Rattle.trace_compare.specs.Comparison.{same_number, is_end};
 
@@ -87,9 +86,7 @@ impl Traces {
         against: &mut A,
     ) -> Result<Two, CompareEnd>
         ensures next { IfOk result (GivesTwo self.old self.new (S.left source.old) (S.left source.new) (A.left against.old) (A.left against.new)) }
-        ensures source { NamesFault CompareEnd.ReadFault (S.faults source.old) (S.faults source.new) result }
-        ensures against { NamesFault CompareEnd.AgainstFault (A.faults against.old) (A.faults against.new) result }
-        ensures other { IfErr result (λ e. e ≢ CompareEnd.WriteFault) }
+        ensures faults { ReadsTwo result (S.faults source.old) (S.faults source.new) (A.faults against.old) (A.faults against.new) }
     {
         let first = match self.trace.next(alloc, source) {
             Ok(found) => found,
@@ -115,9 +112,7 @@ impl Traces {
         against: &mut A,
     ) -> Result<(), CompareEnd>
         ensures taken { OnOk result (TakesBoth self.old self.new (S.left source.old) (A.left against.old)) }
-        ensures source { NamesFault CompareEnd.ReadFault (S.faults source.old) (S.faults source.new) result }
-        ensures against { NamesFault CompareEnd.AgainstFault (A.faults against.old) (A.faults against.new) result }
-        ensures other { IfErr result (λ e. e ≢ CompareEnd.WriteFault) }
+        ensures faults { ReadsTwo result (S.faults source.old) (S.faults source.new) (A.faults against.old) (A.faults against.new) }
     {
         match self.trace.take_all(alloc, source) {
             Ok(()) => {}

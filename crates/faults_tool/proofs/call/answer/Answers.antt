@@ -1,6 +1,11 @@
-use Rattle.faults_tool.proofs.AnswerLemmas.{own_blames}
+use Rattle.std.proofs.Common.{inr, inl}
+use Rattle.tool_calls.proofs.CallLemmas.{put_part, put_whole}
+use Rattle.faults_tool.specs.Calls.{faults}
+use Rattle.faults_tool.proofs.AnswerLemmas.{memory_apart, undisturbed}
 use Rattle.faults_tool.proofs.call.answer.Goals as goal
 
-pub returns-in-Ok-clause-sink : goal.returns-in-Ok-clause-sink
-returns-in-Ok-clause-sink g c =
-    own_blames c.args.answer.now c.status_of.result (g.K.Sink.faults c.args.sink.now) (g.K.Sink.faults c.write_answer.new.sink) c.status_of.ensures c.in-Ok.ensures.puts.sink.else
+pub returns-in-Ok : goal.returns-in-Ok
+returns-in-Ok g c = put_whole faults _ _ _ tt _ _ _ _ c.in-Ok.ensures.puts c.status_of.ensures (λ is. undisturbed c.args.answer.now (inr (inl is)))
+
+pub returns-in-Err : goal.returns-in-Err
+returns-in-Err g c = put_part faults _ _ _ c.in-Err.end _ _ _ _ c.in-Err.ensures.puts c.failed_status.ensures memory_apart

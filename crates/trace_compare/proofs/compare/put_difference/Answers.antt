@@ -20,8 +20,8 @@ loop-preserved g c = record {
   ahead = alike_on _ _ _ _ _ _ _ _ _ _ _ c.in_ok-two.two c.loop.invariant.ahead c.in_ok-two.ensures.next (sym c.in-Some.ensures);
   unwritten = c.loop.invariant.unwritten;
   sink_quiet = c.loop.invariant.sink_quiet;
-  source_quiet = c.in_ok-two.ensures.source.else ∙ c.loop.invariant.source_quiet;
-  against_quiet = c.in_ok-two.ensures.against.else ∙ c.loop.invariant.against_quiet;
+  source_quiet = c.in_ok-two.ensures.faults.source.else ∙ c.loop.invariant.source_quiet;
+  against_quiet = c.in_ok-two.ensures.faults.against.else ∙ c.loop.invariant.against_quiet;
 }
 
 abbrev failed : Result Bool CompareEnd
