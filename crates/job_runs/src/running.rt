@@ -13,7 +13,7 @@ ghost use Rattle.task_runs.specs.Tasks.{ClosesAs, sequel_of};
 
 use crate::kept::Kept;
 use crate::ranges::numbers_fit;
-use access_calls::{Ended, Ending, NotBegun, OverBench, Stop};
+use access_calls::{Ended, Ending, NotBegun, OverBench};
 use dap_base::Sink;
 use job_check::ValidRun;
 use probe_core::{Bench, Config};

@@ -2,7 +2,7 @@
 ghost use Rattle.std.specs.Prelude.{◌≡◌, ◌++◌, ◌∷◌, [], drop, take, slice_get, IfOk, OnOk};
 ghost use Rattle.log_lines.specs.Places.{debug_spot, spot_in};
 
-use dap_base::{ItemList, NameText, OutOfMemory, Place};
+use dap_base::{NameText, OutOfMemory, Place};
 use sequence_trees::{Part, Spot, StepPath, copy_path};
 use std::alloc::Global;
 use std::marker::Model;

@@ -1,5 +1,5 @@
 //! What a run can cover.
-ghost use Rattle.std.specs.Prelude.{◌≡◌, ◌++◌, ◌∷◌, [], false, IfOk, OnOk, option_map};
+ghost use Rattle.std.specs.Prelude.{◌≡◌, ◌++◌, ◌∷◌, [], false, OnOk, option_map};
 ghost use Rattle.expr_grammar.specs.Tree.{tree, stmt_tree, code_trees};
 ghost use Rattle.sequence_trees.specs.Trees.{step_tree, steps_tree};
 ghost use Rattle.run_events.specs.OfSteps.{place_of};

@@ -6,7 +6,7 @@ ghost use Rattle.log_lines.specs.Places.{spot_in};
 ghost use Rattle.run_coverage.specs.Items.{ran_words};
 ghost use Rattle.run_coverage.specs.Ran.{is_had, words_of};
 
-use dap_base::{ItemList, NameText, OutOfMemory, Place};
+use dap_base::{NameText, OutOfMemory, Place};
 use sequence_trees::{StepPath, copy_path};
 use std::alloc::Global;
 

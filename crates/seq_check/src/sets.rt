@@ -1,12 +1,9 @@
 //! The first fault of a whole set, apart from calls that lead back or too deep.
-ghost use Rattle.std.specs.Prelude.{◌≡◌, ◌<◌, Some, true, false, IfOk, OnOk, IfNone, map, length, option_map, slice_get};
-ghost use Rattle.std.specs.List.{IsDistinct};
-ghost use Rattle.std.specs.Str.{bytes_eq};
+ghost use Rattle.std.specs.Prelude.{◌≡◌, ◌<◌, Some, true, false, IfOk, OnOk, IfNone, map, option_map};
 ghost use Rattle.expr_grammar.specs.Tree.{code_trees};
 ghost use Rattle.code_check.specs.First.{IsFirst};
 ghost use Rattle.code_check.specs.BlockFaults.{names_after_all, BlockFault};
 ghost use Rattle.sequence_trees.specs.declared.spot.Part.TheVariants as parts;
-ghost use Rattle.sequence_trees.specs.Trees.{steps_tree};
 ghost use Rattle.sequence_trees.specs.SetView.{set_trees};
 ghost use Rattle.seq_check.specs.declared.faulty.Holder.TheVariants as holders;
 ghost use Rattle.seq_check.specs.StepFaults.{At};
@@ -19,7 +16,7 @@ use crate::steps::inner_fault;
 use code_check::{Names, block_fault};
 use dap_base::OutOfMemory;
 use expr_grammar::Stmt;
-use sequence_trees::{CheckedSteps, Part, ReadSet};
+use sequence_trees::{Part, ReadSet};
 use std::alloc::Global;
 
 fn debugvars_fault(

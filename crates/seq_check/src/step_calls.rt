@@ -1,5 +1,5 @@
 //! The calls of sequences in steps.
-ghost use Rattle.std.specs.Prelude.{◌≡◌, ◌++◌, ◌∷◌, [], IfOk, OnOk, option_map};
+ghost use Rattle.std.specs.Prelude.{◌≡◌, ◌++◌, ◌∷◌, [], OnOk, option_map};
 ghost use Rattle.expr_grammar.specs.Tree.{tree, code_trees};
 ghost use Rattle.sequence_trees.specs.declared.spot.Part.TheVariants as parts;
 ghost use Rattle.sequence_trees.specs.Trees.{step_tree, steps_tree};

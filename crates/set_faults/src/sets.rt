@@ -1,8 +1,7 @@
 //! All faults of names, arguments and steps of a set.
-ghost use Rattle.std.specs.Prelude.{◌≡◌, ◌<◌, IfOk, OnOk, Some, length, map, slice_get, true, false};
+ghost use Rattle.std.specs.Prelude.{◌≡◌, ◌<◌, IfOk, OnOk, Some, map, true, false};
 ghost use Rattle.code_check.specs.BlockFaults.{names_after_all, BlockFault};
 ghost use Rattle.sequence_trees.specs.declared.spot.Part.TheVariants as parts;
-ghost use Rattle.sequence_trees.specs.Trees.{steps_tree};
 ghost use Rattle.sequence_trees.specs.SetView.{set_trees};
 ghost use Rattle.seq_check.specs.declared.faulty.Holder.TheVariants as holders;
 ghost use Rattle.seq_check.specs.StepFaults.{At};
