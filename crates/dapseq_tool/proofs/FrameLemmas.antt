@@ -22,8 +22,8 @@ use Rattle.dapseq_tool.specs.declared.asking.Answer.{Answer}
 use Rattle.dapseq_tool.specs.declared.asking.Answer.TheVariants as answers
 use Rattle.dapseq_tool.specs.declared.asking.Requested.{Requested}
 use Rattle.dapseq_tool.specs.declared.asking.Run.{Run}
-use Rattle.dapseq_tool.specs.declared.asking.Unasked.{Unasked}
-use Rattle.dapseq_tool.specs.declared.asking.Unasked.TheVariants as unasked
+use Rattle.tool_calls.specs.declared.unasked.Unasked.{Unasked}
+use Rattle.tool_calls.specs.declared.unasked.Unasked.TheVariants as unasked
 use Rattle.dapseq_tool.specs.declared.asking.What.{What}
 use Rattle.dapseq_tool.specs.declared.asking.What.TheVariants as whats
 use Rattle.dapseq_tool.specs.declared.status.Status.{Status}

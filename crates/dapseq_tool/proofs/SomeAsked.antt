@@ -66,7 +66,7 @@ module _ (words : List (List ℕ)) (bytes : List ℕ) where
   by_command (commands.Scan s sequence ap') is = read_line (commands.Scan s sequence ap') is tt
   by_command commands.Audit is = read_line commands.Audit is tt
   by_command (commands.Gen n) is =
-      let w = of_run its_device its_sequence purposes.Run (job_text n) (job_few n is.row.2.bits) in
+      let w = of_run its_device its_sequence purposes.Run (job_text n) (job_few n is.found.row.2.bits) in
       (record { number = Some n; what = w.0 }, generated n is refl w.1)
 
   pub something_is_asked : (asked : Requested) × Asks words bytes asked

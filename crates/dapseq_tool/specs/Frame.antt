@@ -2,18 +2,20 @@
 use Rattle.std.specs.Prelude.{◌≡◌, ◌≢◌, ◌⊎◌, ℕ, List, Option, Result, Ok, Err, IsSome}
 use Rattle.std.specs.Io.KnownBytes.{Appends}
 use Rattle.dap_base.specs.Streams.{AppendsPrefix}
-use Rattle.probe_core.specs.Bench.{Seen}
+use Rattle.probe_core.specs.Bench.{Reported, Seen}
+use Rattle.access_calls.specs.Opening.{IsIdle}
 use Rattle.dapseq_tool.specs.RunEnds.{DoesAfter}
 use Rattle.dap_base.specs.Causes.{IsQuiet, Rose}
 use Rattle.dapseq_tool.specs.Answers.{IsRunStatus, fault_text, head_text}
-use Rattle.dapseq_tool.specs.Asked.{Asks, IsReadLine, IsRunLine, IsSound, IsUsage, OnRun}
+use Rattle.dapseq_tool.specs.Asked.{Asks, IsReadLine, IsRunLine, IsSound, IsSoundRun, IsUsage, OnRun}
 use Rattle.dapseq_tool.specs.Headline.{After, Call, Does, FailsPutting, FailsWriting, IsPut}
 use Rattle.job_source.specs.Source.{AreBytesOf, AreTaken}
 use Rattle.job_runs.specs.Runs.{AccessKind}
 use Rattle.dapseq_tool.specs.declared.asking.Answer.TheVariants as answers
 use Rattle.dapseq_tool.specs.declared.asking.Requested.{Requested}
-use Rattle.dapseq_tool.specs.declared.asking.Unasked.{Unasked}
-use Rattle.dapseq_tool.specs.declared.asking.Unasked.TheVariants as unasked
+use Rattle.tool_calls.specs.declared.unasked.Unasked.{Unasked}
+use Rattle.tool_calls.specs.declared.unasked.Unasked.TheVariants as unasked
+use Rattle.dapseq_tool.specs.declared.asking.Run.{Run}
 use Rattle.dapseq_tool.specs.declared.asking.What.{What}
 use Rattle.dapseq_tool.specs.declared.asking.What.TheVariants as whats
 use Rattle.dapseq_tool.specs.declared.status.Status.{Status}
@@ -47,6 +49,25 @@ pub record CountsSink (old new : ℕ) (end : Status) : Type 0 where
 pub record CountsBench (old new : ℕ) (end : Status) : Type 0 where
   pub cause : end ≡ statuses.BenchFault → Rose old new
   pub counted : (new ≡ old) ⊎ FailsWriting end
+
+-- What is kept over a bench: `same` says that it is the same one, and each fault of the sink and of the bench has its cause and is reported.
+pub record KeepsOver (same : Type 0) (sink_old sink_new bench_old bench_new : ℕ) (end : Status) : Type 0 where
+  pub identity : same
+  pub sink : CountsSink sink_old sink_new end
+  pub bench : CountsBench bench_old bench_new end
+
+-- The same of a run, whose status is one that a run can have.
+pub record KeepsRun (same : Type 0) (sink_old sink_new bench_old bench_new : ℕ) (end : Status) : Type 0 where
+  pub identity : same
+  pub sink : CountsSink sink_old sink_new end
+  pub bench : CountsBench bench_old bench_new end
+  pub among : IsRunStatus end
+
+-- A run is in its ranges, and a bench that reports this is idle and has the limits of its job.
+pub record IsLoadedFor (run : Run) (reported : Reported) : Type 0 where
+  pub sound : IsSoundRun run
+  pub idle : IsIdle reported
+  pub limits : run.valid.job.bench.limits ≡ reported.limits
 
 -- The status is one that what is asked for can have. A run has its own, the usage comes where it is asked for, and no source is read.
 pub record IsStatusFor (what : What) (end : Status) : Type 0 where

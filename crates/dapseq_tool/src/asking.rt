@@ -6,6 +6,7 @@ ghost use Rattle.dapseq_tool.specs.Asked.{AsksOfBytes, AsksOfCheck, AsksOfComman
 ghost use Rattle.dapseq_tool.specs.Frame.{IsAsked, IsFit};
 ghost use Rattle.dapseq_tool.specs.Generated.{its_device, its_sequence, job_text};
 ghost use Rattle.job_source.specs.Source.{AreBytesOf, AreTaken};
+ghost use Rattle.tool_calls.specs.Calls.{ReadsJob};
 
 use crate::auditing::{Audit, ask_for_audit};
 use crate::generating::job_of_number;
@@ -15,6 +16,7 @@ use job_check::{CheckRefusal, Own, Refusal, RunRefusal, ValidRun, ValidSet, vali
 use job_source::{Unread, read_job};
 use sequence_resolve::{Selection, SeqSet};
 use std::alloc::Global;
+use tool_calls::Unasked;
 use trace_audit::AuditFault;
 
 /// An answer without a run.
@@ -78,15 +80,6 @@ pub struct Requested {
     /// The number of the job that is made, in the mode `gen`.
     pub number: Option<u16>,
     pub what: What,
-}
-
-/// Why it is not known what is asked for.
-#[derive(Clone, Copy, Debug, PartialEq, Eq)]
-pub enum Unasked {
-    /// The source failed.
-    ReadFault,
-    /// Memory was refused.
-    OutOfMemory,
 }
 
 // What is asked for where no sequence runs.
@@ -184,9 +177,8 @@ fn ask_by_source<S: Source>(
 ) -> Result<What, Unasked>
     requires { ReadsSource command.now }
     ensures asked { IfOk result (λ what. (bytes : List ℕ) × AreBytesOf (S.left source.old) bytes × AsksOfCommand command.now bytes what) }
-    ensures taken { OnOk result (AreTaken (S.left source.old) (S.left source.new)) }
+    ensures reads { ReadsJob result (S.left source.old) (S.left source.new) (S.faults source.old) (S.faults source.new) }
     ensures fit { IfOk result (IsFit (IsRunCommand command.now)) }
-    ensures source { NamesFault Unasked.ReadFault (S.faults source.old) (S.faults source.new) result }
 {
     let bytes = match read_job(alloc, source) {
         Ok(bytes) => bytes,
@@ -239,9 +231,8 @@ fn ask_by_words<S: Source>(
     requires { ReadsSource command.now }
     ensures number { IfOk result (λ asked. asked.number ≡ None) }
     ensures asked { IfOk result (λ asked. (bytes : List ℕ) × AreBytesOf (S.left source.old) bytes × AsksOfCommand command.now bytes asked.what) }
-    ensures taken { OnOk result (AreTaken (S.left source.old) (S.left source.new)) }
+    ensures reads { ReadsJob result (S.left source.old) (S.left source.new) (S.faults source.old) (S.faults source.new) }
     ensures fit { IfOk result (λ asked. IsFit (IsRunCommand command.now) asked.what) }
-    ensures source { NamesFault Unasked.ReadFault (S.faults source.old) (S.faults source.new) result }
 {
     match ask_by_source(alloc, command, source) {
         Ok(what) => Ok(Requested { number: None, what }),

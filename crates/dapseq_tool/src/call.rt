@@ -4,14 +4,14 @@ ghost use Rattle.dap_base.specs.Causes.{IsQuiet, Rose};
 ghost use Rattle.probe_core.specs.Bench.{seen};
 ghost use Rattle.dapseq_tool.specs.Answers.{answer_status, answer_text, failed_status, fault_text};
 ghost use Rattle.dapseq_tool.specs.Asked.{IsReadLine, IsRunLine, IsSound, IsSoundAnswer, IsUsage};
-ghost use Rattle.dapseq_tool.specs.Frame.{CountsBench, CountsSink, IsFinished, IsFramed, IsFulfilled, IsStatusFor, IsUnasked};
+ghost use Rattle.dapseq_tool.specs.Frame.{CountsSink, IsFinished, IsFramed, IsFulfilled, IsStatusFor, IsUnasked, KeepsOver};
 ghost use Rattle.dapseq_tool.specs.Headline.{moment, Does, FailsWriting, IsPut};
 ghost use Rattle.job_source.specs.Source.{AreTaken};
 ghost use Rattle.dapseq_tool.specs.RunEnds.{DoesAfter};
 ghost use Rattle.job_runs.specs.Runs.{access_kind};
 
 use crate::answering::{status_of, write_answer, write_head};
-use crate::asking::{Answer, Requested, Unasked, What, ask};
+use crate::asking::{Answer, Requested, What, ask};
 use crate::runs::run_asked;
 use crate::status::Status;
 use access_calls::OverBench;
@@ -19,6 +19,7 @@ use dap_base::{Sink, Source, Words};
 use probe_core::Bench;
 use std::alloc::Global;
 use text_lines::TextError;
+use tool_calls::Unasked;
 
 /// How a call ended, and its bench.
 #[derive(Drop)]
@@ -61,9 +62,8 @@ fn perform<B: Bench, K: Sink, A: OverBench<B>>(
     ensures does { DoesAfter (access_kind A.Access.journal A.Access.cost A.Access.is_sparing) what.now (seen B.reported B.state bench)
         (result.bench ≡ bench) (K.written sink.old)
         (record { written = K.written sink.new; end = result.status; bench = seen B.reported B.state result.bench }) }
-    ensures identity { B.identity result.bench ≡ B.identity bench }
-    ensures sink { CountsSink (K.faults sink.old) (K.faults sink.new) result.status }
-    ensures bench { CountsBench (B.reported bench).faults (B.reported result.bench).faults result.status }
+    ensures keeps { KeepsOver (B.identity result.bench ≡ B.identity bench) (K.faults sink.old) (K.faults sink.new)
+        (B.reported bench).faults (B.reported result.bench).faults result.status }
     ensures status { IsStatusFor what.now result.status }
 {
     match what {
@@ -98,9 +98,8 @@ fn fulfil<B: Bench, K: Sink, A: OverBench<B>>(
     ensures done { IsFulfilled (access_kind A.Access.journal A.Access.cost A.Access.is_sparing) asked.now (seen B.reported B.state bench)
         (result.bench ≡ bench) (K.written sink.old)
         (record { written = K.written sink.new; end = result.status; bench = seen B.reported B.state result.bench }) }
-    ensures identity { B.identity result.bench ≡ B.identity bench }
-    ensures sink { CountsSink (K.faults sink.old) (K.faults sink.new) result.status }
-    ensures bench { CountsBench (B.reported bench).faults (B.reported result.bench).faults result.status }
+    ensures keeps { KeepsOver (B.identity result.bench ≡ B.identity bench) (K.faults sink.old) (K.faults sink.new)
+        (B.reported bench).faults (B.reported result.bench).faults result.status }
 {
     match write_head(alloc, asked.number, sink) {
         Ok(()) => perform::<B, K, A>(alloc, &asked.what, bench, sink),
@@ -133,9 +132,8 @@ fn finish<B: Bench, K: Sink, A: OverBench<B>>(
     ensures done { IsFinished (access_kind A.Access.journal A.Access.cost A.Access.is_sparing) asked.now (seen B.reported B.state bench)
         (result.bench ≡ bench) (K.written sink.old)
         (record { written = K.written sink.new; end = result.status; bench = seen B.reported B.state result.bench }) }
-    ensures identity { B.identity result.bench ≡ B.identity bench }
-    ensures sink { CountsSink (K.faults sink.old) (K.faults sink.new) result.status }
-    ensures bench { CountsBench (B.reported bench).faults (B.reported result.bench).faults result.status }
+    ensures keeps { KeepsOver (B.identity result.bench ≡ B.identity bench) (K.faults sink.old) (K.faults sink.new)
+        (B.reported bench).faults (B.reported result.bench).faults result.status }
 {
     match asked {
         Ok(asked) => fulfil::<B, K, A>(alloc, asked, bench, sink),

@@ -1,10 +1,9 @@
 //! A run that is asked for.
 ghost use Rattle.std.specs.Prelude.{◌≡◌, Some};
 ghost use Rattle.probe_core.specs.Bench.{fresh, seen};
-ghost use Rattle.access_calls.specs.Opening.{IsIdle};
-ghost use Rattle.dapseq_tool.specs.Answers.{IsRunStatus, close_status, run_status, status_after, text_status};
+ghost use Rattle.dapseq_tool.specs.Answers.{close_status, run_status, status_after, text_status};
 ghost use Rattle.dapseq_tool.specs.Asked.{IsSoundRun};
-ghost use Rattle.dapseq_tool.specs.Frame.{CountsBench, CountsSink};
+ghost use Rattle.dapseq_tool.specs.Frame.{IsLoadedFor, KeepsRun};
 ghost use Rattle.dapseq_tool.specs.Headline.{HasRun, RunEnd};
 ghost use Rattle.dapseq_tool.specs.RunEnds.{AskedRun};
 ghost use Rattle.job_runs.specs.Runs.{access_kind};
@@ -96,16 +95,12 @@ fn run_loaded<B: Bench, K: Sink, A: OverBench<B>>(
     bench: B,
     sink: &mut K,
 ) -> Over<B>
-    requires sound { IsSoundRun run.now }
-    requires idle { IsIdle (B.reported bench) }
-    requires limits { run.now.valid.job.bench.limits ≡ (B.reported bench).limits }
+    requires { IsLoadedFor run.now (B.reported bench) }
     ensures run { (r : RunEnd) × HasRun (access_kind A.Access.journal A.Access.cost A.Access.is_sparing) run.now
         (B.state bench ≡ Some (fresh run.now.valid.job.bench)) (B.reported bench) (K.written sink.old) r
         (record { written = K.written sink.new; end = result.status; bench = seen B.reported B.state result.bench }) }
-    ensures identity { B.identity result.bench ≡ B.identity bench }
-    ensures sink { CountsSink (K.faults sink.old) (K.faults sink.new) result.status }
-    ensures bench { CountsBench (B.reported bench).faults (B.reported result.bench).faults result.status }
-    ensures among { IsRunStatus result.status }
+    ensures keeps { KeepsRun (B.identity result.bench ≡ B.identity bench) (K.faults sink.old) (K.faults sink.new)
+        (B.reported bench).faults (B.reported result.bench).faults result.status }
 {
     let sequence = run.sequence.as_str();
     let followed = followed_of(run);
@@ -134,10 +129,8 @@ pub fn run_asked<B: Bench, K: Sink, A: OverBench<B>>(
     requires { IsSoundRun run.now }
     ensures run { AskedRun (access_kind A.Access.journal A.Access.cost A.Access.is_sparing) run.now (seen B.reported B.state bench) (K.written sink.old)
         (record { written = K.written sink.new; end = result.status; bench = seen B.reported B.state result.bench }) }
-    ensures identity { B.identity result.bench ≡ B.identity bench }
-    ensures sink { CountsSink (K.faults sink.old) (K.faults sink.new) result.status }
-    ensures bench { CountsBench (B.reported bench).faults (B.reported result.bench).faults result.status }
-    ensures among { IsRunStatus result.status }
+    ensures keeps { KeepsRun (B.identity result.bench ≡ B.identity bench) (K.faults sink.old) (K.faults sink.new)
+        (B.reported bench).faults (B.reported result.bench).faults result.status }
 {
     let mut bench = bench;
     match bench.load(alloc, &run.valid.job.bench) {

@@ -62,7 +62,7 @@ returns-clause-asked g c =
 
 pub returns-clause-taken : goal.returns-clause-taken
 returns-clause-taken g c =
-    taken_by_line c.args.words.now (AreTaken (g.S.Source.left c.args.source.now) (g.S.Source.left c.ask_by_words.new.source)) c.ask_by_words.result c.ask_by_words.ensures.taken
+    taken_by_line c.args.words.now (AreTaken (g.S.Source.left c.args.source.now) (g.S.Source.left c.ask_by_words.new.source)) c.ask_by_words.result c.ask_by_words.ensures.reads.taken
 
 pub returns-clause-unread : goal.returns-clause-unread
 returns-clause-unread g c = λ none. absurd (none (c.in-Ok.command, c.in-Ok.ensures.answer, c.in-None.ensures))
@@ -71,4 +71,4 @@ pub returns-clause-fault : goal.returns-clause-fault
 returns-clause-fault g c = λ is. (c.in-Ok.command, c.in-Ok.ensures.answer, c.in-None.ensures)
 
 pub returns-clause-source : goal.returns-clause-source
-returns-clause-source g c = c.ask_by_words.ensures.source
+returns-clause-source g c = c.ask_by_words.ensures.reads.source

@@ -28,7 +28,7 @@ returns-clause-frame g c =
     } in
     let access : AccessKind = access_kind g.A.Access.journal g.A.Access.cost g.A.Access.is_sparing in
     finished_framed access call (c.ask-asked.new.source ≡ c.args.source.now) (c.finish-over.result.bench ≡ c.args.bench) c.ask-asked.result c.ask-asked.ensures.asked c.ask-asked.ensures.source
-    c.ask-asked.ensures.unread c.ask-asked.ensures.taken c.ask-asked.ensures.fault c.finish-over.ensures.sink c.finish-over.ensures.bench c.finish-over.ensures.done
+    c.ask-asked.ensures.unread c.ask-asked.ensures.taken c.ask-asked.ensures.fault c.finish-over.ensures.keeps.sink c.finish-over.ensures.keeps.bench c.finish-over.ensures.done
 
 pub returns-clause-identity : goal.returns-clause-identity
-returns-clause-identity g c = c.finish-over.ensures.identity
+returns-clause-identity g c = c.finish-over.ensures.keeps.identity

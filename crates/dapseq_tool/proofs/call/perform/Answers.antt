@@ -12,15 +12,12 @@ run_asked-requires g c = sound_by_run c.args.what.now c.in-Run.run' c.in-Run.is 
 pub returns-in-Answer-clause-does : goal.returns-in-Answer-clause-does
 returns-in-Answer-clause-does g c = does_what _ c.args.what.now (whats.Answer c.in-Answer.what) _ _ _ _ c.in-Answer.is (c.answer.ensures.text, refl)
 
-pub returns-in-Answer-clause-identity : goal.returns-in-Answer-clause-identity
-returns-in-Answer-clause-identity g c = refl
-
-pub returns-in-Answer-clause-sink : goal.returns-in-Answer-clause-sink
-returns-in-Answer-clause-sink g c = c.answer.ensures.sink
-
-pub returns-in-Answer-clause-bench : goal.returns-in-Answer-clause-bench
-returns-in-Answer-clause-bench g c =
-    none_of_bench_answer _ _ _ c.in-Answer.what c.answer.result c.answer.ensures.text (g.B.Bench.reported c.args.bench).faults
+pub returns-in-Answer-clause-keeps : goal.returns-in-Answer-clause-keeps
+returns-in-Answer-clause-keeps g c = record {
+  identity = refl;
+  sink = c.answer.ensures.sink;
+  bench = none_of_bench_answer _ _ _ c.in-Answer.what c.answer.result c.answer.ensures.text (g.B.Bench.reported c.args.bench).faults;
+}
 
 pub returns-in-Answer-clause-status : goal.returns-in-Answer-clause-status
 returns-in-Answer-clause-status g c =
@@ -29,15 +26,13 @@ returns-in-Answer-clause-status g c =
 pub returns-in-Run-clause-does : goal.returns-in-Run-clause-does
 returns-in-Run-clause-does g c = does_what _ c.args.what.now (whats.Run c.in-Run.run') _ _ _ _ c.in-Run.is c.run_asked.ensures.run
 
-pub returns-in-Run-clause-identity : goal.returns-in-Run-clause-identity
-returns-in-Run-clause-identity g c = c.run_asked.ensures.identity
-
-pub returns-in-Run-clause-sink : goal.returns-in-Run-clause-sink
-returns-in-Run-clause-sink g c = c.run_asked.ensures.sink
-
-pub returns-in-Run-clause-bench : goal.returns-in-Run-clause-bench
-returns-in-Run-clause-bench g c = c.run_asked.ensures.bench
+pub returns-in-Run-clause-keeps : goal.returns-in-Run-clause-keeps
+returns-in-Run-clause-keeps g c = record {
+  identity = c.run_asked.ensures.keeps.identity;
+  sink = c.run_asked.ensures.keeps.sink;
+  bench = c.run_asked.ensures.keeps.bench;
+}
 
 pub returns-in-Run-clause-status : goal.returns-in-Run-clause-status
 returns-in-Run-clause-status g c =
-    status_for c.args.what.now (whats.Run c.in-Run.run') c.run_asked.result.status c.in-Run.is (status_of_run c.in-Run.run' c.run_asked.result.status c.run_asked.ensures.among)
+    status_for c.args.what.now (whats.Run c.in-Run.run') c.run_asked.result.status c.in-Run.is (status_of_run c.in-Run.run' c.run_asked.result.status c.run_asked.ensures.keeps.among)

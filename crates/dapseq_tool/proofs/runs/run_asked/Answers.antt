@@ -24,48 +24,33 @@ returns-in-Ok-clause-run g c =
           c.in-Ok.ensures.reported (h.1.bad bad);
     })
 
-pub returns-in-Ok-clause-identity : goal.returns-in-Ok-clause-identity
-returns-in-Ok-clause-identity g c = c.run_loaded.ensures.identity ∙ c.load.ensures.identity
-
-pub returns-in-Ok-clause-sink : goal.returns-in-Ok-clause-sink
-returns-in-Ok-clause-sink g c = c.run_loaded.ensures.sink
-
-pub returns-in-Ok-clause-bench : goal.returns-in-Ok-clause-bench
-returns-in-Ok-clause-bench g c =
-    bench_after (g.B.Bench.reported c.args.bench).faults (g.B.Bench.reported c.load.new.self).faults (g.B.Bench.reported c.run_loaded.result.bench).faults c.run_loaded.result.status
-    c.in-Ok.ensures.cause.ok c.run_loaded.ensures.bench
-
-pub returns-in-Ok-clause-among : goal.returns-in-Ok-clause-among
-returns-in-Ok-clause-among g c = c.run_loaded.ensures.among
+pub returns-in-Ok-clause-keeps : goal.returns-in-Ok-clause-keeps
+returns-in-Ok-clause-keeps g c = record {
+  identity = c.run_loaded.ensures.keeps.identity ∙ c.load.ensures.identity;
+  sink = c.run_loaded.ensures.keeps.sink;
+  bench = bench_after (g.B.Bench.reported c.args.bench).faults (g.B.Bench.reported c.load.new.self).faults (g.B.Bench.reported c.run_loaded.result.bench).faults c.run_loaded.result.status
+      c.in-Ok.ensures.cause.ok c.run_loaded.ensures.keeps.bench;
+  among = c.run_loaded.ensures.keeps.among;
+}
 
 pub returns-in-Err-Failed-clause-run : goal.returns-in-Err-Failed-clause-run
 returns-in-Err-Failed-clause-run g c = not_loaded (inl refl) refl c.in-Err-Failed.ensures.failed.state
 
-pub returns-in-Err-Failed-clause-identity : goal.returns-in-Err-Failed-clause-identity
-returns-in-Err-Failed-clause-identity g c = c.load.ensures.identity
-
-pub returns-in-Err-Failed-clause-sink : goal.returns-in-Err-Failed-clause-sink
-returns-in-Err-Failed-clause-sink g c = none_of_sink (g.K.Sink.faults c.args.sink.now) status.BenchFault (λ is. cc is)
-
-pub returns-in-Err-Failed-clause-bench : goal.returns-in-Err-Failed-clause-bench
-returns-in-Err-Failed-clause-bench g c =
-    load_failed c.in-Err-Failed.field-0 (g.B.Bench.reported c.args.bench).faults (g.B.Bench.reported c.load.new.self).faults c.in-Err-Failed.field-0-is c.in-Err-Failed.ensures.cause
-
-pub returns-in-Err-Failed-clause-among : goal.returns-in-Err-Failed-clause-among
-returns-in-Err-Failed-clause-among g c = tt
+pub returns-in-Err-Failed-clause-keeps : goal.returns-in-Err-Failed-clause-keeps
+returns-in-Err-Failed-clause-keeps g c = record {
+  identity = c.load.ensures.identity;
+  sink = none_of_sink (g.K.Sink.faults c.args.sink.now) status.BenchFault (λ is. cc is);
+  bench = load_failed c.in-Err-Failed.field-0 (g.B.Bench.reported c.args.bench).faults (g.B.Bench.reported c.load.new.self).faults c.in-Err-Failed.field-0-is c.in-Err-Failed.ensures.cause;
+  among = tt;
+}
 
 pub returns-in-Err-OutOfMemory-clause-run : goal.returns-in-Err-OutOfMemory-clause-run
 returns-in-Err-OutOfMemory-clause-run g c = not_loaded (inr refl) refl c.in-Err-OutOfMemory.ensures.failed.state
 
-pub returns-in-Err-OutOfMemory-clause-identity : goal.returns-in-Err-OutOfMemory-clause-identity
-returns-in-Err-OutOfMemory-clause-identity g c = c.load.ensures.identity
-
-pub returns-in-Err-OutOfMemory-clause-sink : goal.returns-in-Err-OutOfMemory-clause-sink
-returns-in-Err-OutOfMemory-clause-sink g c = none_of_sink (g.K.Sink.faults c.args.sink.now) status.OutOfMemory (λ is. cc is)
-
-pub returns-in-Err-OutOfMemory-clause-bench : goal.returns-in-Err-OutOfMemory-clause-bench
-returns-in-Err-OutOfMemory-clause-bench g c =
-    load_refused c.in-Err-OutOfMemory.field-0 (g.B.Bench.reported c.args.bench).faults (g.B.Bench.reported c.load.new.self).faults c.in-Err-OutOfMemory.field-0-is c.in-Err-OutOfMemory.ensures.cause
-
-pub returns-in-Err-OutOfMemory-clause-among : goal.returns-in-Err-OutOfMemory-clause-among
-returns-in-Err-OutOfMemory-clause-among g c = tt
+pub returns-in-Err-OutOfMemory-clause-keeps : goal.returns-in-Err-OutOfMemory-clause-keeps
+returns-in-Err-OutOfMemory-clause-keeps g c = record {
+  identity = c.load.ensures.identity;
+  sink = none_of_sink (g.K.Sink.faults c.args.sink.now) status.OutOfMemory (λ is. cc is);
+  bench = load_refused c.in-Err-OutOfMemory.field-0 (g.B.Bench.reported c.args.bench).faults (g.B.Bench.reported c.load.new.self).faults c.in-Err-OutOfMemory.field-0-is c.in-Err-OutOfMemory.ensures.cause;
+  among = tt;
+}

@@ -50,28 +50,21 @@ returns-clause-run g c =
       },
     )
 
-pub returns-clause-identity : goal.returns-clause-identity
-returns-clause-identity g c = c.write_whole-written.ensures.identity ∙ c.run_whole-ran.ensures.identity
-
-pub returns-clause-sink : goal.returns-clause-sink
-returns-clause-sink g c =
-    let ran = c.run_whole-ran.result in
-    counts_sink c.write_whole-written.result ran.ended.ending ran.close c.status_after.result (g.K.Sink.faults c.args.sink.now) (g.K.Sink.faults c.run_whole-ran.new.sink)
-    (g.K.Sink.faults c.write_whole-written.new.sink)
-    (c.status_after.ensures ∙ ap₂ (λ (x : Ended) (k : Close). status_after c.write_whole-written.result x.ending k) c.write_whole-written.ensures.ended c.write_whole-written.ensures.close)
-    (λ silent. c.write_whole-written.ensures.silent (c.run_whole-ran.ensures.unclosed (silent_end ran.ended.ending silent)) silent)
-    c.run_whole-ran.ensures.sink c.write_whole-written.ensures.sink
-
-pub returns-clause-bench : goal.returns-clause-bench
-returns-clause-bench g c =
-    let ran = c.run_whole-ran.result in
-    counts_bench c.write_whole-written.result ran.ended.ending ran.close c.status_after.result (g.B.Bench.reported c.args.bench).faults (g.B.Bench.reported ran.bench).faults
-    (g.B.Bench.reported c.write_whole-written.new.ran.bench).faults
-    (c.status_after.ensures ∙ ap₂ (λ (x : Ended) (k : Close). status_after c.write_whole-written.result x.ending k) c.write_whole-written.ensures.ended c.write_whole-written.ensures.close)
-    c.run_whole-ran.ensures.bench c.write_whole-written.ensures.bench
-
-pub returns-clause-among : goal.returns-clause-among
-returns-clause-among g c =
-    let ran = c.run_whole-ran.result in
-    among c.write_whole-written.result ran.ended.ending ran.close c.status_after.result
-    (c.status_after.ensures ∙ ap₂ (λ (x : Ended) (k : Close). status_after c.write_whole-written.result x.ending k) c.write_whole-written.ensures.ended c.write_whole-written.ensures.close)
+pub returns-clause-keeps : goal.returns-clause-keeps
+returns-clause-keeps g c = record {
+  identity = c.write_whole-written.ensures.identity ∙ c.run_whole-ran.ensures.identity;
+  sink = let ran = c.run_whole-ran.result in
+      counts_sink c.write_whole-written.result ran.ended.ending ran.close c.status_after.result (g.K.Sink.faults c.args.sink.now) (g.K.Sink.faults c.run_whole-ran.new.sink)
+      (g.K.Sink.faults c.write_whole-written.new.sink)
+      (c.status_after.ensures ∙ ap₂ (λ (x : Ended) (k : Close). status_after c.write_whole-written.result x.ending k) c.write_whole-written.ensures.ended c.write_whole-written.ensures.close)
+      (λ silent. c.write_whole-written.ensures.silent (c.run_whole-ran.ensures.unclosed (silent_end ran.ended.ending silent)) silent)
+      c.run_whole-ran.ensures.sink c.write_whole-written.ensures.sink;
+  bench = let ran = c.run_whole-ran.result in
+      counts_bench c.write_whole-written.result ran.ended.ending ran.close c.status_after.result (g.B.Bench.reported c.args.bench).faults (g.B.Bench.reported ran.bench).faults
+      (g.B.Bench.reported c.write_whole-written.new.ran.bench).faults
+      (c.status_after.ensures ∙ ap₂ (λ (x : Ended) (k : Close). status_after c.write_whole-written.result x.ending k) c.write_whole-written.ensures.ended c.write_whole-written.ensures.close)
+      c.run_whole-ran.ensures.bench c.write_whole-written.ensures.bench;
+  among = let ran = c.run_whole-ran.result in
+      among c.write_whole-written.result ran.ended.ending ran.close c.status_after.result
+      (c.status_after.ensures ∙ ap₂ (λ (x : Ended) (k : Close). status_after c.write_whole-written.result x.ending k) c.write_whole-written.ensures.ended c.write_whole-written.ensures.close);
+}
