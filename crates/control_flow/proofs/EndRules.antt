@@ -8,12 +8,13 @@ use Rattle.access_calls.specs.declared.stop.Stop.{Stop}
 use Rattle.access_calls.specs.declared.stop.Stop.TheVariants.{Cut, BenchFault, ReplyBad, OutOfMemory}
 use Rattle.control_flow.specs.Answers.{EndBy, HasLines, HasSinkCause}
 use Rattle.access_calls.specs.Endings.{ending_of}
-use Rattle.control_flow.specs.Closing.{ComesToEnd, EndsBy, NoWriteFault}
+use Rattle.control_flow.specs.Closing.{ComesToEnd, NoWriteFault}
 use Rattle.access_calls.specs.declared.ended.Ending.{Ending}
 use Rattle.access_calls.specs.declared.ended.Ending.TheVariants as e
 use Rattle.function_calls.proofs.Leaves.{left_on}
 use Rattle.function_calls.specs.Lines.{AppendsLines}
 use Rattle.function_calls.proofs.WholeLines.{lines_none}
+use Rattle.access_calls.specs.Asking.{EndsBy}
 
 -- the end that an access answers, where it takes no memory
 pub stopped_ended : (st : Stop) (end : Option Stop) → IsEnd end st → NoMemory st → EndsBy st end

@@ -1,5 +1,5 @@
 -- How a run is closed.
-use Rattle.std.specs.Prelude.{◌≡◌, ⊤, ℕ, List, [], ◌∷◌, map, Option, Some, None, Ok, Err}
+use Rattle.std.specs.Prelude.{◌≡◌, ⊤, ℕ, List, [], ◌∷◌, map, Ok, Err}
 use Rattle.target_calls.specs.Values.{number_of, IsAsked}
 use Rattle.target_calls.specs.World.{World}
 use Rattle.target_calls.specs.declared.calls.Ask.{Ask}
@@ -9,8 +9,6 @@ use Rattle.sequence_rules.specs.Late.{Late}
 use Rattle.sequence_rules.specs.Machine as machine
 use Rattle.sequence_rules.specs.Machine.{State, Out}
 use Rattle.sequence_rules.specs.declared.bindings.Binding.{Binding}
-use Rattle.access_calls.specs.declared.stop.Stop.{Stop}
-use Rattle.access_calls.specs.declared.stop.Stop.TheVariants as stop
 use Rattle.access_calls.specs.declared.ended.Ending.{Ending}
 use Rattle.access_calls.specs.declared.ended.Ending.TheVariants as e
 
@@ -26,13 +24,6 @@ numbers_in w calls bs = map (λ (b : Binding Value). record { name = b.name; val
 abbrev pub AreAsked : ℕ → List (Binding Value) → Type 0
 AreAsked calls [] = ⊤
 AreAsked calls (b ∷ bs) = IsAsked calls b.value × AreAsked calls bs
-
--- the end of an access that stopped so; refused memory is no end
-abbrev pub EndsBy : Stop → Option Stop → Type 0
-EndsBy (stop.Cut r) end = end ≡ Some (stop.Cut r)
-EndsBy (stop.BenchFault issued confirmed) end = end ≡ Some (stop.BenchFault issued confirmed)
-EndsBy stop.ReplyBad end = end ≡ Some stop.ReplyBad
-EndsBy stop.OutOfMemory end = end ≡ None
 
 -- the meaning came to its end here
 abbrev pub OutIs : Ending → State Value Late → Out Value Late (Unit {0}) → Type 0

@@ -17,7 +17,8 @@ ghost use Rattle.sequence_rules.specs.Shared.{bindings_of};
 ghost use Rattle.function_calls.specs.Ends.{HasEnded};
 ghost use Rattle.function_calls.specs.Held.{state_of};
 ghost use Rattle.control_flow.specs.Answers.{EndBy, EndsAs, HasNeeds, IsPart, ran};
-ghost use Rattle.control_flow.specs.Closing.{AreAsked, ComesToEnd, EndsBy, NoWriteFault, OutIs, numbers_in};
+ghost use Rattle.control_flow.specs.Closing.{AreAsked, ComesToEnd, NoWriteFault, OutIs, numbers_in};
+ghost use Rattle.access_calls.specs.Asking.{EndsBy};
 
 use access_calls::{Access, Ended, Ending, Stop};
 use dap_base::NameText;

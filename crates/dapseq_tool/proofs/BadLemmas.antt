@@ -8,7 +8,7 @@ use Rattle.access_calls.specs.Opening.{HasBadReply}
 use Rattle.job_runs.specs.Runs.{AccessKind, ComesTo, IsUnopened, LeavesAs, not_opened, opened}
 use Rattle.sequels.specs.declared.close.Close.{Close}
 use Rattle.dapseq_tool.proofs.RunLemmas.{close_apart, putting_fails}
-use Rattle.dapseq_tool.specs.Answers.{answer_status, answer_text, fault_text, head_text, run_status}
+use Rattle.dapseq_tool.specs.Answers.{answer_status, answer_text, head_text, run_status}
 use Rattle.dapseq_tool.specs.Headline.{After, Call, Does, DoesWhat, FailsWriting, HasRun, IsPut, IsRunTo, RunEnd, Runs, after_of, does, no_memory, not_headed, not_loaded, ran, unread}
 use Rattle.dapseq_tool.specs.Success.{HasGotBadReply, left_by, run_from}
 use Rattle.dapseq_tool.specs.declared.asking.Answer.{Answer}
@@ -18,6 +18,7 @@ use Rattle.dapseq_tool.specs.declared.asking.What.{What}
 use Rattle.dapseq_tool.specs.declared.asking.What.TheVariants as whats
 use Rattle.dapseq_tool.specs.declared.status.Status.{Status}
 use Rattle.dapseq_tool.specs.declared.status.Status.TheVariants as status
+use Rattle.tool_calls.specs.Calls.{fault_text}
 
 not_failing : (end : Status) → end ≡ status.ReplyBad → FailsWriting end → ⊥
 not_failing end is h = subst FailsWriting is h

@@ -13,9 +13,9 @@ use Rattle.probe_core.specs.Probe.{fresh_probe, target_of}
 use Rattle.probe_core.specs.Runs.{IsRun}
 use Rattle.probe_core.specs.declared.job.BenchJob.{BenchJob}
 use Rattle.trace_audit.specs.Texts as texts
-use Rattle.trace_audit.specs.Texts.{AreEntriesOf, IsEntry, IsEntryText}
+use Rattle.trace_audit.specs.Texts.{AreEntriesOf, IsEntry, IsEntryText, entry_mark}
 use Rattle.trace_audit.proofs.TextLemmas.{one_list}
-use Rattle.report_lines.specs.Trace.{entry_mark, kept_line, trace}
+use Rattle.report_lines.specs.Trace.{kept_line, trace}
 use Rattle.report_lines.specs.Audit.{audit_ok_line}
 use Rattle.report_lines.specs.Report.{target_part}
 use Rattle.report_lines.specs.Target.{target_lines}

@@ -108,7 +108,3 @@ IsRunStatus other = Unit {0}
 abbrev pub head_text : Option ℕ → List ℕ
 head_text None = []
 head_text (Some n) = codes "gen " ++ decimal n ++ codes "\n"
-
--- what is written where the source failed
-abbrev pub fault_text : List ℕ
-fault_text = codes "end readfault\n"

@@ -6,7 +6,7 @@ use Rattle.probe_core.specs.Bench.{Reported, Seen}
 use Rattle.access_calls.specs.Opening.{IsIdle}
 use Rattle.dapseq_tool.specs.RunEnds.{DoesAfter}
 use Rattle.dap_base.specs.Causes.{IsQuiet, Rose}
-use Rattle.dapseq_tool.specs.Answers.{IsRunStatus, fault_text, head_text}
+use Rattle.dapseq_tool.specs.Answers.{IsRunStatus, head_text}
 use Rattle.dapseq_tool.specs.Asked.{Asks, IsReadLine, IsRunLine, IsSound, IsSoundRun, IsUsage, OnRun}
 use Rattle.dapseq_tool.specs.Headline.{After, Call, Does, FailsPutting, FailsWriting, IsPut}
 use Rattle.job_source.specs.Source.{AreBytesOf, AreTaken}
@@ -20,6 +20,7 @@ use Rattle.dapseq_tool.specs.declared.asking.What.{What}
 use Rattle.dapseq_tool.specs.declared.asking.What.TheVariants as whats
 use Rattle.dapseq_tool.specs.declared.status.Status.{Status}
 use Rattle.dapseq_tool.specs.declared.status.Status.TheVariants as statuses
+use Rattle.tool_calls.specs.Calls.{fault_text}
 
 -- ---- what is asked for
 

@@ -20,7 +20,7 @@ use Rattle.sequels.specs.declared.close.Close.{Close}
 use Rattle.sequels.specs.declared.close.Close.TheVariants as closes
 use Rattle.job_source.specs.Source.{AreBytesOf, AreTaken}
 use Rattle.dapseq_tool.specs.Purpose.{sequel_by, shows_packets, task_by}
-use Rattle.dapseq_tool.specs.Answers.{answer_status, answer_text, fault_text, head_text, run_status}
+use Rattle.dapseq_tool.specs.Answers.{answer_status, answer_text, head_text, run_status}
 use Rattle.dapseq_tool.specs.Asked.{Asks}
 use Rattle.dapseq_tool.specs.declared.asking.Answer.{Answer}
 use Rattle.dapseq_tool.specs.declared.asking.Requested.{Requested}
@@ -29,6 +29,7 @@ use Rattle.dapseq_tool.specs.declared.asking.What.{What}
 use Rattle.dapseq_tool.specs.declared.asking.What.TheVariants as whats
 use Rattle.dapseq_tool.specs.declared.status.Status.{Status}
 use Rattle.dapseq_tool.specs.declared.status.Status.TheVariants as status
+use Rattle.tool_calls.specs.Calls.{fault_text}
 
 -- ---- a call
 

@@ -3,10 +3,10 @@ use Rattle.std.specs.Prelude.{◌≡◌, ℕ, List, ◌++◌, Some, count_by, ma
 use Rattle.hex.specs.Hex.{encode_lower}
 use Rattle.probe_core.specs.Bench.{BenchState}
 use Rattle.probe_core.specs.Log.{Entry, Log}
-use Rattle.report_lines.specs.Trace.{entry_mark}
 use Rattle.job_text.specs.declared.job.Job.{Job}
 use Rattle.dapseq_tool.specs.declared.asking.Run.{Run}
 use Rattle.dapseq_tool.specs.declared.auditing.Audit.{Audit}
+use Rattle.trace_audit.specs.Texts.{entry_mark}
 
 -- the line of a packet or of a reply, without its line feed
 abbrev pub entry_text : Entry → List ℕ

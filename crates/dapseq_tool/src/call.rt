@@ -2,13 +2,14 @@
 ghost use Rattle.std.specs.Prelude.{◌≡◌, ◌≢◌, ◌⊎◌, IfOk};
 ghost use Rattle.dap_base.specs.Causes.{IsQuiet, Rose};
 ghost use Rattle.probe_core.specs.Bench.{seen};
-ghost use Rattle.dapseq_tool.specs.Answers.{answer_status, answer_text, failed_status, fault_text};
+ghost use Rattle.dapseq_tool.specs.Answers.{answer_status, answer_text, failed_status};
 ghost use Rattle.dapseq_tool.specs.Asked.{IsReadLine, IsRunLine, IsSound, IsSoundAnswer, IsUsage};
 ghost use Rattle.dapseq_tool.specs.Frame.{CountsSink, IsFinished, IsFramed, IsFulfilled, IsStatusFor, IsUnasked, KeepsOver};
 ghost use Rattle.dapseq_tool.specs.Headline.{moment, Does, FailsWriting, IsPut};
 ghost use Rattle.job_source.specs.Source.{AreTaken};
 ghost use Rattle.dapseq_tool.specs.RunEnds.{DoesAfter};
 ghost use Rattle.job_runs.specs.Runs.{access_kind};
+ghost use Rattle.tool_calls.specs.Calls.{fault_text};
 
 use crate::answering::{status_of, write_answer, write_head};
 use crate::asking::{Answer, Requested, What, ask};

@@ -11,7 +11,8 @@ use Rattle.job_check.specs.declared.answer.Refusal.{Refusal}
 use Rattle.job_check.specs.declared.answer.Refusal.TheVariants as refusals
 use Rattle.job_check.specs.declared.answer.CheckRefusal.{CheckRefusal}
 use Rattle.job_check.specs.declared.answer.CheckRefusal.TheVariants as ends
-use Rattle.faults_tool.specs.Packs.{Answers, Describes, HasPack, IsAnswer, NoPack, OnRefusal, pack_in_job}
+use Rattle.faults_tool.specs.Packs.{Answers, Describes, HasPack, IsAnswer, NoPack, pack_in_job}
+use Rattle.job_check.specs.Answers.{OnRefusal}
 
 pub job_pack_reads : Reads pack_in_job HasPack
 unfolding pack_in_job

@@ -15,6 +15,7 @@ use Rattle.job_check.specs.declared.answer.Refusal.{Refusal}
 use Rattle.job_check.specs.declared.answer.Refusal.TheVariants as refusals
 use Rattle.job_check.specs.declared.answer.CheckRefusal.{CheckRefusal}
 use Rattle.job_check.specs.declared.answer.CheckRefusal.TheVariants as ends
+use Rattle.job_check.specs.Answers.{OnRefusal}
 
 -- The value has no other keys than a job may have, and this pack. What is below the other keys is not read.
 pub record HasPack (d : Data) (p : Pack) : Type 0 where
@@ -43,11 +44,6 @@ NoPack bytes (refusals.Image what line) = ⊥
 NoPack bytes (refusals.Check kind spot) = ⊥
 
 -- ---- what is answered to bytes
-
--- a fact on the refusal, unless memory ran out
-abbrev pub OnRefusal : (Refusal → Type 0) → CheckRefusal → Type 0
-OnRefusal P (ends.Refused r) = P r
-OnRefusal P ends.OutOfMemory = Unit {0}
 
 -- this pack, unless memory ran out
 abbrev pub IsAnswer : Pack → Result Pack CheckRefusal → Type 0

@@ -5,7 +5,8 @@ ghost use Rattle.json_form.specs.Faults.{Gives};
 ghost use Rattle.json_form.specs.Reading.{only_keys};
 ghost use Rattle.device_tree.specs.declared.pack.Pack.{Pack};
 ghost use Rattle.job_text.specs.Keys.{job_keys};
-ghost use Rattle.faults_tool.specs.Packs.{Answers, Describes, IsAnswer, NoPack, OnRefusal, pack_in_job};
+ghost use Rattle.faults_tool.specs.Packs.{Answers, Describes, IsAnswer, NoPack, pack_in_job};
+ghost use Rattle.job_check.specs.Answers.{OnRefusal};
 
 use device_tree::{JobFault, Pack, PackReader};
 use job_check::{CheckRefusal, Refusal};

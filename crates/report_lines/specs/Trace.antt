@@ -1,5 +1,5 @@
 -- The trace of a run: the packets and replies of a log.
-use Rattle.std.specs.Prelude.{◌≡◌, ◌⊎◌, ℕ, ◌+◌, ◌<◌, ◌≤◌, Bool, true, false, List, ◌++◌, codes, decimal, length, slice_get, Option, Some, None, Result, Ok, Err}
+use Rattle.std.specs.Prelude.{◌≡◌, ◌⊎◌, ℕ, ◌+◌, ◌<◌, ◌≤◌, List, ◌++◌, codes, decimal, length, slice_get, Option, Some, None, Result, Ok, Err}
 use Rattle.std.specs.Io.KnownBytes.{Appends}
 use Rattle.std.specs.List.{flat_map}
 use Rattle.dap_base.specs.Streams.{AppendsPrefix}
@@ -8,11 +8,7 @@ use Rattle.probe_core.specs.Log.{Entry, Log}
 use Rattle.report_lines.specs.declared.put.TextEnd.{TextEnd}
 use Rattle.report_lines.specs.declared.trace.Seen.{Seen}
 use Rattle.report_lines.specs.declared.trace.Seen.TheVariants as seen
-
--- a reply comes from the probe, and a packet goes to it
-abbrev pub entry_mark : Bool → List ℕ
-entry_mark true = codes "< "
-entry_mark false = codes "> "
+use Rattle.trace_audit.specs.Texts.{entry_mark}
 
 -- a packet that was received, or a reply that was handed out
 abbrev pub entry_line : Entry → List ℕ

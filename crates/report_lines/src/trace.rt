@@ -4,7 +4,8 @@
 ghost use Rattle.std.specs.Prelude.{◌≡◌, ◌+◌, ◌<◌, ◌≤◌, IfOk, IfSome};
 ghost use Rattle.probe_core.specs.Log.{IsCountedLog};
 ghost use Rattle.report_lines.specs.Frame.{EndsPutting, EndsShowing, KeepsBench, PutsShown};
-ghost use Rattle.report_lines.specs.Trace.{EntriesPut, EntryPut, LinePut, StepPut, entry_line, entry_mark, kept_line, trace};
+ghost use Rattle.report_lines.specs.Trace.{EntriesPut, EntryPut, LinePut, StepPut, entry_line, kept_line, trace};
+ghost use Rattle.trace_audit.specs.Texts.{entry_mark};
 
 use crate::endings::with_digits;
 use crate::put::{TextEnd, put_line};
