@@ -39,7 +39,7 @@ fn compared(written: &[u8], expected: &[u8]) -> &'static str {
 
 /// Runs the job `NAME.json` of the folder that the program runs in, with the words of `NAME.json.args`, one a line. It prints the
 /// name, the exit status, and `as expected` where what was written is the content of `NAME.json.stdout`, else `differs`.
-/// `NAME.json.stdout`, else `differs`.
+///
 /// An error where a file cannot be read, standard output cannot be written, or memory is refused.
 pub fn run_case(rt: &HostRuntime, name: &str) -> io::Result<()> {
     let stored = read_stored(rt, name)?;
