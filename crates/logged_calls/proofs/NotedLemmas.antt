@@ -6,7 +6,7 @@ use Rattle.std.proofs.Math.Seq.{drop-append_seam}
 use Rattle.function_table.specs.declared.function.Function.{Function}
 use Rattle.function_table.specs.declared.function.Function.TheVariants as f
 use Rattle.direct_calls.specs.Made.{IsDone}
-use Rattle.target_calls.specs.World.{World, left_at, done_now}
+use Rattle.target_calls.specs.World.{World, done_now}
 use Rattle.target_calls.specs.declared.calls.Ask.{Ask}
 use Rattle.target_machine.specs.Plain.{CallEnd, call_done}
 use Rattle.target_machine.specs.State.{TargetState}
@@ -14,27 +14,17 @@ use Rattle.sequence_rules.specs.Calls.{function_result}
 use Rattle.sequence_rules.specs.Direct.{Now, direct}
 use Rattle.sequence_rules.specs.Machine as machine
 use Rattle.sequence_rules.specs.Machine.{State, Out, end_state}
-use Rattle.run_events.specs.Events.{Event, MadeUnit, Makes, Writes, all_made, end_in, units_from, units_between}
+use Rattle.run_events.specs.Events.{Event, MadeUnit, Makes, Writes, all_made, left_by, units_from, units_between}
 use Rattle.run_events.specs.OfValues.{line_of, written_line, new_line, function_events}
-use Rattle.run_events.proofs.Said.{length_on}
+use Rattle.run_events.proofs.Said.{left_on, length_on, units_on}
 use Rattle.log_lines.specs.LogLines.{LogLines, listed, listed_all}
 use Rattle.logged_calls.specs.declared.held.LoggedEnd.{LoggedEnd}
 use Rattle.logged_calls.specs.declared.held.LoggedEnd.TheVariants as end
 use Rattle.logged_calls.specs.declared.held.Stopped.{Stopped}
-use Rattle.logged_calls.specs.Held.{Means, Unless, left_by, Noted, LineNoted}
+use Rattle.logged_calls.specs.Held.{Means, Unless, Noted, LineNoted}
 
 pub noted_none : (s r : State ℕ Now) (old new : LogLines) → r.rest.calls ≡ s.rest.calls → r.rest.world ≡ s.rest.world → r.lines ≡ s.lines → new ≡ old → Noted s r old new
 noted_none s r old new a b c d = record { more = []; calls = a ∙ sym (append-nil s.rest.calls); world = b; lines = c; log = d }
-
-left_on : (w : World) (xs ys : List Ask) → left_by w (xs ++ ys) ≡ left_by (left_by w xs) ys
-left_on w [] ys = refl
-left_on w (x ∷ xs) ys = left_on (left_at w x) xs ys
-
-units_on : (w : World) (n : ℕ) (xs ys : List Ask) → units_from w n (xs ++ ys) ≡ units_from w n xs ++ units_from (left_by w xs) (n + length xs) ys
-units_on w n [] ys = ap (λ k. units_from w k ys) (omega arith)
-units_on w n (x ∷ xs) ys =
-    let count : suc n + length xs ≡ n + suc (length xs) = omega arith in
-    ap (λ more. record { number = n; ask = x; end = end_in w x } ∷ more) (units_on (left_at w x) (suc n) xs ys ∙ ap (λ k. units_from (left_at w x) (suc n) xs ++ units_from (left_by (left_at w x) xs) k ys) count)
 
 made_on : (xs ys : List MadeUnit) → all_made (xs ++ ys) ≡ all_made xs ++ all_made ys
 made_on [] ys = refl

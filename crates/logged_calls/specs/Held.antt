@@ -1,6 +1,5 @@
 -- What a logged run holds, as a state of the meaning; how what the code answers is that of the meaning; and what it notes.
-use Rattle.std.specs.Prelude.{◌≡◌, ℕ, suc, ◌+◌, Bool, false, codes, nat_eq, if◌then◌else◌, List, [], ◌∷◌, ◌++◌, length, Some, None, Result, Ok, Err}
-use Rattle.target_calls.specs.World.{World, left_at}
+use Rattle.std.specs.Prelude.{◌≡◌, ℕ, suc, ◌+◌, Bool, false, codes, nat_eq, if◌then◌else◌, List, [], ◌++◌, length, Some, None, Result, Ok, Err}
 use Rattle.target_calls.specs.declared.calls.Ask.{Ask}
 use Rattle.sequence_trees.specs.declared.spot.Spot.{Spot}
 use Rattle.target_machine.specs.Plain.{Answered}
@@ -16,7 +15,7 @@ use Rattle.sequence_rules.specs.Machine as machine
 use Rattle.sequence_rules.specs.Machine.{State, Out, halt}
 use Rattle.sequence_rules.specs.Locals.{locals_of}
 use Rattle.sequence_rules.specs.Shared.{bindings_of}
-use Rattle.run_events.specs.Events.{Event, Writes, all_made, units_from, units_between}
+use Rattle.run_events.specs.Events.{Event, Writes, all_made, left_by, units_from, units_between}
 use Rattle.run_events.specs.OfSteps.{poll_end, polled_events}
 use Rattle.log_lines.specs.LogLines.{LogLines, listed, listed_all}
 use Rattle.logged_calls.specs.declared.held.Held.{Held}
@@ -61,11 +60,6 @@ Unless e (Ok x) P = P
 Unless (end.Halted cause) (Err stopped) P = P
 Unless (end.Faulted u) (Err stopped) P = P
 Unless end.OutOfMemory (Err stopped) P = Unit {0}
-
--- the world that calls leave
-abbrev pub left_by : World → List Ask → World
-left_by w [] = w
-left_by w (ask ∷ asks) = left_by (left_at w ask) asks
 
 -- the port of a memory or AP call, as the meaning has it
 abbrev pub port_view : CallPort → Port

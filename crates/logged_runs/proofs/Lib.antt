@@ -7,7 +7,6 @@ pub mod Messages
 pub mod NoteLemmas
 pub mod Opened
 pub mod RunLemmas
-pub mod StartLemmas
 pub mod Turns
 pub mod Units
 pub mod WalkLemmas

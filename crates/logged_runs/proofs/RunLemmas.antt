@@ -1,5 +1,5 @@
 -- The debug variables one after the other, and whole runs.
-use Rattle.std.proofs.Common.{◌≡◌, ℕ, ◌+◌, ◌<◌, ◌≤◌, Bool, false, List, [], ◌∷◌, ◌++◌, length, drop, get_or, Option, None, Some, unwrap_or, Result, Ok, Err, refl, sym, ap, subst, ◌∙◌}
+use Rattle.std.proofs.Common.{◌≡◌, ℕ, ◌+◌, ◌<◌, ◌≤◌, Bool, false, List, [], ◌∷◌, ◌++◌, length, drop, get_or, unwrap_or, Result, Ok, Err, refl, sym, ap, subst, ◌∙◌}
 use Rattle.std.proofs.lemmas.List.{append_assoc, append-nil, drop_all, drop_more}
 use Rattle.dap_base.specs.Outcome.{◌>>=◌}
 use Rattle.expr_grammar.specs.declared.code.Name.{Name}
@@ -9,13 +9,14 @@ use Rattle.expr_grammar.specs.Tree.{Tree, StmtTree, stmt_tree, code_trees}
 use Rattle.seq_check.specs.Answers.{checked_trees}
 use Rattle.sequence_trees.specs.declared.spot.Part.TheVariants as part
 use Rattle.sequence_trees.specs.Trees.{CodeSteps, SetTrees, NoSteps, steps_named}
-use Rattle.sequence_rules.specs.Calls.{given, guarded, missing}
+use Rattle.sequence_rules.specs.Calls.{guarded}
 use Rattle.sequence_rules.specs.Direct.{Now, direct}
 use Rattle.sequence_rules.specs.Machine.{State, Out}
 use Rattle.sequence_rules.specs.Steps.{steps_result, steps_at, sequence_at, debugged, run_of}
 use Rattle.sequence_rules.specs.Values.{value, stored}
 use Rattle.sequence_rules.specs.Variables.{set_visible}
 use Rattle.sequence_rules.proofs.LoopLemmas.{tail_two}
+use Rattle.sequence_rules.proofs.NowLemmas.{steps_found}
 use Rattle.run_events.specs.Events.{Event, Assigns, Begins, after}
 use Rattle.run_events.specs.OfRuns.{at_debugvars, debugged_events, run_events}
 use Rattle.run_events.specs.OfSteps.{spot_at, steps_events}
@@ -32,15 +33,6 @@ S = State ℕ Now
 
 abbrev O : Type 0 → Type 0
 O A = Out ℕ Now A
-
-given_steps : (o : Option CodeSteps) (s : S) → given (direct false) NoSteps o s ≡ Ok (unwrap_or o NoSteps, s)
-unfolding given missing direct
-given_steps None s = refl
-given_steps (Some steps) s = refl
-
-pub steps_found : (turn_us : ℕ) (set : SetTrees) (name : List ℕ) (s : S) → steps_at (direct false) turn_us set name s ≡ Ok (unwrap_or (steps_named name set.sequences) NoSteps, s)
-unfolding steps_at
-steps_found turn_us set name s = given_steps (steps_named name set.sequences) s
 
 -- what is seen of an assignment, and then of the rest
 ended : {A : Type 0} (o : O A) (f : S → List Event) → after (o >>= λ y. Ok (tt, y.1)) (λ (done : Unit {0}) q. f q) ≡ after o (λ n q. f q)

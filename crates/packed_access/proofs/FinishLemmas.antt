@@ -12,7 +12,7 @@ use Rattle.target_calls.specs.Journal.{Entry}
 use Rattle.target_calls.specs.World.{World, done_now, end_result, next_world, one_if_skipped, results, skips, small_after, start_world, stop, stops_here, world_after}
 use Rattle.target_calls.specs.declared.calls.Ask.{Ask}
 use Rattle.target_calls.specs.declared.journal.Part.TheVariants.{Settles}
-use Rattle.target_calls.proofs.MarkLemmas.{length_marked, stop_marked}
+use Rattle.target_calls.proofs.MarkLemmas.{length_marked, marked_append, stop_marked}
 use Rattle.access_regs.specs.Entries.{kept_by}
 use Rattle.access_regs.specs.Journal.{issued, numbered, steps_of}
 use Rattle.access_regs.specs.Kept.{Kept}
@@ -56,11 +56,6 @@ first_skips w (suc (suc n)) (a ∷ []) = refl
 first_skips w (suc n) (a ∷ b ∷ calls) = ap (λ r. cond (stops_here w a) 0 (one_if_skipped (done_now w a).end + r)) (first_skips (next_world w a) n (b ∷ calls))
 
 -- a call that is marked, or comes before the last
-marked_end : (asks : List Ask) (ask : Ask) → settled_last (asks ++ ask ∷ []) ≡ asks ++ record ask { settled = true } ∷ []
-marked_end [] ask = refl
-marked_end (a ∷ []) ask = refl
-marked_end (a ∷ b ∷ asks) ask = ap (λ l. a ∷ l) (marked_end (b ∷ asks) ask)
-
 marked_later : (asks : List Ask) (ask next : Ask) (more : List Ask) → settled_last (asks ++ ask ∷ next ∷ more) ≡ asks ++ ask ∷ settled_last (next ∷ more)
 marked_later [] ask next more = refl
 marked_later (a ∷ []) ask next more = refl
@@ -74,7 +69,7 @@ given_marked : (p : Planner) (t : TargetState) (calls : List Ask) (index place :
 given_marked p t calls index place g = by_more g.more g.are
   where
     by_more : (more : List Ask) → calls ≡ g.asks ++ g.ask ∷ more → IsGivenAt p t (settled_last calls) index place
-    by_more [] are = record { asks = g.asks; ask = record g.ask { settled = true }; more = []; are = ap settled_last are ∙ marked_end g.asks g.ask; at = g.at; mild = g.mild; large = small_marked (stop (start_world t None) g.asks) (world_after (start_world t None) g.asks) g.ask ∙ g.large; place_is = g.place_is }
+    by_more [] are = record { asks = g.asks; ask = record g.ask { settled = true }; more = []; are = ap settled_last are ∙ marked_append g.asks g.ask; at = g.at; mild = g.mild; large = small_marked (stop (start_world t None) g.asks) (world_after (start_world t None) g.asks) g.ask ∙ g.large; place_is = g.place_is }
     by_more (x ∷ more) are = record { asks = g.asks; ask = g.ask; more = settled_last (x ∷ more); are = ap settled_last are ∙ marked_later g.asks g.ask x more; at = g.at; mild = g.mild; large = g.large; place_is = g.place_is }
 
 -- ---- the settling is still to be issued

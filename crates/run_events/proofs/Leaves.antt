@@ -19,10 +19,10 @@ use Rattle.sequence_rules.specs.Steps.{counted, dropped, poll_result_at, poll_re
 use Rattle.sequence_rules.specs.Variables.{set_visible}
 use Rattle.sequence_rules.proofs.Goes as g
 use Rattle.sequence_rules.proofs.LateLemmas.{append_none}
-use Rattle.run_events.specs.Events.{Event, Writes, TimesOut, Matches, MadeUnit, units_from, units_between, all_made, units_in, lines_in}
+use Rattle.run_events.specs.Events.{Event, Writes, TimesOut, Matches, MadeUnit, left_by, units_from, units_between, all_made, units_in, lines_in}
 use Rattle.run_events.specs.OfSteps.{poll_end, polled_events, poll_events}
 use Rattle.run_events.specs.OfValues.{line_of, written_line, new_line, function_events}
-use Rattle.run_events.proofs.Said.{left_by, left_on, Said, Tells, said_none, units_append, lines_append}
+use Rattle.run_events.proofs.Said.{left_on, Said, Tells, said_none, units_append, lines_append}
 use Rattle.dap_base.proofs.Basics.{lt_itself}
 
 -- ---- calls move the world

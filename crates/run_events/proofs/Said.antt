@@ -7,12 +7,7 @@ use Rattle.target_calls.specs.World.{World, left_at}
 use Rattle.sequence_rules.specs.Direct.{Now, line_after}
 use Rattle.sequence_rules.specs.Machine.{State, Out, end_state}
 use Rattle.sequence_rules.proofs.LateLemmas.{append_twice, append_none}
-use Rattle.run_events.specs.Events.{Event, Begins, Tests, Chooses, Loops, Turns, Finds, Leaves, TimesOut, Matches, Assigns, Makes, Writes, Calls, Returns, after, end_in, units_from, units_in, lines_in}
-
--- the world that calls leave, answered or not
-abbrev pub left_by : World → List Ask → World
-left_by w [] = w
-left_by w (ask ∷ asks) = left_by (left_at w ask) asks
+use Rattle.run_events.specs.Events.{Event, Begins, Tests, Chooses, Loops, Turns, Finds, Leaves, TimesOut, Matches, Assigns, Makes, Writes, Calls, Returns, after, end_in, units_from, units_in, left_by, lines_in}
 
 -- from t to u these events were seen
 pub record Said (t u : Now) (events : List Event) : Type 0 where
@@ -31,7 +26,7 @@ left_on w (x ∷ xs) ys = left_on (left_at w x) xs ys
 count_on : (n k : ℕ) → suc n + k ≡ n + suc k
 count_on n k = omega arith
 
-units_on : (w : World) (n : ℕ) (xs ys : List Ask) → units_from w n (xs ++ ys) ≡ units_from w n xs ++ units_from (left_by w xs) (n + length xs) ys
+pub units_on : (w : World) (n : ℕ) (xs ys : List Ask) → units_from w n (xs ++ ys) ≡ units_from w n xs ++ units_from (left_by w xs) (n + length xs) ys
 units_on w n [] ys = ap (λ k. units_from w k ys) (omega arith)
 units_on w n (x ∷ xs) ys = ap (λ more. record { number = n; ask = x; end = end_in w x } ∷ more)
     (units_on (left_at w x) (suc n) xs ys ∙ ap (λ k. units_from (left_at w x) (suc n) xs ++ units_from (left_by (left_at w x) xs) k ys) (count_on n (length xs)))

@@ -62,6 +62,11 @@ units_from w number [] = []
 units_from w number (ask ∷ asks) =
     record { number = number; ask = ask; end = end_in w ask } ∷ units_from (left_at w ask) (suc number) asks
 
+-- the world that calls leave, answered or not
+abbrev pub left_by : World → List Ask → World
+left_by w [] = w
+left_by w (ask ∷ asks) = left_by (left_at w ask) asks
+
 -- the units of the calls that were added from one state to a later one
 abbrev pub units_between : State ℕ Now → State ℕ Now → List MadeUnit
 units_between s r = units_from s.rest.world (suc (length s.rest.calls)) (drop (length s.rest.calls) r.rest.calls)

@@ -20,7 +20,7 @@ use Rattle.sequence_rules.proofs.Adding.{adds_direct}
 use Rattle.sequence_rules.proofs.Goes as g
 use Rattle.sequence_rules.proofs.LoopLemmas.{tail_two}
 use Rattle.sequence_meaning.proofs.StopLemmas.{ends_on}
-use Rattle.sequence_meaning.proofs.Loops.{steps_found}
+use Rattle.sequence_rules.proofs.NowLemmas.{steps_found}
 
 abbrev S : Type 0
 S = State ℕ Now

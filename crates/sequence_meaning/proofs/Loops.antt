@@ -1,5 +1,5 @@
 -- Loops of the direct runner, one turn at a time.
-use Rattle.std.proofs.Common.{◌≡◌, ℕ, zero, suc, ◌+◌, ◌-◌, ◌<◌, ◌≤◌, true, false, List, [], ◌∷◌, ◌++◌, length, drop, take, get_or, nat_eq, Option, None, Some, unwrap_or, Result, Ok, codes, refl, sym, ap, subst, ◌∙◌, arith}
+use Rattle.std.proofs.Common.{◌≡◌, ℕ, zero, suc, ◌+◌, ◌-◌, ◌<◌, ◌≤◌, true, false, List, [], ◌∷◌, ◌++◌, length, drop, take, get_or, nat_eq, unwrap_or, Result, Ok, codes, refl, sym, ap, subst, ◌∙◌, arith}
 use Rattle.std.proofs.lemmas.List.{drop_all, drop_more}
 use Rattle.expr_grammar.specs.declared.code.Arg.{Arg}
 use Rattle.expr_grammar.specs.declared.code.Name.{Name}
@@ -16,11 +16,12 @@ use Rattle.sequence_rules.specs.Variables.{bound, value_named, set_in, set_visib
 use Rattle.dap_base.specs.Outcome.{◌>>=◌}
 use Rattle.sequence_rules.specs.Values.{argument, arguments, assigned, chained, stored, used_now}
 use Rattle.sequence_rules.specs.Steps.{in_order, counted, after_counted, declared, dropped, inside, statement, block, step, steps_result, turn, turns, given_back, sequence_result, steps_at, sequence_at}
-use Rattle.sequence_rules.specs.Calls.{given, guarded, missing, use_now}
+use Rattle.sequence_rules.specs.Calls.{guarded, use_now}
 use Rattle.sequence_rules.specs.Laws.{Adds}
 use Rattle.sequence_rules.specs.Steady.{Goes}
 use Rattle.sequence_rules.proofs.Adding.{adds_direct, adds_same}
 use Rattle.sequence_rules.proofs.Goes as g
+use Rattle.sequence_rules.proofs.NowLemmas.{steps_found}
 use Rattle.sequence_meaning.specs.declared.runner.DirectRunner.{DirectRunner}
 use Rattle.sequence_meaning.specs.Held.{EndsDirect, MeansDirect, calls_of}
 use Rattle.sequence_meaning.proofs.FrameLemmas.{frames}
@@ -151,15 +152,6 @@ unfolding inside
 inside_on body s r o n h i j = rw h (rw j (rw i refl))
 
 -- ---- sequences
-
-given_steps : (o : Option CodeSteps) (s : S) → given (direct false) NoSteps o s ≡ Ok (unwrap_or o NoSteps, s)
-unfolding given missing direct
-given_steps None s = refl
-given_steps (Some steps) s = refl
-
-pub steps_found : (turn_us : ℕ) (set : SetTrees) (name : List ℕ) (s : S) → steps_at (direct false) turn_us set name s ≡ Ok (unwrap_or (steps_named name set.sequences) NoSteps, s)
-unfolding steps_at
-steps_found turn_us set name s = given_steps (steps_named name set.sequences) s
 
 entered_same : (f g : S → O (Unit {0})) (s : S) → ((r : S) → f r ≡ g r) → sequence_result (direct false) f s ≡ sequence_result (direct false) g s
 unfolding sequence_result

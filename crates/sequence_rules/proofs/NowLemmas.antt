@@ -1,11 +1,13 @@
 -- What the parts of the meaning are where each call is made at once.
 use Rattle.std.proofs.Common.{◌≡◌, ℕ, ◌%◌, false, List, [], ◌∷◌, Option, None, Some, unwrap_or, Ok, Err, nat_eq, codes, refl, sym, ap, ◌∙◌}
 use Rattle.dap_base.specs.Outcome.{◌>>=◌}
+use Rattle.sequence_trees.specs.Trees.{CodeSteps, NoSteps, SetTrees, steps_named}
 use Rattle.sequence_rules.specs.declared.bindings.Binding.{Binding}
 use Rattle.sequence_rules.specs.Direct.{Now, direct}
 use Rattle.sequence_rules.specs.Machine.{State, Out}
 use Rattle.sequence_rules.specs.Variables.{value_named}
 use Rattle.sequence_rules.specs.Calls.{use_now, missing, given, global, port_with, port_from, port}
+use Rattle.sequence_rules.specs.Steps.{steps_at}
 use Rattle.sequence_rules.specs.Values.{all_used, numbers_of}
 
 pub given_is : (o : Option ℕ) (s : State ℕ Now) → (given (direct false) 0 o s >>= λ v. use_now (direct false) v.0 v.1) ≡ Ok (unwrap_or o 0, s)
@@ -39,3 +41,12 @@ pub numbers_as : (out : Out ℕ Now (List ℕ)) → numbers_of (direct false) ou
 unfolding numbers_of direct
 numbers_as (Ok x) = all_as x.0 x.1
 numbers_as (Err e) = refl
+
+given_steps : (o : Option CodeSteps) (s : State ℕ Now) → given (direct false) NoSteps o s ≡ Ok (unwrap_or o NoSteps, s)
+unfolding given missing direct
+given_steps None s = refl
+given_steps (Some steps) s = refl
+
+pub steps_found : (turn_us : ℕ) (set : SetTrees) (name : List ℕ) (s : State ℕ Now) → steps_at (direct false) turn_us set name s ≡ Ok (unwrap_or (steps_named name set.sequences) NoSteps, s)
+unfolding steps_at
+steps_found turn_us set name s = given_steps (steps_named name set.sequences) s

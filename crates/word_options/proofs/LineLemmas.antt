@@ -1,5 +1,5 @@
 -- A command line that is built argument by argument, and what clap's contract says of its words.
-use Rattle.std.proofs.Common.{◌≡◌, ◌∙◌, ap, ap₂, subst, true, false, Bool, ◌&&◌, refl, List, [], inl, inr}
+use Rattle.std.proofs.Common.{◌≡◌, ◌∙◌, ap, ap₂, subst, true, false, List, [], inl, inr}
 use Rattle.clap.specs.Words.{AddsArg, App, HasKind, HasMatchesOf, Kinds, Rule, Text, app_of, fault_of, first_of, found_of, is_simple, is_simple_and_free, kind_of, new_rule, rule_of, with_rule}
 use Rattle.clap.specs.Simple.{app_of_fields, built, on_top}
 use Rattle.clap.specs.Faults.{is_free_app}
@@ -10,6 +10,7 @@ use Rattle.clap.specs.declared.error.Error.{Error}
 use Rattle.clap.specs.declared.error.kind.ErrorKind.TheVariants as kind
 use Rattle.clap.specs.declared.parser.matches.ArgMatches.{ArgMatches}
 use Rattle.clap.proofs.WalkLemmas.{first_value-rows}
+use Rattle.dap_base.proofs.Basics.{first_true}
 use Rattle.word_options.specs.Line.{Finds, IsTaken, given}
 
 -- ---- building
@@ -28,17 +29,13 @@ one_more old new arg before rule adds local is rule_is = adds.shape local ∙ ap
 
 -- ---- parsing
 
-left_true : (a b : Bool) → (a && b) ≡ true → a ≡ true
-left_true true b h = refl
-left_true false b h = h
-
 pub taken : (line : App) (words : List Text) → is_simple_and_free line ≡ true → (is_simple_and_free line ≡ true → fault_of line words ≡ []) → IsTaken line words
 unfolding IsTaken
 taken line words free h = h free
 
 pub finds : (line : App) (words : List Text) (m : ArgMatches) → is_simple_and_free line ≡ true → HasMatchesOf line words m → Finds line words (found_of m)
 unfolding given
-finds line words m free h = λ name. first_value-rows (found_of m) name ∙ ap (first_of name) (h (left_true (is_simple line) (is_free_app (built line)) free)).0
+finds line words m free h = λ name. first_value-rows (found_of m) name ∙ ap (first_of name) (h (first_true (is_simple line) (is_free_app (built line)) free)).0
 
 kind_left : (e : Error) (kinds : Kinds) → kinds ≡ [] → HasKind kinds e → kind_of e ≡ kind.OutOfMemory
 kind_left e kinds none h = go (subst (λ (ks : Kinds). HasKind ks e) none h)
