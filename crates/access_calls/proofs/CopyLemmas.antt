@@ -12,9 +12,9 @@ use Rattle.target_calls.specs.NeedPoints.{Asks, nothing_asked}
 use Rattle.target_calls.specs.World.{World, stop, results, stops_here, next_world, done_now, end_result, later_by, world_after, left_at}
 use Rattle.target_calls.specs.declared.calls.Ask.{Ask}
 use Rattle.access_calls.specs.Answers.{StopsCalls, StopsOrSettles, StopsSettling}
-use Rattle.access_calls.specs.Copy.{Copied, IsCopyEnd, IsDone, IsStopped, copied, copied_by, line, read_word, write_word}
+use Rattle.access_calls.specs.Copy.{Copied, CopyIsDone, CopyIsStopped, IsCopyEnd, copied, copied_by, line, read_word, write_word}
 use Rattle.access_calls.specs.Reported.{Beginning, AccessView, began, start_of, world_of, world_from}
-use Rattle.access_calls.specs.Standing.{Stands, StandsAt, WhereObservable}
+use Rattle.access_calls.specs.Standing.{AccessStands, StandsAt, WhereObservable}
 use Rattle.access_calls.specs.declared.stop.Stop.{Stop}
 use Rattle.access_calls.specs.declared.stop.Stop.TheVariants.{Cut, BenchFault, ReplyBad, OutOfMemory}
 use Rattle.access_calls.specs.declared.stop.StopCause.{StopCause}
@@ -32,30 +32,30 @@ abbrev pub both : ℕ → ℕ → ℕ → List Ask
 both from to value = read_ask from ∷ write_ask to value ∷ []
 
 -- the first call stops
-at_read : (w : World) (from to : ℕ) (a : AccessView) (old : Option (List ℕ)) → stop w (read_ask from ∷ []) ≡ Some (a.lines + 1) → IsStopped a (copied w from to) old old
+at_read : (w : World) (from to : ℕ) (a : AccessView) (old : Option (List ℕ)) → stop w (read_ask from ∷ []) ≡ Some (a.lines + 1) → CopyIsStopped a (copied w from to) old old
 at_read w from to a old e = by_test (stops_here w (read_ask from)) refl e
   where
     by_test : (b : Bool) → stops_here w (read_ask from) ≡ b → cond b (Some 1) (later_by 1 None) ≡ Some (a.lines + 1)
-        → IsStopped a (cond b (record { stopped = Some 1; written = []; world = w }) (copied_by (next_world w (read_ask from)) (write_ask to (end_result (done_now w (read_ask from)).end)))) old old
+        → CopyIsStopped a (cond b (record { stopped = Some 1; written = []; world = w }) (copied_by (next_world w (read_ask from)) (write_ask to (end_result (done_now w (read_ask from)).end)))) old old
     by_test true is e = record { place = inl e; written = Appends-nil old }
     by_test false is e = absurd (cc)
 
 -- the second call stops, where `value` is the result of the first
 at_write : (w : World) (from to : ℕ) (a : AccessView) (old : Option (List ℕ)) (value : ℕ) → value ≡ slice_index (results w (read_ask from ∷ [])) 0
-    → stop w (both from to value) ≡ Some (a.lines + 1) → IsStopped a (copied w from to) old old
+    → stop w (both from to value) ≡ Some (a.lines + 1) → CopyIsStopped a (copied w from to) old old
 at_write w from to a old value is e = by_test (stops_here w (read_ask from)) refl is e
   where
     second : (w : World) (v : ℕ) (x : Bool) → stops_here w (write_ask to v) ≡ x → later_by 1 (cond x (Some 1) (later_by 1 None)) ≡ Some (a.lines + 1)
-        → IsStopped a (cond x (record { stopped = Some 2; written = []; world = w }) (record { stopped = None; written = line; world = next_world w (write_ask to v) })) old old
+        → CopyIsStopped a (cond x (record { stopped = Some 2; written = []; world = w }) (record { stopped = None; written = line; world = next_world w (write_ask to v) })) old old
     second w v true same e = record { place = inl e; written = Appends-nil old }
     second w v false same e = absurd (cc)
 
     by_test : (b : Bool) → stops_here w (read_ask from) ≡ b
         → value ≡ slice_index (cond b [] (end_result (done_now w (read_ask from)).end ∷ [])) 0
         → cond b (Some 1) (later_by 1 (stop (next_world w (read_ask from)) (write_ask to value ∷ []))) ≡ Some (a.lines + 1)
-        → IsStopped a (cond b (record { stopped = Some 1; written = []; world = w }) (copied_by (next_world w (read_ask from)) (write_ask to (end_result (done_now w (read_ask from)).end)))) old old
+        → CopyIsStopped a (cond b (record { stopped = Some 1; written = []; world = w }) (copied_by (next_world w (read_ask from)) (write_ask to (end_result (done_now w (read_ask from)).end)))) old old
     by_test true same is e = record { place = inl e; written = Appends-nil old }
-    by_test false same is e = subst (λ v. IsStopped a (copied_by (next_world w (read_ask from)) (write_ask to v)) old old) is
+    by_test false same is e = subst (λ v. CopyIsStopped a (copied_by (next_world w (read_ask from)) (write_ask to v)) old old) is
         (second (next_world w (read_ask from)) value (stops_here (next_world w (read_ask from)) (write_ask to value)) refl e)
 
 -- a copy that does not stop, and leaves this world
@@ -156,7 +156,7 @@ settled_target j None a b t stands none settled is = stands
 settled_target j (Some m) a b t stands none settled is = subst (λ u. Agree (target_of m.probe) u) is (settled_open a.end (j (start_of b) a.asks.calls) a b m stands none settled)
 
 pub finished_done : (j : TargetState → List Ask → List Entry) (m : BenchState) (n : Option ℕ) (from to : ℕ) (a : AccessView) (calls : List Ask) (old new : Option (List ℕ)) (last : World)
-    → IsWritten (world_from m n) from to calls last → Appends old new line → Stands j a (began m n) → a.end ≡ None → a.asks.calls ≡ settled_last calls → IsDone a (copied (world_from m n) from to) old new
+    → IsWritten (world_from m n) from to calls last → Appends old new line → AccessStands j a (began m n) → a.end ≡ None → a.asks.calls ≡ settled_last calls → CopyIsDone a (copied (world_from m n) from to) old new
 finished_done j m n from to a calls old new last wrote put stands none is = record {
   whole = wrote.whole.whole;
   written = subst (λ bytes. Appends old new bytes) (sym wrote.whole.written) put;

@@ -12,8 +12,8 @@ use Rattle.access_calls.specs.Reported.{AccessView, Beginning}
 use Rattle.access_calls.specs.Standing.{WhereObservable}
 
 -- how many register accesses a flight has at least that is sent because there is no room for one more
-abbrev pub capacity : Limits → ℕ
-capacity limits = limits.packet_count * ((limits.packet_size - 21) / 6)
+abbrev pub flight_capacity : Limits → ℕ
+flight_capacity limits = limits.packet_count * ((limits.packet_size - 21) / 6)
 
 -- how many words one block of writes has
 abbrev pub block_words : Limits → ℕ
@@ -39,7 +39,7 @@ starting_since b m = m.starting - b.state.starting
 -- of them. Let all calls be writes at neighbouring addresses of one block of 1,024 bytes below 2^32, one at least, with at most two need points.
 -- Then there are at most six more than the blocks of writes that hold them.
 pub record KeepsBounds (entries : List Entry) (a : AccessView) (b : Beginning) (m : BenchState) : Type 0 where
-  pub few : starting_since b m ≤ 3 + a.asks.needs + registers_in entries / capacity a.bench.limits
+  pub few : starting_since b m ≤ 3 + a.asks.needs + registers_in entries / flight_capacity a.bench.limits
   pub blocks : (size ap address : ℕ) → 0 < length a.asks.calls → AreNextWrites (address / 1024) size ap address a.asks.calls
       → address < 2 ^ 32 → a.asks.needs ≤ 2
       → starting_since b m ≤ 6 + (length a.asks.calls + block_words a.bench.limits - 1) / block_words a.bench.limits

@@ -3,7 +3,7 @@ use Rattle.std.specs.Prelude.{◌≡◌, ℕ, length, Option, None, Result, Err,
 use Rattle.probe_core.specs.Bench.{BenchState}
 use Rattle.target_calls.specs.World.{World}
 use Rattle.access_calls.specs.Answers.{IsEnd, NoMemory, UnchangedByMemory}
-use Rattle.access_calls.specs.Keeps.{Keeps}
+use Rattle.access_calls.specs.Keeps.{KeepsAccess}
 use Rattle.access_calls.specs.Left.{IsLeft}
 use Rattle.access_calls.specs.Reported.{AccessView, world_from}
 use Rattle.access_calls.specs.declared.stop.Stop.{Stop}
@@ -24,7 +24,7 @@ pub record EndsAtAsk {S T : Type 0} (begun : S → BenchState → Type 0) (repor
   pub memory : IfErr result (UnchangedByMemory (reported old) (reported new))
   pub end : IfErr result (IsEnd (reported new).end)
   pub ended : IfSome (reported old).end (λ s. result ≡ Err s)
-  pub keeps : Keeps begun reported identity old new
+  pub keeps : KeepsAccess begun reported identity old new
 
 -- How a call ends that answers a result. Its error is the end of the access. After an end from before it answers that end or a result. It
 -- takes no memory.
@@ -34,7 +34,7 @@ pub record EndsAtValue {S T : Type 0} (begun : S → BenchState → Type 0) (rep
   pub memory : IfErr result NoMemory
   pub end : IfErr result (IsEnd (reported new).end)
   pub ended : IfSome (reported old).end (λ s. IfErr result (λ t. t ≡ s))
-  pub keeps : Keeps begun reported identity old new
+  pub keeps : KeepsAccess begun reported identity old new
 
 -- How a call ends that makes all that was asked: then each result is known. Its error is the end of the access, and an end from before is its
 -- error. It takes no memory.
@@ -45,4 +45,4 @@ pub record EndsAtFlush {S T : Type 0} (begun : S → BenchState → Type 0) (rep
   pub memory : IfErr result NoMemory
   pub end : IfErr result (IsEnd (reported new).end)
   pub ended : IfSome (reported old).end (λ s. result ≡ Err s)
-  pub keeps : Keeps begun reported identity old new
+  pub keeps : KeepsAccess begun reported identity old new

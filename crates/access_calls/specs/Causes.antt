@@ -31,7 +31,7 @@ HasFront Execute queued count rest reply = (reply ≡ 0x7F ∷ count ∷ rest) �
 HasFront Queue queued count rest reply = (reply ≡ 0x7F ∷ count ∷ rest) ⊎ ((queued ≡ true) × (reply ≡ 0x7E ∷ count ∷ rest))
 
 -- The reply is one that the packet may get by itself, and shows this of each of its commands.
-pub record Shows (queued : Bool) (packet : Packet) (reply : List ℕ) (shows : List Shown) : Type 0 where
+pub record ReplyShows (queued : Bool) (packet : Packet) (reply : List ℕ) (shows : List Shown) : Type 0 where
   pub parts : List (List ℕ)
   pub replies : AreReplies packet.commands parts shows
   pub bytes : HasFront packet.kind queued (length packet.commands) (concat parts) reply
@@ -52,7 +52,7 @@ pub record ShowsAt (exchange : Exchange) (place : ℕ) (shows : List Shown) : Ty
   pub packet : Packet
   pub reply : List ℕ
   pub replied : WasReplied exchange place packet reply
-  pub shown : Shows (is_queue exchange) packet reply shows
+  pub shown : ReplyShows (is_queue exchange) packet reply shows
 
 -- The reply at this place has this transfer response for one of its commands.
 pub record HasResponse (code : ℕ) (exchange : Exchange) (place : ℕ) : Type 0 where
@@ -93,7 +93,7 @@ pub record IsBadReply (exchange : Exchange) (place : ℕ) : Type 0 where
   pub packet : Packet
   pub reply : List ℕ
   pub replied : WasReplied exchange place packet reply
-  pub bad : ((shows : List Shown) → Shows (is_queue exchange) packet reply shows → ⊥) ⊎ BreaksQueue exchange place
+  pub bad : ((shows : List Shown) → ReplyShows (is_queue exchange) packet reply shows → ⊥) ⊎ BreaksQueue exchange place
 
 -- ---- the causes of an end
 
@@ -117,12 +117,12 @@ code_of_cause NoAnswer = 0x02
 
 -- How an access came to its end, or to none. The bench failed only at BenchFault. In an exchange of these calls, a cut comes with its response,
 -- and ReplyBad with a bad reply.
-abbrev pub EndedBy : AccessView → AccessView → Option Stop → Type 0
-EndedBy old new None = new.bench.faults ≡ old.bench.faults
-EndedBy old new (Some (Cut r)) = (new.bench.faults ≡ old.bench.faults) × EndedByReply (HasResponse (code_of_cause r.cause)) old new
-EndedBy old new (Some (BenchFault issued confirmed)) = Rose old.bench.faults new.bench.faults
-EndedBy old new (Some ReplyBad) = (new.bench.faults ≡ old.bench.faults) × EndedByReply IsBadReply old new
-EndedBy old new (Some OutOfMemory) = ⊥
+abbrev pub HasStopCause : AccessView → AccessView → Option Stop → Type 0
+HasStopCause old new None = new.bench.faults ≡ old.bench.faults
+HasStopCause old new (Some (Cut r)) = (new.bench.faults ≡ old.bench.faults) × EndedByReply (HasResponse (code_of_cause r.cause)) old new
+HasStopCause old new (Some (BenchFault issued confirmed)) = Rose old.bench.faults new.bench.faults
+HasStopCause old new (Some ReplyBad) = (new.bench.faults ≡ old.bench.faults) × EndedByReply IsBadReply old new
+HasStopCause old new (Some OutOfMemory) = ⊥
 
 -- A packet and a reply are kept only where a reply was the end.
 abbrev pub KeepsReplyAt : Option Stop → AccessView → Type 0

@@ -49,21 +49,21 @@ copied w from to =
     else copied_by (next_world w read) (unit_ask (write_word to (end_result (done_now w read).end)) false)
 
 -- it came to its end, and left the target as it is meant
-pub record IsDone (a : AccessView) (c : Copied) (old new : Option (List ℕ)) : Type 0 where
+pub record CopyIsDone (a : AccessView) (c : Copied) (old new : Option (List ℕ)) : Type 0 where
   pub whole : c.stopped ≡ None
   pub written : Appends old new c.written
   pub target : WhereObservable a.state (λ m. Agree (target_of m.probe) c.world.target)
 
 -- It stopped at the call after those that have their lines, or, with both calls made, where a retry ended in the settling. It wrote what comes
 -- before that.
-pub record IsStopped (a : AccessView) (c : Copied) (old new : Option (List ℕ)) : Type 0 where
+pub record CopyIsStopped (a : AccessView) (c : Copied) (old new : Option (List ℕ)) : Type 0 where
   pub place : (c.stopped ≡ Some (a.lines + 1)) ⊎ ((c.stopped ≡ None) × (a.lines ≡ 2))
   pub written : Appends old new c.written
 
 -- the end of a copy
 abbrev pub IsCopyEnd : CopyEnd → AccessView → Copied → Option (List ℕ) → Option (List ℕ) → Type 0
-IsCopyEnd Done a c old new = IsDone a c old new
-IsCopyEnd (Stopped (Cut r)) a c old new = IsStopped a c old new
+IsCopyEnd Done a c old new = CopyIsDone a c old new
+IsCopyEnd (Stopped (Cut r)) a c old new = CopyIsStopped a c old new
 IsCopyEnd (Stopped (BenchFault issued confirmed)) a c old new = ⊤
 IsCopyEnd (Stopped ReplyBad) a c old new = ⊤
 IsCopyEnd (Stopped OutOfMemory) a c old new = ⊤

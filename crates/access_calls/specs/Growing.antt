@@ -11,8 +11,8 @@ abbrev pub IsAfter : ℕ → Entry → Type 0
 IsAfter calls e = calls ≤ lines_before e
 
 -- the entry is issued for one of the first so many calls, or to settle what was left before the last of them
-abbrev pub IsWithin : ℕ → Entry → Type 0
-IsWithin calls e = lines_before e < calls
+abbrev pub IsForFirstCalls : ℕ → Entry → Type 0
+IsForFirstCalls calls e = lines_before e < calls
 
 -- these entries begin with the first ones, and go on with those that are issued once so many calls were asked
 pub record GoesOnWith (calls : ℕ) (first entries : List Entry) : Type 0 where
@@ -21,11 +21,11 @@ pub record GoesOnWith (calls : ℕ) (first entries : List Entry) : Type 0 where
   pub later : AllByRecursion (IsAfter calls) rest
 
 -- The journal of more calls begins with the journal of the first of them.
-abbrev pub JournalGrows : (TargetState → List Ask → List Entry) → Type 0
-JournalGrows journal = (t : TargetState) (asks more : List Ask) → GoesOnWith (length asks) (journal t asks) (journal t (asks ++ more))
+abbrev pub JournalGoesOn : (TargetState → List Ask → List Entry) → Type 0
+JournalGoesOn journal = (t : TargetState) (asks more : List Ask) → GoesOnWith (length asks) (journal t asks) (journal t (asks ++ more))
 
 -- the journal of an access that never has entries
-pub grows_empty : JournalGrows (λ t asks. [])
+pub grows_empty : JournalGoesOn (λ t asks. [])
 grows_empty t asks more = record { rest = []; joined = refl; later = tt }
 
 -- The journal of calls that a `finish` follows begins with the journal of the calls, and goes on with what settles them.

@@ -31,13 +31,13 @@ answered_cut Faulted lines = None
 answered_cut NoAnswer lines = Some lines
 
 -- the same by the end of an access: without an ended retry all calls may be answered
-abbrev pub answered_at : Option Stop → ℕ → Option ℕ
-answered_at None lines = None
-answered_at (Some (Cut r)) lines = answered_cut r.cause lines
-answered_at (Some (BenchFault issued confirmed)) lines = None
-answered_at (Some ReplyBad) lines = None
-answered_at (Some OutOfMemory) lines = None
+abbrev pub answered_at_end : Option Stop → ℕ → Option ℕ
+answered_at_end None lines = None
+answered_at_end (Some (Cut r)) lines = answered_cut r.cause lines
+answered_at_end (Some (BenchFault issued confirmed)) lines = None
+answered_at_end (Some ReplyBad) lines = None
+answered_at_end (Some OutOfMemory) lines = None
 
 -- How many calls are answered, as a caller takes it at its end: all, or after an ended retry those whose lines come before it.
 abbrev pub answered_by : AccessView → Option ℕ
-answered_by a = answered_at a.end a.lines
+answered_by a = answered_at_end a.end a.lines

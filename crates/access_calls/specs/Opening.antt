@@ -16,7 +16,7 @@ use Rattle.access_calls.specs.declared.stop.Stop.{Stop}
 use Rattle.access_calls.specs.declared.stop.Stop.TheVariants.{Cut, BenchFault, ReplyBad, OutOfMemory}
 
 -- no packet is held, and no reply waits
-pub record IsIdle (reported : BenchReported) : Type 0 where
+pub record BenchIsIdle (reported : BenchReported) : Type 0 where
   pub none_held : reported.held ≡ 0
   pub none_waits : reported.waiting ≡ 0
 

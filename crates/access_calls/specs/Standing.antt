@@ -15,7 +15,7 @@ use Rattle.target_calls.specs.Journal.{Entry, Passes, first_fault, target_after}
 use Rattle.target_calls.specs.Weights.{commands_in, performed, weight_in}
 use Rattle.target_calls.specs.World.{skips, start_world, stop, world_after}
 use Rattle.target_calls.specs.declared.calls.Ask.{Ask}
-use Rattle.access_calls.specs.Growing.{IsAfter, IsWithin}
+use Rattle.access_calls.specs.Growing.{IsAfter, IsForFirstCalls}
 use Rattle.access_calls.specs.Made.{HasMemory, units_made}
 use Rattle.access_calls.specs.Numbers.{HasNumbers}
 use Rattle.access_calls.specs.Reported.{AccessView, Beginning, start_of, world_of}
@@ -26,20 +26,20 @@ use Rattle.access_calls.specs.declared.stop.StopCause.{StopCause}
 use Rattle.access_calls.specs.declared.stop.StopCause.TheVariants.{Faulted, NoAnswer}
 
 -- how many transfers that may wait were made, of all runs of the probe
-abbrev pub number_of : BenchState → ℕ
-number_of m = m.probe.executor.transfers.line.number
+abbrev pub transfer_number_of : BenchState → ℕ
+transfer_number_of m = m.probe.executor.transfers.line.number
 
 -- the last ended retry left a read outstanding or a write unchecked
 abbrev pub pending_of : BenchState → Bool
 pending_of m = m.probe.executor.transfers.pending
 
 -- what the transfers of the probe are set to: the retry number, match retry, and how many WAITs each transfer meets
-abbrev pub setting_of : BenchState → Setting
-setting_of m = m.probe.executor.transfers.setting
+abbrev pub transfer_setting_of : BenchState → Setting
+transfer_setting_of m = m.probe.executor.transfers.setting
 
 -- The last transfer that may wait met more WAITs than the retry number allows: this is the number of the next one.
-abbrev pub IsOver : Setting → ℕ → Type 0
-IsOver s number = (place : ℕ) × (number ≡ next_number place) × (s.retry < slice_index s.stalls place)
+abbrev pub RetryIsOver : Setting → ℕ → Type 0
+RetryIsOver s number = (place : ℕ) × (number ≡ next_number place) × (s.retry < slice_index s.stalls place)
 
 -- the idle cycles after each transfer, as the last DAP_TransferConfigure set them
 abbrev pub idle_cycles_of : BenchState → ℕ
@@ -58,29 +58,29 @@ pub record HasPerformed (entries : List Entry) (count : ℕ) (b : Beginning) (m 
   pub target : Agree (target_of m.probe) (target_after (start_of b) (take count entries))
 
 -- From t only a part of the action was done, which leaves u: some reads of a poll, or some commands of a delay.
-abbrev pub IsPart : Action → TargetState → TargetState → Type 0
-IsPart (Makes a) t u = ⊥
-IsPart (Polls mask requested turns) t u = (made : ℕ) × (made < (polled turns mask requested t).reads) × Agree u (polled made mask requested t).next
-IsPart (Commands (probe.Delay micros)) t u = (done : ℕ) × (65535 * done < micros) × Agree u (commanded t (probe.Delay (65535 * done))).next
-IsPart (Commands (probe.Abort value)) t u = ⊥
-IsPart (Commands (probe.Pins output select wait)) t u = ⊥
-IsPart (Commands (probe.Clock hertz)) t u = ⊥
-IsPart (Commands (probe.Line count bits)) t u = ⊥
+abbrev pub IsPartOfAction : Action → TargetState → TargetState → Type 0
+IsPartOfAction (Makes a) t u = ⊥
+IsPartOfAction (Polls mask requested turns) t u = (made : ℕ) × (made < (polled turns mask requested t).reads) × Agree u (polled made mask requested t).next
+IsPartOfAction (Commands (probe.Delay micros)) t u = (done : ℕ) × (65535 * done < micros) × Agree u (commanded t (probe.Delay (65535 * done))).next
+IsPartOfAction (Commands (probe.Abort value)) t u = ⊥
+IsPartOfAction (Commands (probe.Pins output select wait)) t u = ⊥
+IsPartOfAction (Commands (probe.Clock hertz)) t u = ⊥
+IsPartOfAction (Commands (probe.Line count bits)) t u = ⊥
 
 -- the same of an entry, where there is one
-abbrev pub IsPartOf : Option Entry → TargetState → TargetState → Type 0
-IsPartOf None t u = ⊥
-IsPartOf (Some e) t u = IsPart e.action t u
+abbrev pub IsPartOfEntry : Option Entry → TargetState → TargetState → Type 0
+IsPartOfEntry None t u = ⊥
+IsPartOfEntry (Some e) t u = IsPartOfAction e.action t u
 
 -- Where the calls, all answered, stop at one, these entries are issued for the calls up to that one.
 pub record StayWithin (t : TargetState) (asks : List Ask) (entries : List Entry) : Type 0 where
-  pub so : (calls : ℕ) → stop (start_world t None) asks ≡ Some calls → AllByRecursion (IsWithin calls) entries
+  pub so : (calls : ℕ) → stop (start_world t None) asks ≡ Some calls → AllByRecursion (IsForFirstCalls calls) entries
 
 -- Without an end: all entries were issued. Those that are confirmed were performed, and no others, and the probe's work is exactly what they
 -- weigh. None of them gives a fault that its unit does not forgive, or is of a call after the first that ends at a fault. No retry ended, and
 -- the idle cycles are those of the beginning. The skipped calls are counted. Once a `finish` was made after the last call, the target agrees
 -- with the one after the calls.
-pub record IsOpen (entries : List Entry) (a : AccessView) (b : Beginning) (m : BenchState) : Type 0 where
+pub record StandsOpen (entries : List Entry) (a : AccessView) (b : Beginning) (m : BenchState) : Type 0 where
   pub issued : a.issued ≡ length entries
   pub performed : HasPerformed entries a.confirmed b m
   pub work : grown_since b m ≡ weight_in (start_of b) (take a.confirmed entries)
@@ -113,15 +113,15 @@ pub record IsUnanswered (entries : List Entry) (r : Report) (a : AccessView) (b 
   pub numbers : HasNumbers entries a.asks.calls a.skipped a.lines r
   pub retries : ended_retries_of m.probe ≡ ended_retries_of b.state.probe + 1
   pub idle_cycles : idle_cycles_of m ≡ idle_cycles_of b.state
-  pub over : IsOver (setting_of b.state) (number_of m)
-  pub number : number_of m + 2 * commands_in (take r.accesses entries) ≤ number_of b.state + 2 * grown_since b m + 1
+  pub over : RetryIsOver (transfer_setting_of b.state) (transfer_number_of m)
+  pub number : transfer_number_of m + 2 * commands_in (take r.accesses entries) ≤ transfer_number_of b.state + 2 * grown_since b m + 1
 
 -- The target agrees with the one after the first `count` entries, and no more were begun. Or the next one was begun too, and a part of it was
 -- done.
 abbrev pub IsAfterPart : List Entry → ℕ → ℕ → Beginning → BenchState → Type 0
 IsAfterPart entries count begun b m =
     let t = target_after (start_of b) (take count entries) in
-    ((begun ≡ count) × Agree (target_of m.probe) t) ⊎ ((begun ≡ count + 1) × IsPartOf (slice_get entries count) t (target_of m.probe))
+    ((begun ≡ count) × Agree (target_of m.probe) t) ⊎ ((begun ≡ count + 1) × IsPartOfEntry (slice_get entries count) t (target_of m.probe))
 
 -- the action is a register access
 abbrev pub IsMade : Action → Type 0
@@ -131,12 +131,12 @@ IsMade (Commands c) = ⊥
 
 -- How many register accesses one packet holds at most. One Transfer has at most 255. Each takes 5 bytes of the packet and its reply together: a
 -- read 1 and 4, a write 5 and none. Either has 3 bytes besides. A block of writes, and a part of a chain, hold no more.
-abbrev pub packet_accesses : Limits → ℕ
-packet_accesses limits = min 255 ((2 * (limits.packet_size - 3)) / 5)
+abbrev pub packet_capacity : Limits → ℕ
+packet_capacity limits = min 255 ((2 * (limits.packet_size - 3)) / 5)
 
 -- how many a flight holds at most: it has as many packets as the probe takes before a reply is read
 abbrev pub flight_accesses : Limits → ℕ
-flight_accesses limits = limits.packet_count * packet_accesses limits
+flight_accesses limits = limits.packet_count * packet_capacity limits
 
 -- the entries are handed over together: register accesses, at most as many as one flight holds, or one poll or command of the probe
 abbrev pub AreTogether : Limits → List Entry → Type 0
@@ -175,15 +175,15 @@ IsCutBy NoAnswer entries r a b m = IsUnanswered entries r a b m
 
 -- At a cut: so it is by its cause. At a fault the named entry is an own one of its unit, the one after those that have their lines. The
 -- memory is the one that the units leave which were made.
-pub record IsCut (entries : List Entry) (r : Report) (a : AccessView) (b : Beginning) (m : BenchState) : Type 0 where
+pub record StandsAtCut (entries : List Entry) (r : Report) (a : AccessView) (b : Beginning) (m : BenchState) : Type 0 where
   pub stands : IsCutBy r.cause entries r a b m
   pub own : r.cause ≡ Faulted → r.unit ≡ a.lines + 1
   pub memory : HasMemory (start_of b) a.asks.calls (units_made r.cause entries r a.lines) a.lines m
 
 -- By the end. An observable bench gives no bad reply, and refused memory is no end.
 abbrev pub StandsAt : Option Stop → List Entry → AccessView → Beginning → BenchState → Type 0
-StandsAt None entries a b m = IsOpen entries a b m
-StandsAt (Some (Cut r)) entries a b m = IsCut entries r a b m
+StandsAt None entries a b m = StandsOpen entries a b m
+StandsAt (Some (Cut r)) entries a b m = StandsAtCut entries r a b m
 StandsAt (Some (BenchFault issued confirmed)) entries a b m = IsBenchFault a.bench.limits a.asks.calls a.came entries issued confirmed b m
 StandsAt (Some ReplyBad) entries a b m = ⊥
 StandsAt (Some OutOfMemory) entries a b m = ⊥
@@ -194,5 +194,5 @@ WhereObservable None P = ⊥
 WhereObservable (Some m) P = P m
 
 -- How far the target of an access has come that began so, by the journal of the calls that were asked.
-abbrev pub Stands : (TargetState → List Ask → List Entry) → AccessView → Beginning → Type 0
-Stands journal a b = WhereObservable a.state (λ m. StandsAt a.end (journal (start_of b) a.asks.calls) a b m)
+abbrev pub AccessStands : (TargetState → List Ask → List Entry) → AccessView → Beginning → Type 0
+AccessStands journal a b = WhereObservable a.state (λ m. StandsAt a.end (journal (start_of b) a.asks.calls) a b m)

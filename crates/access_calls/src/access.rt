@@ -13,10 +13,10 @@ ghost use Rattle.access_calls.specs.Answers.{HasSlot, IsSmallOnly, IsSmallWhere,
 ghost use Rattle.access_calls.specs.Bounds.{KeepsBoundsIf};
 ghost use Rattle.access_calls.specs.CallEnds.{EndsAtAsk, EndsAtFlush, EndsAtValue, InEachOpenWorld, InEachWorld};
 ghost use Rattle.access_calls.specs.Causes.{KeepsReplyAt};
-ghost use Rattle.access_calls.specs.Growing.{JournalGrows, JournalSettles};
+ghost use Rattle.access_calls.specs.Growing.{JournalGoesOn, JournalSettles};
 ghost use Rattle.access_calls.specs.Left.{IsLeft};
 ghost use Rattle.access_calls.specs.Reported.{AccessView, began};
-ghost use Rattle.access_calls.specs.Standing.{Stands};
+ghost use Rattle.access_calls.specs.Standing.{AccessStands};
 
 use crate::Stop;
 use target_calls::{Asked, Slot};
@@ -136,7 +136,7 @@ pub trait Access {
         ensures skipped { result ≡ (reported self.now).skipped };
 
     /// The journal of more calls begins with the journal of the first of them.
-    ghost grows: { JournalGrows journal };
+    ghost grows: { JournalGoesOn journal };
 
     /// The journal of calls that a `finish` follows begins with the journal of the calls.
     ghost settles: { JournalSettles journal };
@@ -146,7 +146,7 @@ pub trait Access {
 
     /// How far the target has come with the journal; and at an end, the numbers of the end.
     ghost stands: { (a : Self) (m : BenchState) (answered : Option ℕ) → begun a m → IsLeft (reported a) answered
-        → Stands journal (reported a) (began m answered) };
+        → AccessStands journal (reported a) (began m answered) };
 
     /// How few packets it has sent, where it keeps the bounds.
     ghost spares: { (a : Self) (m : BenchState) (answered : Option ℕ) → begun a m → IsLeft (reported a) answered

@@ -2,7 +2,7 @@
 
 ghost use Rattle.std.specs.Prelude.{◌≡◌, ◌≤◌, IfOk, IfErr, take};
 ghost use Rattle.probe_core.specs.Bench.{StepsTo, seen};
-ghost use Rattle.access_calls.specs.Opening.{GoesOnTo, HasOpened, IsIdle, IsNew, IsNotBegun, MayBegin, opened_bench};
+ghost use Rattle.access_calls.specs.Opening.{BenchIsIdle, GoesOnTo, HasOpened, IsNew, IsNotBegun, MayBegin, opened_bench};
 
 use crate::{Access, NotBegun};
 use probe_core::{Bench, Config, Limits};
@@ -15,7 +15,7 @@ pub trait OverBench<B: Bench>: Access {
     /// Refused where the bench failed, where a reply is bad, and where memory is refused; the bench is handed back. An observable bench
     /// over which an access may begin never gives a bad reply.
     fn begin(alloc: Global, bench: B, config: Config, limits: Limits) -> Result<Self, NotBegun<B>>
-        requires idle { IsIdle (B.reported bench) }
+        requires idle { BenchIsIdle (B.reported bench) }
         requires limits { limits ≡ (B.reported bench).limits }
         // Nothing was asked, and there is no end.
         ensures new { IfOk result (λ a. IsNew (Self.Access.reported a)) }

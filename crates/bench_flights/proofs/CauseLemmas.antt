@@ -10,7 +10,7 @@ use Rattle.dap_messages.specs.declared.command_value.CommandValue.{CommandValue}
 use Rattle.dap_messages.proofs.PacketLaws.{alone_is_read}
 use Rattle.probe_core.specs.Bench.{Exchange, counted}
 use Rattle.probe_core.specs.Bench.{Reported as BenchReported}
-use Rattle.access_calls.specs.Causes.{AreReplies, HasResponse, IsBadReply, Shows, is_queue}
+use Rattle.access_calls.specs.Causes.{AreReplies, HasResponse, IsBadReply, ReplyShows, is_queue}
 use Rattle.batch_packer.specs.Commands.{is_single, number_by, number_read}
 use Rattle.batch_packer.specs.FlightEnds.{got_replies}
 use Rattle.batch_packer.specs.FlightEnds.{HasEndCause as HasFaultCause}
@@ -19,7 +19,7 @@ use Rattle.batch_packer.specs.Readings.{shown_in}
 use Rattle.batch_packer.specs.declared.ends.FlightEnd.{FlightEnd}
 use Rattle.batch_packer.specs.declared.ends.FlightEnd.TheVariants as ends
 use Rattle.batch_packer.proofs.SingleLemmas.{single_short}
-use Rattle.bench_flights.specs.Flown.{HasEndCause}
+use Rattle.bench_flights.specs.Flown.{FlightHasCause}
 
 -- at this place of an exchange stand a packet and a reply, of which this is so
 pub record IsShownAt (P : Exchange → ℕ → Type 0) (last : Exchange) (place : ℕ) : Type 0 where
@@ -46,7 +46,7 @@ pub record IsEndOf (end : FlightEnd) (old new : BenchReported) (packets replies 
 item_is : (items kept : List (List ℕ)) (at : ℕ) (bytes : List ℕ) → items ≡ kept → slice_get kept at ≡ Some bytes → slice_get kept at ≡ Some (item_at items at)
 item_is items kept at bytes same there = there ∙ ap (λ (b : List ℕ). Some b) (sym (ap bytes_or_none there) ∙ ap (λ (l : List (List ℕ)). item_at l at) (sym same))
 
-pub end_cause : (end : FlightEnd) (old new : BenchReported) (packets replies : List (List ℕ)) (at : ℕ) → IsEndOf end old new packets replies at → HasEndCause end old new (item_at packets at) (item_at replies at)
+pub end_cause : (end : FlightEnd) (old new : BenchReported) (packets replies : List (List ℕ)) (at : ℕ) → IsEndOf end old new packets replies at → FlightHasCause end old new (item_at packets at) (item_at replies at)
 end_cause (ends.Cut cut) old new packets replies at h =
     let s = h.shows refl in
     (h.cause.others refl, record { begun = (let e = h.exchanges refl in omega (arith, e)); place = at; sent = item_is packets new.last.packets at s.packet h.packets_are s.sent; got = item_is replies new.last.replies at s.reply h.replies_are s.got; so = s.so })
@@ -58,7 +58,7 @@ end_cause ends.ReplyBad old new packets replies at h =
 -- ---- one command of the probe
 
 -- a reply that its command may not get by itself
-pub none_shown : (queued : Bool) (c : CommandValue) (reply : List ℕ) (shows : List Shown) → shown_in (reply_read c reply) ≡ None → Shows queued (alone c) reply shows → ⊥
+pub none_shown : (queued : Bool) (c : CommandValue) (reply : List ℕ) (shows : List Shown) → shown_in (reply_read c reply) ≡ None → ReplyShows queued (alone c) reply shows → ⊥
 none_shown queued c reply shows none h = by_parts h.parts shows h.replies h.bytes
   where
     by_parts : (parts : List (List ℕ)) (shows : List Shown) → AreReplies (c ∷ []) parts shows → reply ≡ concat parts → ⊥
@@ -111,7 +111,7 @@ pub record IsEndBelow (e : Option FlightEnd) (old new : BenchReported) (f : Flig
   pub replies_are : f.replies ≡ items_kept e new.last.replies
   pub at : f.at ≡ 0
 
-pub below_is : (e : Option FlightEnd) (end : FlightEnd) (old new : BenchReported) (f : FlightState) → e ≡ Some end → IsEndBelow e old new f → (got_replies (Some end) ≡ true → ShowsEnd end new.last 0) → HasEndCause end old new (item_at f.packets f.at) (item_at f.replies f.at)
+pub below_is : (e : Option FlightEnd) (end : FlightEnd) (old new : BenchReported) (f : FlightState) → e ≡ Some end → IsEndBelow e old new f → (got_replies (Some end) ≡ true → ShowsEnd end new.last 0) → FlightHasCause end old new (item_at f.packets f.at) (item_at f.replies f.at)
 below_is e end old new f is h shows =
     let k : IsEndBelow (Some end) old new f = subst (λ (x : Option FlightEnd). IsEndBelow x old new f) is h in
     end_cause end old new f.packets f.replies f.at
@@ -120,7 +120,7 @@ below_is e end old new f is h shows =
 pub single_cause : (c : CommandValue) (result : Result ℕ FlightEnd) (old new : BenchReported) (f : FlightState) → IsCommand c → is_single c ≡ true →
     MatchResult result (λ _. f.end ≡ None) (λ end. f.end ≡ Some end) → IsEndBelow f.end old new f →
     (got_replies f.end ≡ true → result ≡ number_read c new.last.replies) → (got_replies f.end ≡ true → new.last.packets ≡ command_bytes c ∷ []) → (got_replies f.end ≡ true → length new.last.replies ≡ 1) →
-    IfErr result (λ end. HasEndCause end old new (item_at f.packets f.at) (item_at f.replies f.at))
+    IfErr result (λ end. FlightHasCause end old new (item_at f.packets f.at) (item_at f.replies f.at))
 single_cause c (Ok word) old new f command single is h read packets long = tt
 single_cause c (Err end) old new f command single is h read packets long =
     below_is f.end end old new f is h

@@ -30,7 +30,7 @@ use Rattle.flight_forms.proofs.AskedRequests.{are_normal, payload_normal}
 use Rattle.flight_forms.proofs.GuardedShortness.{normal_or_mask}
 use Rattle.flight_forms.proofs.Shortness.{normal_kind}
 use Rattle.probe_core.specs.Bench.{Exchange}
-use Rattle.access_calls.specs.Causes.{AllWholeBefore, AreReplies, BreaksQueue, HasFront, HasResponse, IsBadReply, Shows, ShowsAt, is_queue, is_shut, is_whole}
+use Rattle.access_calls.specs.Causes.{AllWholeBefore, AreReplies, BreaksQueue, HasFront, HasResponse, IsBadReply, ReplyShows, ShowsAt, is_queue, is_shut, is_whole}
 use Rattle.batch_packer.specs.ChainReadings.{ended_at, guarded_in, guarded_reading, inner_reply, is_mismatch, joined_if, noted_at, readings_after, then_reading}
 use Rattle.batch_packer.proofs.PacketLemmas.{fits_packet, reads_packet}
 use Rattle.batch_packer.specs.Readings.{part_as, part_in, shown_in}
@@ -126,7 +126,7 @@ front_of Queue h rest reply (inl same) = inl same
 front_of Queue h rest reply (inr held) = inr held.1
 
 -- what stands in a reply that its packet may get
-inner_is : (k : PacketKind) → IsQueueKind k → (accesses : List RegAccess) (reply : List ℕ) (shows : List Shown) → Shows true (part_packet k accesses) reply shows →
+inner_is : (k : PacketKind) → IsQueueKind k → (accesses : List RegAccess) (reply : List ℕ) (shows : List Shown) → ReplyShows true (part_packet k accesses) reply shows →
     (part : List ℕ) × (view : Shown) × (inner_reply reply ≡ Some part) × (shows ≡ view ∷ []) × (reply_read (guarded_command accesses) part ≡ Ok view)
 inner_is k q accesses reply shows h =
     let one = one_reply (guarded_command accesses) h.parts shows h.replies in
@@ -141,11 +141,11 @@ inner_is k q accesses reply shows h =
 record HasShown (k : PacketKind) (accesses : List RegAccess) (reply : List ℕ) (next : Part) : Type 0 where
   view : Shown
   is : HasView view next.response
-  shows : Shows true (part_packet k accesses) reply (view ∷ [])
+  shows : ReplyShows true (part_packet k accesses) reply (view ∷ [])
 
 -- one that shows nothing is none that its packet may get
 abbrev Seen : PacketKind → List RegAccess → List ℕ → Option Part → Type 0
-Seen k accesses reply None = (shows : List Shown) → Shows true (part_packet k accesses) reply shows → ⊥
+Seen k accesses reply None = (shows : List Shown) → ReplyShows true (part_packet k accesses) reply shows → ⊥
 Seen k accesses reply (Some next) = HasShown k accesses reply next
 
 front_for : (k : PacketKind) → IsQueueKind k → (reply part : List ℕ) → (reply ≡ 0x7F ∷ 1 ∷ part) ⊎ (reply ≡ 0x7E ∷ 1 ∷ part) → HasFront k true 1 part reply
@@ -219,12 +219,12 @@ module _ (size : ℕ) (last : Exchange) (short : size ≤ 1024) (queue : is_queu
       by_kind Queue q = reads_packet Queue (guarded_command accesses ∷ []) _ (fits_packet Queue (guarded_command accesses) (bytes_of_kind Queue (guarded_command accesses ∷ [])) size short fit.0 refl)
 
   -- a reply that shows something
-  shows_at : (i : ℕ) (k : PacketKind) (accesses : List RegAccess) (reply : List ℕ) (shows : List Shown) → StandsAt i k accesses reply → Shows true (part_packet k accesses) reply shows → ShowsAt last i shows
+  shows_at : (i : ℕ) (k : PacketKind) (accesses : List RegAccess) (reply : List ℕ) (shows : List Shown) → StandsAt i k accesses reply → ReplyShows true (part_packet k accesses) reply shows → ShowsAt last i shows
   shows_at i k accesses reply shows s h = record {
     packet = part_packet k accesses;
     reply = reply;
     replied = record { bytes = bytes_of_kind k (guarded_command accesses ∷ []); sent = s.sent; reads = s.reads; got = s.got };
-    shown = subst (λ (b : Bool). Shows b (part_packet k accesses) reply shows) (sym queue) h;
+    shown = subst (λ (b : Bool). ReplyShows b (part_packet k accesses) reply shows) (sym queue) h;
   }
 
   -- a reply that its packet may not get by itself
@@ -238,7 +238,7 @@ module _ (size : ℕ) (last : Exchange) (short : size ≤ 1024) (queue : is_queu
       packet = part_packet k accesses;
       reply = reply;
       replied = record { bytes = bytes_of_kind k (guarded_command accesses ∷ []); sent = s.sent; reads = s.reads; got = s.got };
-      bad = inl (λ shows h. none shows (subst (λ (b : Bool). Shows b (part_packet k accesses) reply shows) queue h));
+      bad = inl (λ shows h. none shows (subst (λ (b : Bool). ReplyShows b (part_packet k accesses) reply shows) queue h));
     };
   }
 

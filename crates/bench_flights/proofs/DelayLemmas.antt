@@ -18,8 +18,8 @@ use Rattle.batch_packer.specs.declared.ends.FlightEnd.{FlightEnd}
 use Rattle.batch_packer.specs.declared.ends.FlightEnd.TheVariants as ends
 use Rattle.batch_packer.proofs.CallLemmas.{abort_clears, flies_after, last_delayed, next_delayed, none_delayed, many_commands}
 use Rattle.probe_core.proofs.StateSteps.{runs_self, runs_then}
-use Rattle.bench_flights.specs.Flown.{BenchGoesOn, CanCommand, DidLess, HasDone, IsCutResponse, LeftOff, MayClear, NamesNone}
-use Rattle.bench_flights.specs.Wires.{HasDelayed, HasMade, IsNoCut, MadeOrNot, WasMade}
+use Rattle.bench_flights.specs.Flown.{BenchGoesOn, CanCommand, DidLess, HasDoneWhole, IsCutResponse, LeftActionOff, MayClear, NamesNoAccess}
+use Rattle.bench_flights.specs.Wires.{HasDelayed, HasMadeAction, IsNoCut, MadeOrNot, WasMade}
 use Rattle.bench_flights.proofs.WireLemmas.{steps_join, steps_map}
 
 -- ---- one after the other
@@ -42,7 +42,7 @@ numbers_made (Makes a) t n m same = omega (arith, same)
 numbers_made (Polls mask requested turns) t n m same = omega (arith, same)
 numbers_made (Commands c) t n m same = omega (arith, same)
 
-pub made_done : (x : Action) (word : ℕ) (m o : BenchState) → CanFly m → HasMade x word m o → HasDone x word m o
+pub made_done : (x : Action) (word : ℕ) (m o : BenchState) → CanFly m → HasMadeAction x word m o → HasDoneWhole x word m o
 made_done x word m o flies h = record {
   does = λ counts. record {
     target = h.acts.target;
@@ -80,7 +80,7 @@ delay_begins (Some m) = λ in_range. record {
   in_range = in_range;
 }
 
-one_more : (count word : ℕ) (m k o : BenchState) → (IsInRange (target_of m.probe) → HasDelayed count m k) → (IsInRange (target_of k.probe) → HasMade (Commands (probe.Delay 65535)) word k o) →
+one_more : (count word : ℕ) (m k o : BenchState) → (IsInRange (target_of m.probe) → HasDelayed count m k) → (IsInRange (target_of k.probe) → HasMadeAction (Commands (probe.Delay 65535)) word k o) →
     IsInRange (target_of m.probe) → HasDelayed (count + 1) m o
 one_more count word m k o h d in_range =
     let a = h in_range in
@@ -99,7 +99,7 @@ one_more count word m k o h d in_range =
     }
 
 pub delay_next : (x y z : Option BenchState) (count word : ℕ) → StepsTo (λ m o. IsInRange (target_of m.probe) → HasDelayed count m o) x y →
-    StepsTo (λ m o. IsInRange (target_of m.probe) → HasMade (Commands (probe.Delay 65535)) word m o) y z → StepsTo (λ m o. IsInRange (target_of m.probe) → HasDelayed (count + 1) m o) x z
+    StepsTo (λ m o. IsInRange (target_of m.probe) → HasMadeAction (Commands (probe.Delay 65535)) word m o) y z → StepsTo (λ m o. IsInRange (target_of m.probe) → HasDelayed (count + 1) m o) x z
 delay_next x y z count word h d = steps_join _ _ _ (one_more count word) x y z h d
 
 delay_one : (rest : ℕ) → rest ≤ 65535 → delay_commands rest ≡ 1
@@ -123,14 +123,14 @@ whole_acts count rest m k o few some a b in_range = record {
 }
 
 delay_whole : (count rest word : ℕ) → rest ≤ 65535 → (0 < count → 0 < rest) → (m k o : BenchState) → (IsInRange (target_of m.probe) → HasDelayed count m k) →
-    (IsInRange (target_of k.probe) → HasMade (Commands (probe.Delay rest)) word k o) → IsInRange (target_of m.probe) → HasMade (Commands (probe.Delay (65535 * count + rest))) word m o
+    (IsInRange (target_of k.probe) → HasMadeAction (Commands (probe.Delay rest)) word k o) → IsInRange (target_of m.probe) → HasMadeAction (Commands (probe.Delay (65535 * count + rest))) word m o
 delay_whole count rest word few some m k o h d in_range =
     let a = h in_range in
     let b = d a.in_range in
     record { acts = whole_acts count rest m k o few some a b.acts in_range; setting = b.setting ∙ a.setting; idle_cycles = b.idle_cycles ∙ a.idle_cycles; word_is = b.word_is }
 
 pub delay_made : (x y z : Option BenchState) (count rest word : ℕ) → rest ≤ 65535 → (0 < count → 0 < rest) → StepsTo (λ m o. IsInRange (target_of m.probe) → HasDelayed count m o) x y →
-    StepsTo (λ m o. IsInRange (target_of m.probe) → HasMade (Commands (probe.Delay rest)) word m o) y z → StepsTo (λ m o. IsInRange (target_of m.probe) → HasMade (Commands (probe.Delay (65535 * count + rest))) word m o) x z
+    StepsTo (λ m o. IsInRange (target_of m.probe) → HasMadeAction (Commands (probe.Delay rest)) word m o) y z → StepsTo (λ m o. IsInRange (target_of m.probe) → HasMadeAction (Commands (probe.Delay (65535 * count + rest))) word m o) x z
 delay_made x y z count rest word few some h d = steps_join _ _ _ (delay_whole count rest word few some) x y z h d
 
 -- ---- a delay of which a bench call failed
@@ -155,7 +155,7 @@ none_delayed_yet micros m k o a same in_range = record {
 
 -- the next of the parts, or the last, was made or not
 part_left : (count part micros : ℕ) (end : FlightEnd) → part ≤ 65535 → (0 < count → 0 < part) → (65535 * count + part ≡ micros) ⊎ ((part ≡ 65535) × (65535 * (count + 1) < micros)) → (m k o : BenchState) →
-    (IsInRange (target_of m.probe) → HasDelayed count m k) → (IsInRange (target_of k.probe) → MadeOrNot (Commands (probe.Delay part)) end k o) → CanFly m → LeftOff (Commands (probe.Delay micros)) end m o
+    (IsInRange (target_of m.probe) → HasDelayed count m k) → (IsInRange (target_of k.probe) → MadeOrNot (Commands (probe.Delay part)) end k o) → CanFly m → LeftActionOff (Commands (probe.Delay micros)) end m o
 part_left count part micros ends.BenchFault few some which m k o h d flies = by_what (d a.in_range) which
   where
     a : HasDelayed count m k
@@ -168,7 +168,7 @@ part_left count part micros ends.BenchFault few some which m k o h d flies = by_
         by_count zero none = none_delayed_yet micros m k o (subst (λ (c : ℕ). HasDelayed c m k) none a) same flies.in_range
         by_count (suc n) is = less_delayed count micros m k o (less (omega (arith, is))) a same
 
-    by_what : WasMade (Commands (probe.Delay part)) k o ⊎ (o.probe.executor ≡ k.probe.executor) → (65535 * count + part ≡ micros) ⊎ ((part ≡ 65535) × (65535 * (count + 1) < micros)) → LeftOff (Commands (probe.Delay micros)) ends.BenchFault m o
+    by_what : WasMade (Commands (probe.Delay part)) k o ⊎ (o.probe.executor ≡ k.probe.executor) → (65535 * count + part ≡ micros) ⊎ ((part ≡ 65535) × (65535 * (count + 1) < micros)) → LeftActionOff (Commands (probe.Delay micros)) ends.BenchFault m o
     by_what (inl made) (inl last) =
         inl (made_done (Commands (probe.Delay micros)) 0 m o flies (record { acts = subst (λ (n : ℕ). Acts (Commands (probe.Delay n)) (transfers_of m) (transfers_of o)) last (whole_acts count part m k o few some a made.acts flies.in_range); setting = made.setting ∙ a.setting; idle_cycles = made.idle_cycles ∙ a.idle_cycles; word_is = refl }))
     by_what (inl made) (inr (full, less)) =
@@ -181,18 +181,18 @@ part_left count part micros (ends.Cut cut) few some which m k o h d flies = absu
 
 pub delay_left : (x y z : Option BenchState) (count part micros : ℕ) (end : FlightEnd) → part ≤ 65535 → (0 < count → 0 < part) → (65535 * count + part ≡ micros) ⊎ ((part ≡ 65535) × (65535 * (count + 1) < micros)) →
     StepsTo (λ m o. IsInRange (target_of m.probe) → HasDelayed count m o) x y → StepsTo (λ m o. IsInRange (target_of m.probe) → MadeOrNot (Commands (probe.Delay part)) end m o) y z →
-    StepsTo (λ m o. CanFly m → LeftOff (Commands (probe.Delay micros)) end m o) x z
+    StepsTo (λ m o. CanFly m → LeftActionOff (Commands (probe.Delay micros)) end m o) x z
 delay_left x y z count part micros end few some which h d = steps_join _ _ _ (part_left count part micros end few some which) x y z h d
 
 -- the last of the parts, by what it answers
 pub delay_mades : (x y z : Option BenchState) (count rest micros : ℕ) (result : Result ℕ FlightEnd) → rest ≤ 65535 → (0 < count → 0 < rest) → 65535 * count + rest ≡ micros → StepsTo (λ m o. IsInRange (target_of m.probe) → HasDelayed count m o) x y →
-    IfOk result (λ word. StepsTo (λ m o. IsInRange (target_of m.probe) → HasMade (Commands (probe.Delay rest)) word m o) y z) → IfOk result (λ word. StepsTo (λ m o. IsInRange (target_of m.probe) → HasMade (Commands (probe.Delay micros)) word m o) x z)
+    IfOk result (λ word. StepsTo (λ m o. IsInRange (target_of m.probe) → HasMadeAction (Commands (probe.Delay rest)) word m o) y z) → IfOk result (λ word. StepsTo (λ m o. IsInRange (target_of m.probe) → HasMadeAction (Commands (probe.Delay micros)) word m o) x z)
 delay_mades x y z count rest micros (Err end) few some is h d = tt
 delay_mades x y z count rest micros (Ok word) few some is h d =
-    subst (λ (n : ℕ). StepsTo (λ m o. IsInRange (target_of m.probe) → HasMade (Commands (probe.Delay n)) word m o) x z) is (delay_made x y z count rest word few some h d)
+    subst (λ (n : ℕ). StepsTo (λ m o. IsInRange (target_of m.probe) → HasMadeAction (Commands (probe.Delay n)) word m o) x z) is (delay_made x y z count rest word few some h d)
 
 pub delay_lefts : (x y z : Option BenchState) (count rest micros : ℕ) (result : Result ℕ FlightEnd) → rest ≤ 65535 → (0 < count → 0 < rest) → 65535 * count + rest ≡ micros → StepsTo (λ m o. IsInRange (target_of m.probe) → HasDelayed count m o) x y →
-    IfErr result (λ end. StepsTo (λ m o. IsInRange (target_of m.probe) → MadeOrNot (Commands (probe.Delay rest)) end m o) y z) → IfErr result (λ end. StepsTo (λ m o. CanFly m → LeftOff (Commands (probe.Delay micros)) end m o) x z)
+    IfErr result (λ end. StepsTo (λ m o. IsInRange (target_of m.probe) → MadeOrNot (Commands (probe.Delay rest)) end m o) y z) → IfErr result (λ end. StepsTo (λ m o. CanFly m → LeftActionOff (Commands (probe.Delay micros)) end m o) x z)
 delay_lefts x y z count rest micros (Ok word) few some is h d = tt
 delay_lefts x y z count rest micros (Err end) few some is h d = delay_left x y z count rest micros end few some (inl is) h d
 
@@ -205,7 +205,7 @@ cleared (probe.Pins output select wait) m o h acts = absurd (let e = h.clears_it
 cleared (probe.Clock hertz) m o h acts = absurd (let e = h.clears_it in cc)
 cleared (probe.Line count bits) m o h acts = absurd (let e = h.clears_it in cc)
 
-cleared_done : (call : ProbeCall) (word : ℕ) (m o : BenchState) → MayClear call m → HasMade (Commands call) word m o → HasDone (Commands call) word m o
+cleared_done : (call : ProbeCall) (word : ℕ) (m o : BenchState) → MayClear call m → HasMadeAction (Commands call) word m o → HasDoneWhole (Commands call) word m o
 cleared_done call word m o h d =
     let clear : (target_of o.probe).sticky ≡ false = cleared call m o h d.acts in
     record {
@@ -231,7 +231,7 @@ cleared_done call word m o h d =
       };
     }
 
-call_done : (call : ProbeCall) (word : ℕ) (m o : BenchState) → CanCommand call m → HasMade (Commands call) word m o → HasDone (Commands call) word m o
+call_done : (call : ProbeCall) (word : ℕ) (m o : BenchState) → CanCommand call m → HasMadeAction (Commands call) word m o → HasDoneWhole (Commands call) word m o
 call_done call word m o (inl flies) d = made_done (Commands call) word m o flies d
 call_done call word m o (inr clears) d = cleared_done call word m o clears d
 
@@ -240,8 +240,8 @@ range_of call m (inl flies) = flies.in_range
 range_of call m (inr clears) = clears.in_range
 
 -- it is made whole
-pub call_dones : (x y : Option BenchState) (call : ProbeCall) (result : Result ℕ FlightEnd) → IfOk result (λ word. StepsTo (λ m o. IsInRange (target_of m.probe) → HasMade (Commands call) word m o) x y) →
-    IfOk result (λ word. StepsTo (λ m o. CanCommand call m → HasDone (Commands call) word m o) x y)
+pub call_dones : (x y : Option BenchState) (call : ProbeCall) (result : Result ℕ FlightEnd) → IfOk result (λ word. StepsTo (λ m o. IsInRange (target_of m.probe) → HasMadeAction (Commands call) word m o) x y) →
+    IfOk result (λ word. StepsTo (λ m o. CanCommand call m → HasDoneWhole (Commands call) word m o) x y)
 call_dones x y call (Err end) h = tt
 call_dones x y call (Ok word) h = steps_map _ _ (λ m o f can. call_done call word m o can (f (range_of call m can))) x y h
 
@@ -262,14 +262,14 @@ untouched_less call m o one same = record {
   target = inl (refl, record { same = ap (λ (e : ExecutorState). record e.transfers.line.target { rdbuff = 0 }) same });
 }
 
-call_left : (call : ProbeCall) (end : FlightEnd) (m o : BenchState) → is_one call ≡ true → CanCommand call m → MadeOrNot (Commands call) end m o → LeftOff (Commands call) end m o
+call_left : (call : ProbeCall) (end : FlightEnd) (m o : BenchState) → is_one call ≡ true → CanCommand call m → MadeOrNot (Commands call) end m o → LeftActionOff (Commands call) end m o
 call_left call ends.BenchFault m o one can (inl made) = inl (call_done call _ m o can (record { acts = made.acts; setting = made.setting; idle_cycles = made.idle_cycles; word_is = refl }))
 call_left call ends.BenchFault m o one can (inr same) = inr (untouched_less call m o one same)
 call_left call ends.ReplyBad m o one can h = h
 call_left call (ends.Cut cut) m o one can h = absurd h
 
 pub call_lefts : (x y : Option BenchState) (call : ProbeCall) (result : Result ℕ FlightEnd) → is_one call ≡ true → IfErr result (λ end. StepsTo (λ m o. IsInRange (target_of m.probe) → MadeOrNot (Commands call) end m o) x y) →
-    IfErr result (λ end. StepsTo (λ m o. CanCommand call m → LeftOff (Commands call) end m o) x y)
+    IfErr result (λ end. StepsTo (λ m o. CanCommand call m → LeftActionOff (Commands call) end m o) x y)
 call_lefts x y call (Ok word) one h = tt
 call_lefts x y call (Err end) one h = steps_map _ _ (λ m o f can. call_left call end m o one can (f (range_of call m can))) x y h
 
@@ -277,13 +277,13 @@ delays_flies : (micros : ℕ) (m : BenchState) → CanCommand (probe.Delay micro
 delays_flies micros m (inl flies) = flies
 delays_flies micros m (inr h) = absurd (let e = h.clears_it in cc)
 
-pub delays_left : (x y : Option BenchState) (micros : ℕ) (result : Result ℕ FlightEnd) → IfErr result (λ end. StepsTo (λ m o. CanFly m → LeftOff (Commands (probe.Delay micros)) end m o) x y) →
-    IfErr result (λ end. StepsTo (λ m o. CanCommand (probe.Delay micros) m → LeftOff (Commands (probe.Delay micros)) end m o) x y)
+pub delays_left : (x y : Option BenchState) (micros : ℕ) (result : Result ℕ FlightEnd) → IfErr result (λ end. StepsTo (λ m o. CanFly m → LeftActionOff (Commands (probe.Delay micros)) end m o) x y) →
+    IfErr result (λ end. StepsTo (λ m o. CanCommand (probe.Delay micros) m → LeftActionOff (Commands (probe.Delay micros)) end m o) x y)
 delays_left x y micros (Ok word) h = tt
 delays_left x y micros (Err end) h = steps_map _ _ (λ m o f can. f (delays_flies micros m can)) x y h
 
 -- it is no cut
-pub uncut_none : (result : Result ℕ FlightEnd) → IfErr result IsNoCut → IfErr result NamesNone
+pub uncut_none : (result : Result ℕ FlightEnd) → IfErr result IsNoCut → IfErr result NamesNoAccess
 uncut_none (Ok word) h = tt
 uncut_none (Err ends.BenchFault) h = tt
 uncut_none (Err ends.ReplyBad) h = tt
@@ -305,11 +305,11 @@ one_unless (probe.Line count bits) never = refl
 
 -- a call that is a delay
 pub delay_dones : (x y : Option BenchState) (call : ProbeCall) (micros : ℕ) (result : Result ℕ FlightEnd) → call ≡ probe.Delay micros →
-    IfOk result (λ word. StepsTo (λ m o. IsInRange (target_of m.probe) → HasMade (Commands (probe.Delay micros)) word m o) x y) → IfOk result (λ word. StepsTo (λ m o. CanCommand call m → HasDone (Commands call) word m o) x y)
+    IfOk result (λ word. StepsTo (λ m o. IsInRange (target_of m.probe) → HasMadeAction (Commands (probe.Delay micros)) word m o) x y) → IfOk result (λ word. StepsTo (λ m o. CanCommand call m → HasDoneWhole (Commands call) word m o) x y)
 delay_dones x y call micros result is h =
-    subst (λ (k : ProbeCall). IfOk result (λ word. StepsTo (λ m o. CanCommand k m → HasDone (Commands k) word m o) x y)) (sym is) (call_dones x y (probe.Delay micros) result h)
+    subst (λ (k : ProbeCall). IfOk result (λ word. StepsTo (λ m o. CanCommand k m → HasDoneWhole (Commands k) word m o) x y)) (sym is) (call_dones x y (probe.Delay micros) result h)
 
 pub delay_call_left : (x y : Option BenchState) (call : ProbeCall) (micros : ℕ) (result : Result ℕ FlightEnd) → call ≡ probe.Delay micros →
-    IfErr result (λ end. StepsTo (λ m o. CanFly m → LeftOff (Commands (probe.Delay micros)) end m o) x y) → IfErr result (λ end. StepsTo (λ m o. CanCommand call m → LeftOff (Commands call) end m o) x y)
+    IfErr result (λ end. StepsTo (λ m o. CanFly m → LeftActionOff (Commands (probe.Delay micros)) end m o) x y) → IfErr result (λ end. StepsTo (λ m o. CanCommand call m → LeftActionOff (Commands call) end m o) x y)
 delay_call_left x y call micros result is h =
-    subst (λ (k : ProbeCall). IfErr result (λ end. StepsTo (λ m o. CanCommand k m → LeftOff (Commands k) end m o) x y)) (sym is) (delays_left x y micros result h)
+    subst (λ (k : ProbeCall). IfErr result (λ end. StepsTo (λ m o. CanCommand k m → LeftActionOff (Commands k) end m o) x y)) (sym is) (delays_left x y micros result h)

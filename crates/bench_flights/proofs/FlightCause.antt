@@ -38,7 +38,7 @@ use Rattle.batch_packer.specs.Alone.{one_reading}
 use Rattle.batch_packer.specs.FlightEnds.{HasEndCause as HasFaultCause}
 use Rattle.batch_packer.specs.FlightStates.{FlightState, ReadBy, item_at, items_kept, sent_form}
 use Rattle.batch_packer.specs.Kept.{AreCounted, AreReplied, AreSent, EndedAt, form_ended_at, form_packets}
-use Rattle.bench_flights.specs.Flown.{HasEndCause}
+use Rattle.bench_flights.specs.Flown.{FlightHasCause}
 use Rattle.batch_packer.specs.FlightEnds.{EndsBy, flight_reading, got_replies, unless_mismatch}
 use Rattle.batch_packer.specs.declared.ends.Cut.{Cut}
 use Rattle.batch_packer.specs.declared.ends.FlightEnd.{FlightEnd}
@@ -221,7 +221,7 @@ has_form limits [] form is = absurd (cc)
 has_form limits (a ∷ rest) form is = (is, omega arith)
 
 flight_ended : (limits : Limits) (accesses : List RegAccess) (end : FlightEnd) (old new : BenchReported) (f : FlightState) (values : List (Option ℕ)) (form : Option Form) → sent_form limits accesses ≡ form → AreLimits limits → AreWords accesses →
-    IsFlightEnd form limits.packet_size accesses (Some end) old new f values → HasEndCause end old new (item_at f.packets f.at) (item_at f.replies f.at)
+    IsFlightEnd form limits.packet_size accesses (Some end) old new f values → FlightHasCause end old new (item_at f.packets f.at) (item_at f.replies f.at)
 flight_ended limits accesses end old new f values None is fits words h = absurd (let r = h.read.0 in cc)
 flight_ended limits accesses end old new f values (Some form) is fits words h =
     let there = has_form limits accesses form is in
@@ -235,7 +235,7 @@ flight_ended limits accesses end old new f values (Some form) is fits words h =
     })
 
 pub send_cause : {A : Type 0} (limits : Limits) (accesses : List RegAccess) (result : Result A FlightEnd) (old new : BenchReported) (f : FlightState) (values : List (Option ℕ)) → AreLimits limits → AreWords accesses →
-    MatchResult result (λ _. f.end ≡ None) (λ end. f.end ≡ Some end) → IsFlightEnd (sent_form limits accesses) limits.packet_size accesses f.end old new f values → IfErr result (λ end. HasEndCause end old new (item_at f.packets f.at) (item_at f.replies f.at))
+    MatchResult result (λ _. f.end ≡ None) (λ end. f.end ≡ Some end) → IsFlightEnd (sent_form limits accesses) limits.packet_size accesses f.end old new f values → IfErr result (λ end. FlightHasCause end old new (item_at f.packets f.at) (item_at f.replies f.at))
 send_cause limits accesses (Ok done) old new f values fits words is h = tt
 send_cause limits accesses (Err end) old new f values fits words is h =
     flight_ended limits accesses end old new f values (sent_form limits accesses) refl fits words (subst (λ (e : Option FlightEnd). IsFlightEnd (sent_form limits accesses) limits.packet_size accesses e old new f values) is h)

@@ -11,7 +11,7 @@ use Rattle.dap_transfer.specs.CommandEnds.{may_be_free, writes_ap}
 use Rattle.dap_transfer.proofs.Words.{reads_first}
 use Rattle.probe_core.specs.Ranges.{AreLimits}
 use Rattle.probe_core.specs.declared.job.Limits.{Limits}
-use Rattle.access_calls.specs.Standing.{flight_accesses, packet_accesses}
+use Rattle.access_calls.specs.Standing.{flight_accesses, packet_capacity}
 use Rattle.flight_forms.specs.Forms.{all_write_drw, bytes_in, filled, fits_block, fits_chain, fits_guarded, fits_transfer, form_of, parts_of}
 use Rattle.flight_forms.specs.Packing.{check_when, request_of, requests_for}
 use Rattle.flight_forms.specs.declared.form.Form.{Form}
@@ -134,13 +134,13 @@ form_held size count most accesses (Some f) small some one is e held = form_few 
 held_few : (limits : Limits) (accesses : List RegAccess) → AreLimits limits → AreHeld limits accesses → length accesses ≤ flight_accesses limits
 held_few limits [] fits held = omega arith
 held_few limits (a ∷ rest) fits held =
-    form_held limits.packet_size limits.packet_count (packet_accesses limits) (a ∷ rest) (form_of limits.packet_size limits.packet_count (a ∷ rest)) fits.size_high fits.count_low
+    form_held limits.packet_size limits.packet_count (packet_capacity limits) (a ∷ rest) (form_of limits.packet_size limits.packet_count (a ∷ rest)) fits.size_high fits.count_low
     (let low = fits.size_low in omega (arith, low)) refl refl (held (omega arith))
 
 -- with larger limits a flight holds no fewer
 more_held : (limits given : Limits) → IsWithin limits given → flight_accesses limits ≤ flight_accesses given
 more_held limits given within =
-    mul-le limits.packet_count (packet_accesses limits) given.packet_count (packet_accesses given) within.count (let s = within.size in omega (arith, s))
+    mul-le limits.packet_count (packet_capacity limits) given.packet_count (packet_capacity given) within.count (let s = within.size in omega (arith, s))
 
 -- what a flight has that is held to its limits is at most what one holds by the limits of the bench
 pub accesses_held : (limits given now : Limits) (accesses : List RegAccess) → AreLimits limits → AreHeld limits accesses → IsWithin limits given → now ≡ given → length accesses ≤ flight_accesses now

@@ -10,7 +10,7 @@ use Rattle.target_calls.proofs.EntryLemmas.{weight_some}
 use Rattle.dap_transfer.specs.State.{Setting}
 use Rattle.probe_core.specs.Bench.{BenchState, StepsTo}
 use Rattle.probe_core.specs.Probe.{ExecutorState, target_of}
-use Rattle.access_calls.specs.Standing.{setting_of}
+use Rattle.access_calls.specs.Standing.{transfer_setting_of}
 use Rattle.batch_packer.specs.Actions.{Acts}
 use Rattle.batch_packer.specs.Flying.{CanFly, transfers_of}
 use Rattle.batch_packer.specs.Polling.{PolledBy}
@@ -19,8 +19,8 @@ use Rattle.batch_packer.specs.declared.ends.FlightEnd.TheVariants as ends
 use Rattle.batch_packer.specs.declared.poll.Config.{Config}
 use Rattle.batch_packer.specs.declared.poll.PollAsk.{PollAsk}
 use Rattle.batch_packer.proofs.CallLemmas.{flies_after}
-use Rattle.bench_flights.specs.Flown.{CanMatch, DidLess, HasDone, IsSetTo, LeftOff, matched_word}
-use Rattle.bench_flights.specs.Wires.{HasLooked, HasMade, MadeOrNot, WasMade}
+use Rattle.bench_flights.specs.Flown.{CanMatch, DidLess, HasDoneWhole, IsSetTo, LeftActionOff, matched_word}
+use Rattle.bench_flights.specs.Wires.{HasLooked, HasMadeAction, MadeOrNot, WasMade}
 use Rattle.bench_flights.proofs.WireLemmas.{steps_join, steps_map}
 
 -- ---- one turn
@@ -173,7 +173,7 @@ looked_none mask requested m flies = record {
   flies = flies;
 }
 
-looked_made : (mask requested n word : ℕ) (m o : BenchState) → CanFly m → HasMade (Polls mask requested n) word m o → HasLooked mask requested n word m o
+looked_made : (mask requested n word : ℕ) (m o : BenchState) → CanFly m → HasMadeAction (Polls mask requested n) word m o → HasLooked mask requested n word m o
 looked_made mask requested n word m o flies h = record {
   good = h.acts.passes;
   word_is = h.word_is;
@@ -220,7 +220,7 @@ looked_stops mask requested a b m o h =
       flies = h.flies;
     }
 
-pub looked_done : (mask requested turns word : ℕ) (m o : BenchState) → HasLooked mask requested turns word m o → HasDone (Polls mask requested turns) word m o
+pub looked_done : (mask requested turns word : ℕ) (m o : BenchState) → HasLooked mask requested turns word m o → HasDoneWhole (Polls mask requested turns) word m o
 looked_done mask requested turns word m o h = record {
   does = λ counts. record {
     target = h.target;
@@ -268,37 +268,37 @@ pub poll_begins : (x : Option BenchState) (idle retry mask requested : ℕ) → 
 poll_begins None idle retry mask requested = tt
 poll_begins (Some m) idle retry mask requested = λ flies can. looked_none mask requested m flies
 
-joined_portion : (idle retry mask requested a b word : ℕ) (m k o : BenchState) → (CanFly m → CanMatch idle retry m → HasLooked mask requested a 0 m k) → (CanFly k → CanMatch idle retry k → HasMade (Polls mask requested b) word k o) →
+joined_portion : (idle retry mask requested a b word : ℕ) (m k o : BenchState) → (CanFly m → CanMatch idle retry m → HasLooked mask requested a 0 m k) → (CanFly k → CanMatch idle retry k → HasMadeAction (Polls mask requested b) word k o) →
     CanFly m → CanMatch idle retry m → HasLooked mask requested (a + b) word m o
 joined_portion idle retry mask requested a b word m k o h d flies can =
     let l = h flies can in
     looked_more mask requested a b word m k o l (looked_made mask requested b word k o l.flies (d l.flies (bank_kept idle retry mask requested a 0 m k l can)))
 
 pub poll_next : (x y z : Option BenchState) (idle retry mask requested a b word : ℕ) → StepsTo (λ m o. CanFly m → CanMatch idle retry m → HasLooked mask requested a 0 m o) x y →
-    StepsTo (λ m o. CanFly m → CanMatch idle retry m → HasMade (Polls mask requested b) word m o) y z → StepsTo (λ m o. CanFly m → CanMatch idle retry m → HasLooked mask requested (a + b) word m o) x z
+    StepsTo (λ m o. CanFly m → CanMatch idle retry m → HasMadeAction (Polls mask requested b) word m o) y z → StepsTo (λ m o. CanFly m → CanMatch idle retry m → HasLooked mask requested (a + b) word m o) x z
 poll_next x y z idle retry mask requested a b word h d = steps_join _ _ _ (joined_portion idle retry mask requested a b word) x y z h d
 
 -- the register matched
 pub poll_matches : (x z : Option BenchState) (idle retry mask requested a b turns : ℕ) → a + b ≡ turns → StepsTo (λ m o. CanFly m → CanMatch idle retry m → HasLooked mask requested a 1 m o) x z →
-    StepsTo (λ m o. CanFly m → CanMatch idle retry m → HasDone (Polls mask requested turns) (matched_word true) m o) x z
+    StepsTo (λ m o. CanFly m → CanMatch idle retry m → HasDoneWhole (Polls mask requested turns) (matched_word true) m o) x z
 poll_matches x z idle retry mask requested a b turns sum h =
     steps_map _ _ (λ m o f flies can. looked_done mask requested turns 1 m o (subst (λ (n : ℕ). HasLooked mask requested n 1 m o) sum (looked_stops mask requested a b m o (f flies can)))) x z h
 
 -- the turns are used up
 pub poll_used : (x z : Option BenchState) (idle retry mask requested made turns : ℕ) → made ≡ turns → StepsTo (λ m o. CanFly m → CanMatch idle retry m → HasLooked mask requested made 0 m o) x z →
-    StepsTo (λ m o. CanFly m → CanMatch idle retry m → HasDone (Polls mask requested turns) (matched_word false) m o) x z
+    StepsTo (λ m o. CanFly m → CanMatch idle retry m → HasDoneWhole (Polls mask requested turns) (matched_word false) m o) x z
 poll_used x z idle retry mask requested made turns all h =
     steps_map _ _ (λ m o f flies can. looked_done mask requested turns 0 m o (subst (λ (n : ℕ). HasLooked mask requested n 0 m o) all (f flies can))) x z h
 
 -- a bench call failed in a portion
 portion_left : (idle retry mask requested a b turns : ℕ) (end : FlightEnd) → 1 ≤ b → a + b ≤ turns → (m k o : BenchState) → (CanFly m → CanMatch idle retry m → HasLooked mask requested a 0 m k) →
-    (CanFly k → CanMatch idle retry k → MadeOrNot (Polls mask requested b) end k o) → CanFly m → CanMatch idle retry m → LeftOff (Polls mask requested turns) end m o
+    (CanFly k → CanMatch idle retry k → MadeOrNot (Polls mask requested b) end k o) → CanFly m → CanMatch idle retry m → LeftActionOff (Polls mask requested turns) end m o
 portion_left idle retry mask requested a b turns ends.BenchFault some within m k o h d flies can = by_what (d l.flies (bank_kept idle retry mask requested a 0 m k l can))
   where
     l : HasLooked mask requested a 0 m k
     l = h flies can
 
-    by_word : WasMade (Polls mask requested b) k o → (given (polled b mask requested (target_of k.probe)).outcome ≡ 0) ⊎ (given (polled b mask requested (target_of k.probe)).outcome ≡ 1) → LeftOff (Polls mask requested turns) ends.BenchFault m o
+    by_word : WasMade (Polls mask requested b) k o → (given (polled b mask requested (target_of k.probe)).outcome ≡ 0) ⊎ (given (polled b mask requested (target_of k.probe)).outcome ≡ 1) → LeftActionOff (Polls mask requested turns) ends.BenchFault m o
     by_word made (inr one) =
         let n : HasLooked mask requested (a + b) 1 m o = looked_more mask requested a b 1 m k o l (looked_made mask requested b 1 k o l.flies (record { acts = made.acts; setting = made.setting; idle_cycles = made.idle_cycles; word_is = sym one })) in
         let sum : (a + b) + (turns - (a + b)) ≡ turns = omega (arith, within) in
@@ -308,21 +308,21 @@ portion_left idle retry mask requested a b turns ends.BenchFault some within m k
         let n : HasLooked mask requested (a + b) 0 m o = looked_more mask requested a b 0 m k o l (looked_made mask requested b 0 k o l.flies (record { acts = made.acts; setting = made.setting; idle_cycles = made.idle_cycles; word_is = sym none })) in
         by_rest n (turns - (a + b)) refl
       where
-        by_rest : HasLooked mask requested (a + b) 0 m o → (rest : ℕ) → turns - (a + b) ≡ rest → LeftOff (Polls mask requested turns) ends.BenchFault m o
+        by_rest : HasLooked mask requested (a + b) 0 m o → (rest : ℕ) → turns - (a + b) ≡ rest → LeftActionOff (Polls mask requested turns) ends.BenchFault m o
         by_rest n zero is =
             let all : a + b ≡ turns = omega (arith, is, within) in
             let w : HasLooked mask requested turns 0 m o = subst (λ (c : ℕ). HasLooked mask requested c 0 m o) all n in
             inl (looked_done mask requested turns (given (polled turns mask requested (target_of m.probe)).outcome) m o (subst (λ (c : ℕ). HasLooked mask requested turns c m o) w.word_is w))
         by_rest n (suc rest) is = inr (looked_less mask requested turns (a + b) m o o (omega (arith, is)) n refl)
 
-    by_what : WasMade (Polls mask requested b) k o ⊎ (o.probe.executor ≡ k.probe.executor) → LeftOff (Polls mask requested turns) ends.BenchFault m o
+    by_what : WasMade (Polls mask requested b) k o ⊎ (o.probe.executor ≡ k.probe.executor) → LeftActionOff (Polls mask requested turns) ends.BenchFault m o
     by_what (inl made) = by_word made (polled_word b mask requested (target_of k.probe))
     by_what (inr same) = inr (looked_less mask requested turns a m k o (omega (arith, some, within)) l same)
 portion_left idle retry mask requested a b turns ends.ReplyBad some within m k o h d flies can = let l = h flies can in d l.flies (bank_kept idle retry mask requested a 0 m k l can)
 portion_left idle retry mask requested a b turns (ends.Cut cut) some within m k o h d flies can = absurd (let l = h flies can in d l.flies (bank_kept idle retry mask requested a 0 m k l can))
 
 pub poll_left : (x y z : Option BenchState) (idle retry mask requested a b turns : ℕ) (end : FlightEnd) → 1 ≤ b → a + b ≤ turns → StepsTo (λ m o. CanFly m → CanMatch idle retry m → HasLooked mask requested a 0 m o) x y →
-    StepsTo (λ m o. CanFly m → CanMatch idle retry m → MadeOrNot (Polls mask requested b) end m o) y z → StepsTo (λ m o. CanFly m → CanMatch idle retry m → LeftOff (Polls mask requested turns) end m o) x z
+    StepsTo (λ m o. CanFly m → CanMatch idle retry m → MadeOrNot (Polls mask requested b) end m o) y z → StepsTo (λ m o. CanFly m → CanMatch idle retry m → LeftActionOff (Polls mask requested turns) end m o) x z
 poll_left x y z idle retry mask requested a b turns end some within h d = steps_join _ _ _ (portion_left idle retry mask requested a b turns end some within) x y z h d
 
 -- ---- one portion, as the layer below says it
@@ -338,13 +338,13 @@ setting_same a b stalls retry matches = λ i. record { stalls = stalls i; retry 
 was_polled : (idle retry : ℕ) (x : Action) (m o : BenchState) → CanMatch idle retry m → Acts x (transfers_of m) (transfers_of o) → IsSetTo idle retry o → WasMade x m o
 was_polled idle retry x m o can acts set = record {
   acts = acts;
-  setting = setting_same (setting_of o) (setting_of m) acts.stalls (set.retry_is ∙ sym can.set.retry_is) acts.matches;
+  setting = setting_same (transfer_setting_of o) (transfer_setting_of m) acts.stalls (set.retry_is ∙ sym can.set.retry_is) acts.matches;
   idle_cycles = set.idle_is ∙ sym can.set.idle_is;
 }
 
 pub portion_made : (x y : Option BenchState) (config : Config) (ask : PollAsk) (result : Result Bool FlightEnd) →
     StepsTo (λ m o. CanFly m → bank (target_of m.probe) ≡ 0 → PolledBy config ask result m o) x y →
-    IfOk result (λ matched. StepsTo (λ m o. CanFly m → CanMatch config.idle config.retry m → HasMade (Polls ask.mask ask.value ask.turns) (matched_word matched) m o) x y)
+    IfOk result (λ matched. StepsTo (λ m o. CanFly m → CanMatch config.idle config.retry m → HasMadeAction (Polls ask.mask ask.value ask.turns) (matched_word matched) m o) x y)
 portion_made x y config ask (Err end) h = tt
 portion_made x y config ask (Ok matched) h =
     steps_map _ _ (λ m o f flies can. let p = f flies can.bank_zero in let made = was_polled config.idle config.retry _ m o can p.acted.acts (record { idle_is = p.idle_cycles; retry_is = p.retry }) in
@@ -364,7 +364,7 @@ portion_lefts x y config ask (Err end) h = steps_map _ _ (λ m o f flies can. le
 
 -- what a portion answers, by its case
 pub word_for : (x y : Option BenchState) (idle retry mask requested turns : ℕ) (matched is : Bool) → matched ≡ is →
-    StepsTo (λ m o. CanFly m → CanMatch idle retry m → HasMade (Polls mask requested turns) (matched_word matched) m o) x y →
-    StepsTo (λ m o. CanFly m → CanMatch idle retry m → HasMade (Polls mask requested turns) (matched_word is) m o) x y
+    StepsTo (λ m o. CanFly m → CanMatch idle retry m → HasMadeAction (Polls mask requested turns) (matched_word matched) m o) x y →
+    StepsTo (λ m o. CanFly m → CanMatch idle retry m → HasMadeAction (Polls mask requested turns) (matched_word is) m o) x y
 word_for x y idle retry mask requested turns matched is same h =
-    subst (λ (b : Bool). StepsTo (λ m o. CanFly m → CanMatch idle retry m → HasMade (Polls mask requested turns) (matched_word b) m o) x y) same h
+    subst (λ (b : Bool). StepsTo (λ m o. CanFly m → CanMatch idle retry m → HasMadeAction (Polls mask requested turns) (matched_word b) m o) x y) same h

@@ -34,7 +34,7 @@ use Rattle.batch_packer.specs.declared.ends.Cut.{Cut}
 use Rattle.batch_packer.specs.declared.ends.FlightEnd.{FlightEnd}
 use Rattle.batch_packer.specs.declared.ends.FlightEnd.TheVariants as ends
 use Rattle.batch_packer.proofs.AloneLemmas.{after_in_range}
-use Rattle.bench_flights.specs.Flown.{HasEndCause, IsCutResponse, NamesNone}
+use Rattle.bench_flights.specs.Flown.{FlightHasCause, IsCutResponse, NamesNoAccess}
 use Rattle.probe_core.specs.Bench.{Reported as BenchReported}
 use Rattle.bench_flights.specs.Wires.{HasRead, HasWaited, IsUnread, ReadOrNot, unnamed}
 use Rattle.bench_flights.proofs.WireLemmas.{steps_map}
@@ -183,10 +183,10 @@ unnamed_left x y end shown is h = subst (λ (e : FlightEnd). StepsTo (λ m o. Ca
     by_end ends.BenchFault h = h
     by_end ends.ReplyBad h = h
 
-pub unnamed_cause : (end shown : FlightEnd) (a b : BenchReported) (packet reply : List ℕ) → shown ≡ unnamed end → HasEndCause end a b packet reply → HasEndCause shown a b packet reply
-unnamed_cause end shown a b packet reply is h = subst (λ (e : FlightEnd). HasEndCause e a b packet reply) (sym is) (by_end end h)
+pub unnamed_cause : (end shown : FlightEnd) (a b : BenchReported) (packet reply : List ℕ) → shown ≡ unnamed end → FlightHasCause end a b packet reply → FlightHasCause shown a b packet reply
+unnamed_cause end shown a b packet reply is h = subst (λ (e : FlightEnd). FlightHasCause e a b packet reply) (sym is) (by_end end h)
   where
-    by_end : (e : FlightEnd) → HasEndCause e a b packet reply → HasEndCause (unnamed e) a b packet reply
+    by_end : (e : FlightEnd) → FlightHasCause e a b packet reply → FlightHasCause (unnamed e) a b packet reply
     by_end (ends.Cut cut) h = h
     by_end ends.BenchFault h = h
     by_end ends.ReplyBad h = h
@@ -199,10 +199,10 @@ unnamed_response end shown is h = subst IsCutResponse (sym is) (by_end end h)
     by_end ends.BenchFault h = h
     by_end ends.ReplyBad h = h
 
-pub unnamed_none : (end shown : FlightEnd) → shown ≡ unnamed end → NamesNone shown
-unnamed_none end shown is = subst NamesNone (sym is) (by_end end)
+pub unnamed_none : (end shown : FlightEnd) → shown ≡ unnamed end → NamesNoAccess shown
+unnamed_none end shown is = subst NamesNoAccess (sym is) (by_end end)
   where
-    by_end : (e : FlightEnd) → NamesNone (unnamed e)
+    by_end : (e : FlightEnd) → NamesNoAccess (unnamed e)
     by_end (ends.Cut cut) = (refl, refl)
     by_end ends.BenchFault = tt
     by_end ends.ReplyBad = tt

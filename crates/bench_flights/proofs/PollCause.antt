@@ -19,7 +19,7 @@ use Rattle.dap_messages.specs.declared.request.Response.TheVariants.{Good, Wait,
 use Rattle.flight_forms.specs.Polls.{clear_mask, poll_commands, poll_requests}
 use Rattle.probe_core.specs.Bench.{Exchange}
 use Rattle.probe_core.specs.Bench.{Reported as BenchReported}
-use Rattle.access_calls.specs.Causes.{AreReplies, HasFront, HasResponse, Shows, is_queue}
+use Rattle.access_calls.specs.Causes.{AreReplies, HasFront, HasResponse, ReplyShows, is_queue}
 use Rattle.batch_packer.specs.FlightEnds.{got_replies}
 use Rattle.batch_packer.specs.FlightStates.{FlightState, item_at}
 use Rattle.batch_packer.specs.Polling.{is_framed, is_of_four, is_read, match_by, match_end, matched_in, matched_read, packet_of, poll_cut}
@@ -31,7 +31,7 @@ use Rattle.batch_packer.specs.declared.poll.PollAsk.{PollAsk}
 use Rattle.dap_replies.proofs.ReplyLaws.{response_is}
 use Rattle.batch_packer.proofs.PacketLemmas.{reads_packet}
 use Rattle.batch_packer.proofs.PollLemmas.{IsPoll, poll_is_packet}
-use Rattle.bench_flights.specs.Flown.{HasEndCause, IsUnnamed}
+use Rattle.bench_flights.specs.Flown.{FlightHasCause, IsUnnamed}
 use Rattle.bench_flights.proofs.CauseLemmas.{IsEndBelow, IsShownAt, ShowsEnd, below_is}
 use Rattle.bench_flights.proofs.ReplyReads.{configure_long, transfer_read}
 use Rattle.dap_base.proofs.Basics.{first_true, second_true}
@@ -162,7 +162,7 @@ module _ (config : Config) (ask : PollAsk) where
       (and_from (is_read (Transfer clear_mask) (f ∷ g ∷ h ∷ [])) (is_read (Configure config.idle config.retry 0) (i ∷ j ∷ [])) clear last)
 
   -- such a reply is not bad
-  never_bad : (packet : Packet) (reply : List ℕ) (shows : List Shown) → packet ≡ packet_of config ask → Shows false packet reply shows → matched_in config ask reply ≡ Err ends.ReplyBad → ⊥
+  never_bad : (packet : Packet) (reply : List ℕ) (shows : List Shown) → packet ≡ packet_of config ask → ReplyShows false packet reply shows → matched_in config ask reply ≡ Err ends.ReplyBad → ⊥
   never_bad packet reply shows is h bad = by_parts (subst (λ (p : Packet). AreReplies p.commands h.parts shows) is h.replies) (front (subst (λ (p : Packet). HasFront p.kind false (length p.commands) (concat h.parts) reply) is h.bytes))
     where
       front : (reply ≡ 0x7F ∷ 4 ∷ concat h.parts) ⊎ ((false ≡ true) × (reply ≡ 0x7E ∷ 4 ∷ concat h.parts)) → reply ≡ 0x7F ∷ 4 ∷ concat h.parts
@@ -273,7 +273,7 @@ module _ (config : Config) (ask : PollAsk) (reply : List ℕ) (end : FlightEnd) 
   abbrev all_shown : List Shown
   all_shown = first_read.0 ∷ h.show ∷ clear_read.0 ∷ last_read.0 ∷ []
 
-  shows_all : (queued : Bool) → Shows queued (packet_of config ask) reply all_shown
+  shows_all : (queued : Bool) → ReplyShows queued (packet_of config ask) reply all_shown
   shows_all queued = record {
     parts = slice_range reply 2 4 ∷ slice_range reply 4 7 ∷ slice_range reply 7 10 ∷ slice_range reply 10 12 ∷ [];
     replies = (first_read.1, (h.read, (clear_read.1, (last_read.1, tt))));
@@ -316,7 +316,7 @@ poll_shows config ask packet last end reads packets one e = by_replies last.repl
             packet = packet_of config ask;
             reply = reply;
             replied = record { bytes = packet; sent = sent; reads = reads; got = got };
-            bad = inl (λ shows s. never_bad config ask (packet_of config ask) reply shows refl (subst (λ (b : Bool). Shows b (packet_of config ask) reply shows) queue s) (sym e ∙ ap (λ (x : FlightEnd). Err x) bad));
+            bad = inl (λ shows s. never_bad config ask (packet_of config ask) reply shows refl (subst (λ (b : Bool). ReplyShows b (packet_of config ask) reply shows) queue s) (sym e ∙ ap (λ (x : FlightEnd). Err x) bad));
           };
         })
     by_end reply replies e (inr cut) = subst (λ (x : FlightEnd). ShowsEnd x last 0) (sym cut.is) (cut_shown config ask reply end cut packet last reads packets replies)
@@ -342,7 +342,7 @@ poll_names config ask (reply ∷ other ∷ replies) end e = bad_names end cc
 pub poll_cause : (config : Config) (ask : PollAsk) (result : Result Bool FlightEnd) (old new : BenchReported) (f : FlightState) → IsPoll config ask →
     MatchResult result (λ _. f.end ≡ None) (λ end. f.end ≡ Some end) → IsEndBelow f.end old new f →
     (got_replies f.end ≡ true → result ≡ matched_read config ask new.last.replies) → (got_replies f.end ≡ true → new.last.packets ≡ packet_bytes (packet_of config ask) ∷ []) → (got_replies f.end ≡ true → length new.last.replies ≡ 1) →
-    IfErr result (λ end. HasEndCause end old new (item_at f.packets f.at) (item_at f.replies f.at))
+    IfErr result (λ end. FlightHasCause end old new (item_at f.packets f.at) (item_at f.replies f.at))
 poll_cause config ask (Ok matched) old new f fits is h read packets long = tt
 poll_cause config ask (Err end) old new f fits is h read packets long =
     below_is f.end end old new f is h

@@ -40,7 +40,7 @@ transfer_full limits accesses next fits none = by_size (cases_lt (length accesse
 -- A flight for which there is no room for one access more has the capacity of accesses. Where it and that one are writes of DRW, it has a block
 -- of them.
 full_by_form : (limits : Limits) (accesses : List RegAccess) (next : RegAccess) → AreLimits limits → form_of limits.packet_size limits.packet_count (accesses ++ next ∷ []) ≡ None →
-    (bounds.capacity limits ≤ length accesses) × (all_write_drw (accesses ++ next ∷ []) ≡ true → bounds.block_words limits ≤ length accesses)
+    (bounds.flight_capacity limits ≤ length accesses) × (all_write_drw (accesses ++ next ∷ []) ≡ true → bounds.block_words limits ≤ length accesses)
 full_by_form limits accesses next range none =
     let more = length-append accesses (next ∷ []) in
     let least = range.size_low in

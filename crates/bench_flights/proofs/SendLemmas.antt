@@ -23,9 +23,9 @@ use Rattle.batch_packer.specs.declared.ends.Cut.{Cut}
 use Rattle.batch_packer.specs.declared.ends.FlightEnd.{FlightEnd}
 use Rattle.batch_packer.specs.declared.ends.FlightEnd.TheVariants as ends
 use Rattle.batch_packer.proofs.NextFlight.{flies_again}
-use Rattle.bench_flights.specs.Flown.{BrokeOff, HasCome, MayHaveFlown, WasCut}
+use Rattle.bench_flights.specs.Flown.{BrokeOff, HasCome, MayHaveDonePart, WasCut}
 use Rattle.bench_flights.specs.Flown.{SendsFew}
-use Rattle.bench_flights.specs.Wires.{AreHeld, AreSmall}
+use Rattle.bench_flights.specs.Wires.{AreHeld, HaveWordValues}
 use Rattle.bench_flights.proofs.WireLemmas.{steps_map}
 
 -- ---- it came
@@ -107,10 +107,10 @@ cut_by form accesses cut values m o (Some response) named h = record {
     by_response Fault named bad never other = refl
     by_response Mismatch named bad never other = absurd (never refl)
 
-failed_by : (form : Form) (accesses : List RegAccess) (m o : BenchState) → FlewSome form accesses m o → MayHaveFlown accesses m o
+failed_by : (form : Form) (accesses : List RegAccess) (m o : BenchState) → FlewSome form accesses m o → MayHaveDonePart accesses m o
 failed_by form accesses m o may = by_either may.either
   where
-    by_either : NoneOrPart form accesses m o → MayHaveFlown accesses m o
+    by_either : NoneOrPart form accesses m o → MayHaveDonePart accesses m o
     by_either (inl same) = record { part = whole_part accesses []; either = inl same; idle_cycles = may.idle_cycles; never = λ never. cc }
     by_either (inr (part, does, once)) = record { part = part; either = inr does; idle_cycles = may.idle_cycles; never = does.made.never }
 
@@ -138,11 +138,11 @@ room_after (Ok done) old limits accesses fits same none = λ next taken.
     ap (λ (l : List RegAccess). has_room limits l next) none ∙ ap (λ (l : Limits). has_room l [] next) same ∙ room_alone old next fits
 
 -- the values that are written are of 32 bits
-pub small_words : (accesses : List RegAccess) → AreSmall accesses → AreWords accesses
+pub small_words : (accesses : List RegAccess) → HaveWordValues accesses → AreWords accesses
 small_words [] h = tt
 small_words (a ∷ rest) h = (h 0 a refl, small_words rest (λ k b there. h (suc k) b there))
 
-pub small_more : (accesses : List RegAccess) (next : RegAccess) → AreSmall accesses → next.value < 2 ^ 32 → AreSmall (accesses ++ next ∷ [])
+pub small_more : (accesses : List RegAccess) (next : RegAccess) → HaveWordValues accesses → next.value < 2 ^ 32 → HaveWordValues (accesses ++ next ∷ [])
 small_more [] next h fits zero a there = subst (λ (b : RegAccess). b.value < 2 ^ 32) (let s : next ≡ a = cc in s) fits
 small_more [] next h fits (suc k) a there = absurd (cc)
 small_more (b ∷ rest) next h fits zero a there = h 0 a there

@@ -12,11 +12,11 @@ use Rattle.target_calls.proofs.EntryLemmas.{weight_some}
 use Rattle.dap_transfer.specs.State.{Setting, grown}
 use Rattle.probe_core.specs.Bench.{BenchState, StepsTo}
 use Rattle.probe_core.specs.Probe.{target_of, work_of}
-use Rattle.access_calls.specs.Standing.{IsOver, number_of}
+use Rattle.access_calls.specs.Standing.{RetryIsOver, transfer_number_of}
 use Rattle.batch_packer.specs.Flying.{CanFly}
 use Rattle.batch_packer.specs.declared.ends.FlightEnd.{FlightEnd}
 use Rattle.batch_packer.specs.declared.ends.FlightEnd.TheVariants as ends
-use Rattle.bench_flights.specs.Flown.{DidLess, HasDone, LeftOff, WasUnanswered, matched_word}
+use Rattle.bench_flights.specs.Flown.{DidLess, HasDoneWhole, LeftActionOff, WasUnanswered, matched_word}
 use Rattle.bench_flights.specs.Wires.{HasLooked, HasRead, HasWaited, IsUnread, ReadOrNot}
 use Rattle.bench_flights.proofs.LookLemmas.{first_turn, looked_done, looked_more, looked_none, looked_stops, more_reads, polled_more, polled_select, polled_stops, unmet_of, unmet_reads}
 use Rattle.bench_flights.proofs.WireLemmas.{steps_join, steps_map}
@@ -122,14 +122,14 @@ turn_met x y z mask requested a value is h r =
         let one = one_turn mask requested value (target_of k.probe) true q.gives is in
         (let n = ap (λ (p : Polled). p.reads) all in let r = ap (λ (p : Polled). p.reads) one in omega (arith, n, r))
 
-met_there : (mask requested a rest turns : ℕ) (m o : BenchState) → a + rest ≡ turns → HasLooked mask requested a 1 m o → a ≡ (polled a mask requested (target_of m.probe)).reads → HasDone (Polls mask requested turns) (matched_word true) m o × (a ≡ (polled turns mask requested (target_of m.probe)).reads)
+met_there : (mask requested a rest turns : ℕ) (m o : BenchState) → a + rest ≡ turns → HasLooked mask requested a 1 m o → a ≡ (polled a mask requested (target_of m.probe)).reads → HasDoneWhole (Polls mask requested turns) (matched_word true) m o × (a ≡ (polled turns mask requested (target_of m.probe)).reads)
 met_there mask requested a rest turns m o sum h reads = (
   looked_done mask requested turns 1 m o (subst (λ (n : ℕ). HasLooked mask requested n 1 m o) sum (looked_stops mask requested a rest m o h)),
   reads ∙ ap (λ (p : Polled). p.reads) (sym (polled_stops a rest mask requested (target_of m.probe) (sym h.word_is))) ∙ ap (λ (n : ℕ). (polled n mask requested (target_of m.probe)).reads) sum,
 )
 
 pub turns_met : (x z : Option BenchState) (mask requested a turns : ℕ) → a ≤ turns → StepsTo (λ m o. CanFly m → HasLooked mask requested a 1 m o × (a ≡ (polled a mask requested (target_of m.probe)).reads)) x z →
-    StepsTo (λ m o. CanFly m → HasDone (Polls mask requested turns) (matched_word true) m o) x z × StepsTo (λ m o. CanFly m → a ≡ (polled turns mask requested (target_of m.probe)).reads) x z
+    StepsTo (λ m o. CanFly m → HasDoneWhole (Polls mask requested turns) (matched_word true) m o) x z × StepsTo (λ m o. CanFly m → a ≡ (polled turns mask requested (target_of m.probe)).reads) x z
 turns_met x z mask requested a turns within h =
     let sum : a + (turns - a) ≡ turns = omega (arith, within) in (
       steps_map _ _ (λ m o f flies. let l = f flies in (met_there mask requested a (turns - a) turns m o sum l.0 l.1).0) x z h,
@@ -137,7 +137,7 @@ turns_met x z mask requested a turns within h =
     )
 
 pub turns_used : (x z : Option BenchState) (mask requested turns : ℕ) → StepsTo (λ m o. CanFly m → HasLooked mask requested turns 0 m o) x z →
-    StepsTo (λ m o. CanFly m → HasDone (Polls mask requested turns) (matched_word false) m o) x z × StepsTo (λ m o. CanFly m → turns ≡ (polled turns mask requested (target_of m.probe)).reads) x z
+    StepsTo (λ m o. CanFly m → HasDoneWhole (Polls mask requested turns) (matched_word false) m o) x z × StepsTo (λ m o. CanFly m → turns ≡ (polled turns mask requested (target_of m.probe)).reads) x z
 turns_used x z mask requested turns h = (
   steps_map _ _ (λ m o f flies. looked_done mask requested turns 0 m o (f flies)) x z h,
   steps_map _ _ (λ m o f flies. sym (unmet_reads turns mask requested (target_of m.probe) (unmet_of mask requested turns m o (f flies)))) x z h,
@@ -182,13 +182,13 @@ waited_there mask requested a turns m k o less h w =
       less = fewer;
       target = record { same = ap (λ (t : TargetState). record t { rdbuff = 0 }) same };
       retries = λ few. (let r = h.retries in let s = w.retries (omega (arith, r, few)) in omega (arith, r, s));
-      over = subst (λ (s : Setting). IsOver s (number_of o)) h.setting w.over;
+      over = subst (λ (s : Setting). RetryIsOver s (transfer_number_of o)) h.setting w.over;
       idle_cycles = w.unread.idle_cycles ∙ h.idle_cycles;
       number = (let n = h.number in let l = w.number in omega (arith, n, l, reads));
       pending = w.pending;
     }
 
-read_there : (mask requested a turns value : ℕ) (m k o : BenchState) (hit : Bool) → a < turns → HasLooked mask requested a 0 m k → HasRead value k o → (bit_and value mask == requested) ≡ hit → LeftOff (Polls mask requested turns) ends.BenchFault m o
+read_there : (mask requested a turns value : ℕ) (m k o : BenchState) (hit : Bool) → a < turns → HasLooked mask requested a 0 m k → HasRead value k o → (bit_and value mask == requested) ≡ hit → LeftActionOff (Polls mask requested turns) ends.BenchFault m o
 read_there mask requested a turns value m k o true less h r is =
     let n : HasLooked mask requested (a + 1) 1 m o = looked_more mask requested a 1 1 m k o h (read_looked mask requested value k o true r is) in
     let sum : (a + 1) + (turns - (a + 1)) ≡ turns = omega (arith, less) in
@@ -197,24 +197,24 @@ read_there mask requested a turns value m k o true less h r is =
 read_there mask requested a turns value m k o false less h r is =
     by_rest (looked_more mask requested a 1 0 m k o h (read_looked mask requested value k o false r is)) (turns - (a + 1)) refl
   where
-    by_rest : HasLooked mask requested (a + 1) 0 m o → (rest : ℕ) → turns - (a + 1) ≡ rest → LeftOff (Polls mask requested turns) ends.BenchFault m o
+    by_rest : HasLooked mask requested (a + 1) 0 m o → (rest : ℕ) → turns - (a + 1) ≡ rest → LeftActionOff (Polls mask requested turns) ends.BenchFault m o
     by_rest n zero same =
         let all : a + 1 ≡ turns = omega (arith, same, less) in
         let w : HasLooked mask requested turns 0 m o = subst (λ (c : ℕ). HasLooked mask requested c 0 m o) all n in
         inl (looked_done mask requested turns (given (polled turns mask requested (target_of m.probe)).outcome) m o (subst (λ (c : ℕ). HasLooked mask requested turns c m o) w.word_is w))
     by_rest n (suc rest) same = inr (unread_less mask requested (a + 1) turns m o o (omega (arith, same)) n (record { target = refl; work = omega arith; idle_cycles = refl }))
 
-turn_broke : (mask requested a turns : ℕ) (end : FlightEnd) → a < turns → (m k o : BenchState) → (CanFly m → HasLooked mask requested a 0 m k) → (CanFly k → ReadOrNot end k o) → CanFly m → LeftOff (Polls mask requested turns) end m o
+turn_broke : (mask requested a turns : ℕ) (end : FlightEnd) → a < turns → (m k o : BenchState) → (CanFly m → HasLooked mask requested a 0 m k) → (CanFly k → ReadOrNot end k o) → CanFly m → LeftActionOff (Polls mask requested turns) end m o
 turn_broke mask requested a turns (ends.Cut cut) less m k o h r flies = let l = h flies in let w = r l.flies in (w.0, waited_there mask requested a turns m k o less l w.1)
 turn_broke mask requested a turns ends.ReplyBad less m k o h r flies = let l = h flies in r l.flies
 turn_broke mask requested a turns ends.BenchFault less m k o h r flies = let l = h flies in by_what l (r l.flies)
   where
-    by_what : HasLooked mask requested a 0 m k → ((value : ℕ) × HasRead value k o) ⊎ IsUnread k o → LeftOff (Polls mask requested turns) ends.BenchFault m o
+    by_what : HasLooked mask requested a 0 m k → ((value : ℕ) × HasRead value k o) ⊎ IsUnread k o → LeftActionOff (Polls mask requested turns) ends.BenchFault m o
     by_what l (inl (value, read)) = read_there mask requested a turns value m k o (bit_and value mask == requested) less l read refl
     by_what l (inr u) = inr (unread_less mask requested a turns m k o less l u)
 
 pub turn_left : (x y z : Option BenchState) (mask requested a turns : ℕ) (end : FlightEnd) → a < turns → StepsTo (λ m o. CanFly m → HasLooked mask requested a 0 m o) x y → StepsTo (λ m o. CanFly m → ReadOrNot end m o) y z →
-    StepsTo (λ m o. CanFly m → LeftOff (Polls mask requested turns) end m o) x z
+    StepsTo (λ m o. CanFly m → LeftActionOff (Polls mask requested turns) end m o) x z
 turn_left x y z mask requested a turns end less h r = steps_join _ _ _ (turn_broke mask requested a turns end less) x y z h r
 
 -- ---- what the test of a value says

@@ -15,7 +15,7 @@ use Rattle.batch_packer.specs.Flying.{transfers_of}
 use Rattle.batch_packer.specs.declared.ends.FlightEnd.{FlightEnd}
 use Rattle.batch_packer.specs.declared.ends.FlightEnd.TheVariants as ends
 use Rattle.batch_packer.proofs.CallLemmas.{call_acts, call_gives, call_sets_nothing}
-use Rattle.bench_flights.specs.Wires.{HasMade, MadeOrNot, WasMade}
+use Rattle.bench_flights.specs.Wires.{HasMadeAction, MadeOrNot, WasMade}
 
 -- what is so of each step is so where the bench is observable
 pub steps_map : (P Q : BenchState → BenchState → Type 0) → ((m o : BenchState) → P m o → Q m o) → (x y : Option BenchState) → StepsTo P x y → StepsTo Q x y
@@ -54,7 +54,7 @@ was_made call m o one command same = record {
   idle_cycles = ap (λ (e : ExecutorState). e.idle) same ∙ call_keeps_idle m.probe.executor call;
 }
 
-made_by : (call : ProbeCall) (word : ℕ) (m o : BenchState) → is_one call ≡ true → IsCommand (command_of call) → HasDone (command_of call) word m o → HasMade (Commands call) word m o
+made_by : (call : ProbeCall) (word : ℕ) (m o : BenchState) → is_one call ≡ true → IsCommand (command_of call) → HasDone (command_of call) word m o → HasMadeAction (Commands call) word m o
 made_by call word m o one command h = (let made = was_made call m o one command h.executor in record { acts = made.acts; setting = made.setting; idle_cycles = made.idle_cycles; word_is = h.number_is ∙ call_gives m.probe.executor call })
 
 left_by : (call : ProbeCall) (end : FlightEnd) (m o : BenchState) → is_one call ≡ true → IsCommand (command_of call) → DoneBy (command_of call) (Err end) m o → MadeOrNot (Commands call) end m o
@@ -64,7 +64,7 @@ left_by call ends.ReplyBad m o one command h = absurd h
 left_by call (ends.Cut cut) m o one command h = absurd h
 
 pub single_made : (x y : Option BenchState) (call : ProbeCall) (c : CommandValue) (result : Result ℕ FlightEnd) → c ≡ command_of call → is_one call ≡ true → IsCommand (command_of call) →
-    StepsTo (λ m n. IsInRange (target_of m.probe) → DoneBy c result m n) x y → IfOk result (λ word. StepsTo (λ m o. IsInRange (target_of m.probe) → HasMade (Commands call) word m o) x y)
+    StepsTo (λ m n. IsInRange (target_of m.probe) → DoneBy c result m n) x y → IfOk result (λ word. StepsTo (λ m o. IsInRange (target_of m.probe) → HasMadeAction (Commands call) word m o) x y)
 single_made x y call c (Ok word) same one command h =
     steps_map _ _ (λ m o f in_range. made_by call word m o one command (subst (λ (k : CommandValue). DoneBy k (Ok word) m o) same (f in_range))) x y h
 single_made x y call c (Err end) same one command h = tt

@@ -9,7 +9,7 @@ use Rattle.probe_core.specs.Probe.{target_of}
 use Rattle.batch_packer.specs.Flying.{transfers_of}
 use Rattle.batch_packer.specs.declared.ends.FlightEnd.{FlightEnd}
 use Rattle.batch_packer.specs.declared.ends.FlightEnd.TheVariants as ends
-use Rattle.bench_flights.specs.Flown.{DidLess, HasDone}
+use Rattle.bench_flights.specs.Flown.{DidLess, HasDoneWhole}
 
 -- a flight ended at a transfer that was answered FAULT (04)
 abbrev pub is_fault_end : FlightEnd → Bool
@@ -33,5 +33,5 @@ pub record CanClear (m : BenchState) : Type 0 where
 -- ABORT was written whole or not at all, where the bench failed; nothing else ends it
 abbrev pub ClearedOff : FlightEnd → BenchState → BenchState → Type 0
 ClearedOff (ends.Cut cut) m o = ⊥
-ClearedOff ends.BenchFault m o = HasDone (Commands forgives) 0 m o ⊎ DidLess (Commands forgives) m o
+ClearedOff ends.BenchFault m o = HasDoneWhole (Commands forgives) 0 m o ⊎ DidLess (Commands forgives) m o
 ClearedOff ends.ReplyBad m o = ⊥

@@ -20,7 +20,7 @@ use Rattle.probe_core.specs.Runs.{KeepsRuns}
 use Rattle.probe_core.specs.declared.job.Limits.{Limits}
 use Rattle.target_calls.specs.Weights.{weight}
 use Rattle.access_calls.specs.Causes.{HasResponse, IsBadReply}
-use Rattle.access_calls.specs.Standing.{IsOver, IsPart, idle_cycles_of, number_of, pending_of, setting_of}
+use Rattle.access_calls.specs.Standing.{IsPartOfAction, RetryIsOver, idle_cycles_of, pending_of, transfer_number_of, transfer_setting_of}
 use Rattle.batch_packer.specs.Flying.{CanFly}
 use Rattle.batch_packer.specs.declared.ends.Cut.{Cut}
 use Rattle.batch_packer.specs.declared.ends.FlightEnd.{FlightEnd}
@@ -58,7 +58,7 @@ pub record WasCut (cut : Cut) (accesses : List RegAccess) (m o : BenchState) : T
   pub fault : (cut.response ≡ 0x02 → ⊥) → part.response ≡ Fault
 
 -- The bench failed: nothing was done, or a part of the accesses, and the idle cycles stay.
-pub record MayHaveFlown (accesses : List RegAccess) (m o : BenchState) : Type 0 where
+pub record MayHaveDonePart (accesses : List RegAccess) (m o : BenchState) : Type 0 where
   pub part : Part
   pub either : (transfers_of o ≡ transfers_of m) ⊎ DoesPart (transfers_of m) (transfers_of o) accesses part
   pub idle_cycles : idle_cycles_of o ≡ idle_cycles_of m
@@ -67,7 +67,7 @@ pub record MayHaveFlown (accesses : List RegAccess) (m o : BenchState) : Type 0 
 -- A flight that did not come to its end; a reply of an observable bench is never bad.
 abbrev pub BrokeOff : FlightEnd → List RegAccess → BenchState → BenchState → Type 0
 BrokeOff (ends.Cut cut) accesses m o = WasCut cut accesses m o
-BrokeOff ends.BenchFault accesses m o = MayHaveFlown accesses m o
+BrokeOff ends.BenchFault accesses m o = MayHaveDonePart accesses m o
 BrokeOff ends.ReplyBad accesses m o = ⊥
 
 -- ---- polls and commands
@@ -75,7 +75,7 @@ BrokeOff ends.ReplyBad accesses m o = ⊥
 -- the probe has these idle cycles after each transfer, and this retry number
 pub record IsSetTo (idle retry : ℕ) (m : BenchState) : Type 0 where
   pub idle_is : idle_cycles_of m ≡ idle
-  pub retry_is : (setting_of m).retry ≡ retry
+  pub retry_is : (transfer_setting_of m).retry ≡ retry
 
 -- A bench over which a poll by value matches does what is said of it. SELECT has DPBANKSEL 0, and the probe has the idle cycles and the retry
 -- number that the poll sets again.
@@ -109,7 +109,7 @@ abbrev pub CanCount : Action → BenchState → Type 0
 CanCount x m = work_of m.probe + weight (target_of m.probe) x < 2 ^ 64
 
 -- The poll or the command was made whole, and gave this.
-pub record HasDone (x : Action) (word : ℕ) (m o : BenchState) : Type 0 where
+pub record HasDoneWhole (x : Action) (word : ℕ) (m o : BenchState) : Type 0 where
   pub does : CanCount x m → DoesAction x m o
   pub good : is_fault (acted (target_of m.probe) x).outcome ≡ false
   pub word_is : word ≡ given (acted (target_of m.probe) x).outcome
@@ -121,7 +121,7 @@ pub record DidLess (x : Action) (m o : BenchState) : Type 0 where
   pub work_is : CanCount x m → work_of o.probe ≡ work_of m.probe + work
   pub less : work < weight (target_of m.probe) x
   pub idle_cycles : idle_cycles_of o ≡ idle_cycles_of m
-  pub target : ((work ≡ 0) × Agree (target_of o.probe) (target_of m.probe)) ⊎ IsPart x (target_of m.probe) (target_of o.probe)
+  pub target : ((work ≡ 0) × Agree (target_of o.probe) (target_of m.probe)) ⊎ IsPartOfAction x (target_of m.probe) (target_of o.probe)
 
 -- A retry ended in a poll that is made read by read, whose reads changed nothing. It ended at a transfer that met more WAITs than the retry
 -- number allows. The idle cycles stay.
@@ -131,22 +131,22 @@ pub record WasUnanswered (x : Action) (m o : BenchState) : Type 0 where
   pub less : work < weight (target_of m.probe) x
   pub target : Agree (target_of o.probe) (target_of m.probe)
   pub retries : ended_retries_of m.probe + 1 < 2 ^ 32 → ended_retries_of o.probe ≡ ended_retries_of m.probe + 1
-  pub over : IsOver (setting_of m) (number_of o)
+  pub over : RetryIsOver (transfer_setting_of m) (transfer_number_of o)
   pub idle_cycles : idle_cycles_of o ≡ idle_cycles_of m
-  pub number : number_of o ≤ number_of m + 2 * work + 1
+  pub number : transfer_number_of o ≤ transfer_number_of m + 2 * work + 1
   pub pending : pending_of o ≡ false
 
 -- A poll or a command that did not come to its end: where the bench failed it was done whole or in part, or not at all.
-abbrev pub LeftOff : Action → FlightEnd → BenchState → BenchState → Type 0
-LeftOff x (ends.Cut cut) m o = (cut.response ≡ 0x02) × WasUnanswered x m o
-LeftOff x ends.BenchFault m o = HasDone x (given (acted (target_of m.probe) x).outcome) m o ⊎ DidLess x m o
-LeftOff x ends.ReplyBad m o = ⊥
+abbrev pub LeftActionOff : Action → FlightEnd → BenchState → BenchState → Type 0
+LeftActionOff x (ends.Cut cut) m o = (cut.response ≡ 0x02) × WasUnanswered x m o
+LeftActionOff x ends.BenchFault m o = HasDoneWhole x (given (acted (target_of m.probe) x).outcome) m o ⊎ DidLess x m o
+LeftActionOff x ends.ReplyBad m o = ⊥
 
 -- it names no access as performed or confirmed
-abbrev pub NamesNone : FlightEnd → Type 0
-NamesNone (ends.Cut cut) = (cut.performed ≡ 0) × (cut.confirmed ≡ 0)
-NamesNone ends.BenchFault = ⊤
-NamesNone ends.ReplyBad = ⊤
+abbrev pub NamesNoAccess : FlightEnd → Type 0
+NamesNoAccess (ends.Cut cut) = (cut.performed ≡ 0) × (cut.confirmed ≡ 0)
+NamesNoAccess ends.BenchFault = ⊤
+NamesNoAccess ends.ReplyBad = ⊤
 
 -- a poll answers whether the register matched
 abbrev pub matched_word : Bool → ℕ
@@ -162,7 +162,7 @@ pub record BenchGoesOn (old new : BenchReported) (before after : Option BenchSta
   pub runs : KeepsRuns before after
 
 -- The last exchange began since, and at one of its places stand this packet and this reply, of which this is so.
-pub record WasReplied (P : Exchange → ℕ → Type 0) (old new : BenchReported) (packet reply : List ℕ) : Type 0 where
+pub record WasRepliedSince (P : Exchange → ℕ → Type 0) (old new : BenchReported) (packet reply : List ℕ) : Type 0 where
   pub begun : Rose old.exchanges new.exchanges
   pub place : ℕ
   pub sent : slice_get new.last.packets place ≡ Some packet
@@ -170,10 +170,10 @@ pub record WasReplied (P : Exchange → ℕ → Type 0) (old new : BenchReported
   pub so : P new.last place
 
 -- the cause of an end
-abbrev pub HasEndCause : FlightEnd → BenchReported → BenchReported → List ℕ → List ℕ → Type 0
-HasEndCause (ends.Cut cut) old new packet reply = (new.faults ≡ old.faults) × WasReplied (HasResponse cut.response) old new packet reply
-HasEndCause ends.BenchFault old new packet reply = Rose old.faults new.faults
-HasEndCause ends.ReplyBad old new packet reply = (new.faults ≡ old.faults) × WasReplied IsBadReply old new packet reply
+abbrev pub FlightHasCause : FlightEnd → BenchReported → BenchReported → List ℕ → List ℕ → Type 0
+FlightHasCause (ends.Cut cut) old new packet reply = (new.faults ≡ old.faults) × WasRepliedSince (HasResponse cut.response) old new packet reply
+FlightHasCause ends.BenchFault old new packet reply = Rose old.faults new.faults
+FlightHasCause ends.ReplyBad old new packet reply = (new.faults ≡ old.faults) × WasRepliedSince IsBadReply old new packet reply
 
 -- A cut has the response 02 or 04.
 abbrev pub IsCutResponse : FlightEnd → Type 0
@@ -183,7 +183,7 @@ IsCutResponse ends.ReplyBad = ⊤
 
 -- it names no access, and a cut has the response 02 or 04
 pub record IsUnnamed (end : FlightEnd) : Type 0 where
-  pub none : NamesNone end
+  pub none : NamesNoAccess end
   pub response : IsCutResponse end
 
 -- What each call keeps that sends flights, polls or commands. Nothing is left that was pushed, the limits stay, the bench goes on as each of
@@ -196,7 +196,7 @@ pub record KeepsFlights {F T : Type 0} (reported : F → BenchReported) (state :
   pub usable : OnOk result (ended new ≡ None)
   pub faults : OnOk result ((reported new).faults ≡ (reported old).faults)
   pub response : IfErr result IsCutResponse
-  pub cause : IfErr result (λ end. HasEndCause end (reported old) (reported new) (packet new) (reply new))
+  pub cause : IfErr result (λ end. FlightHasCause end (reported old) (reported new) (packet new) (reply new))
   pub goes : BenchGoesOn (reported old) (reported new) (state old) (state new)
   pub same_limits : limits new ≡ limits old
   pub same_bench : identity new ≡ identity old

@@ -14,7 +14,7 @@ use Rattle.access_calls.specs.Causes.{IsBadReply}
 use Rattle.access_calls.specs.Opening.{HasTried}
 use Rattle.access_calls.specs.declared.stop.Stop.{Stop}
 use Rattle.access_calls.specs.declared.stop.Stop.TheVariants as stop
-use Rattle.bench_flights.specs.Flown.{WasReplied}
+use Rattle.bench_flights.specs.Flown.{WasRepliedSince}
 
 -- the least number that the reply to a command gives: a packet size from 64, a packet count from 1
 abbrev pub least_of : CommandValue → ℕ
@@ -37,11 +37,11 @@ pub record ShowsNone (sent got : List ℕ) : Type 0 where
 -- Why an access did not begin, by what its bench reports before and afterwards, and by the packet and the reply that are handed back. Memory was
 -- refused before anything was sent. Or a call of the bench failed, and its count of faults rose. Or a reply of these exchanges is none that its
 -- packet may get.
-abbrev pub IsRefusal : Stop → BenchReported → BenchReported → List ℕ → List ℕ → Type 0
-IsRefusal stop.OutOfMemory old new sent got = (new ≡ old) × ShowsNone sent got
-IsRefusal (stop.BenchFault issued confirmed) old new sent got = (issued ≡ 0) × (confirmed ≡ 0) × Rose old.faults new.faults × ShowsNone sent got
-IsRefusal stop.ReplyBad old new sent got = (new.faults ≡ old.faults) × WasReplied IsBadReply old new sent got
-IsRefusal (stop.Cut report) old new sent got = ⊥
+abbrev pub IsOpeningRefusal : Stop → BenchReported → BenchReported → List ℕ → List ℕ → Type 0
+IsOpeningRefusal stop.OutOfMemory old new sent got = (new ≡ old) × ShowsNone sent got
+IsOpeningRefusal (stop.BenchFault issued confirmed) old new sent got = (issued ≡ 0) × (confirmed ≡ 0) × Rose old.faults new.faults × ShowsNone sent got
+IsOpeningRefusal stop.ReplyBad old new sent got = (new.faults ≡ old.faults) × WasRepliedSince IsBadReply old new sent got
+IsOpeningRefusal (stop.Cut report) old new sent got = ⊥
 
 -- The stop that is said of such an end, and what is handed back of its packet and reply.
 abbrev pub IsStopFor : FlightEnd → Stop → List ℕ → List ℕ → List ℕ → List ℕ → Type 0

@@ -12,7 +12,7 @@ use Rattle.dap_transfer.specs.State.{grown}
 use Rattle.probe_core.specs.Bench.{BenchState, Reported}
 use Rattle.probe_core.specs.Probe.{ended_retries_of, target_of, work_of}
 use Rattle.probe_core.specs.declared.job.Limits.{Limits}
-use Rattle.access_calls.specs.Standing.{IsOver, idle_cycles_of, number_of, pending_of, setting_of}
+use Rattle.access_calls.specs.Standing.{RetryIsOver, idle_cycles_of, pending_of, transfer_number_of, transfer_setting_of}
 use Rattle.flight_forms.specs.Forms.{form_of}
 use Rattle.batch_packer.specs.Actions.{Acts, is_one}
 use Rattle.batch_packer.specs.FlightStates.{FlightState, item_at}
@@ -20,7 +20,7 @@ use Rattle.batch_packer.specs.Flying.{CanFly, transfers_of}
 use Rattle.batch_packer.specs.Polling.{AreTurns}
 use Rattle.batch_packer.specs.declared.ends.FlightEnd.{FlightEnd}
 use Rattle.batch_packer.specs.declared.ends.FlightEnd.TheVariants as ends
-use Rattle.bench_flights.specs.Flown.{BenchGoesOn, HasEndCause}
+use Rattle.bench_flights.specs.Flown.{BenchGoesOn, FlightHasCause}
 
 -- A flight that can be used, and of which nothing was pushed.
 pub record IsFree (flight : FlightState) : Type 0 where
@@ -49,7 +49,7 @@ pub record KeepsWire {B T : Type 0} (reported : B → Reported) (state : B → O
   pub empty : flight.accesses ≡ []
   pub ended : OnOk result (flight.end ≡ None)
   pub faults : OnOk result ((reported new).faults ≡ (reported old).faults)
-  pub cause : IfErr result (λ end. HasEndCause end (reported old) (reported new) (item_at flight.packets flight.at)
+  pub cause : IfErr result (λ end. FlightHasCause end (reported old) (reported new) (item_at flight.packets flight.at)
       (item_at flight.replies flight.at))
   pub goes : BenchGoesOn (reported old) (reported new) (state old) (state new)
   pub same_bench : identity new ≡ identity old
@@ -65,19 +65,19 @@ abbrev pub AreHeld : Limits → List RegAccess → Type 0
 AreHeld limits accesses = 0 < length accesses → is_some (form_of limits.packet_size limits.packet_count accesses) ≡ true
 
 -- what each of them writes is of 32 bits
-abbrev pub AreSmall : List RegAccess → Type 0
-AreSmall accesses = (k : ℕ) (a : RegAccess) → slice_get accesses k ≡ Some a → a.value < 2 ^ 32
+abbrev pub HaveWordValues : List RegAccess → Type 0
+HaveWordValues accesses = (k : ℕ) (a : RegAccess) → slice_get accesses k ≡ Some a → a.value < 2 ^ 32
 
 -- The action was made whole, and left the settings and the idle cycles.
 pub record WasMade (x : Action) (m o : BenchState) : Type 0 where
   pub acts : Acts x (transfers_of m) (transfers_of o)
-  pub setting : setting_of o ≡ setting_of m
+  pub setting : transfer_setting_of o ≡ transfer_setting_of m
   pub idle_cycles : idle_cycles_of o ≡ idle_cycles_of m
 
 -- The action was made whole, and gave this.
-pub record HasMade (x : Action) (word : ℕ) (m o : BenchState) : Type 0 where
+pub record HasMadeAction (x : Action) (word : ℕ) (m o : BenchState) : Type 0 where
   pub acts : Acts x (transfers_of m) (transfers_of o)
-  pub setting : setting_of o ≡ setting_of m
+  pub setting : transfer_setting_of o ≡ transfer_setting_of m
   pub idle_cycles : idle_cycles_of o ≡ idle_cycles_of m
   pub word_is : word ≡ given (acted (target_of m.probe) x).outcome
 
@@ -105,11 +105,11 @@ pub record KeepsUncut {B T : Type 0} (reported : B → Reported) (state : B → 
 pub record HasDelayed (count : ℕ) (m o : BenchState) : Type 0 where
   pub target : target_of o.probe ≡ delayed (target_of m.probe) (65535 * count)
   pub work : work_of o.probe ≡ grown (work_of m.probe) count
-  pub number : number_of o ≡ number_of m
+  pub number : transfer_number_of o ≡ transfer_number_of m
   pub retries : ended_retries_of o.probe ≡ ended_retries_of m.probe
   pub pending : pending_of o ≡ pending_of m
   pub mask : (transfers_of o).mask ≡ (transfers_of m).mask
-  pub setting : setting_of o ≡ setting_of m
+  pub setting : transfer_setting_of o ≡ transfer_setting_of m
   pub idle_cycles : idle_cycles_of o ≡ idle_cycles_of m
   pub in_range : IsInRange (target_of o.probe)
 
@@ -120,8 +120,8 @@ pub record HasLooked (mask requested turns word : ℕ) (m o : BenchState) : Type
   pub target : target_of o.probe ≡ (polled turns mask requested (target_of m.probe)).next
   pub work : work_of o.probe ≡ grown (work_of m.probe) (polled turns mask requested (target_of m.probe)).reads
   pub retries : ended_retries_of o.probe ≡ ended_retries_of m.probe
-  pub number : number_of o ≤ number_of m + 2 * (polled turns mask requested (target_of m.probe)).reads
-  pub setting : setting_of o ≡ setting_of m
+  pub number : transfer_number_of o ≤ transfer_number_of m + 2 * (polled turns mask requested (target_of m.probe)).reads
+  pub setting : transfer_setting_of o ≡ transfer_setting_of m
   pub idle_cycles : idle_cycles_of o ≡ idle_cycles_of m
   pub flies : CanFly o
 
@@ -131,8 +131,8 @@ pub record HasRead (value : ℕ) (m o : BenchState) : Type 0 where
   pub target : target_of o.probe ≡ (attempt (target_of m.probe) (dp_read_of 0x4)).next
   pub work : work_of o.probe ≡ grown (work_of m.probe) 1
   pub retries : ended_retries_of o.probe ≡ ended_retries_of m.probe
-  pub number : number_of o ≤ number_of m + 2
-  pub setting : setting_of o ≡ setting_of m
+  pub number : transfer_number_of o ≤ transfer_number_of m + 2
+  pub setting : transfer_setting_of o ≡ transfer_setting_of m
   pub idle_cycles : idle_cycles_of o ≡ idle_cycles_of m
   pub flies : CanFly o
 
@@ -147,8 +147,8 @@ pub record HasWaited (m o : BenchState) : Type 0 where
   pub unread : IsUnread m o
   pub other : bank (target_of m.probe) ≡ 0 → ⊥
   pub retries : ended_retries_of m.probe + 1 < 2 ^ 32 → ended_retries_of o.probe ≡ ended_retries_of m.probe + 1
-  pub over : IsOver (setting_of m) (number_of o)
-  pub number : number_of o ≤ number_of m + 1
+  pub over : RetryIsOver (transfer_setting_of m) (transfer_number_of o)
+  pub number : transfer_number_of o ≤ transfer_number_of m + 1
   pub pending : pending_of o ≡ false
 
 -- Of one read that ended so.

@@ -20,8 +20,8 @@ ghost use Rattle.batch_packer.specs.SlotList.{slot_at};
 ghost use Rattle.batch_packer.specs.declared.ends.FlightEnd.{FlightEnd};
 ghost use Rattle.bench_flights.specs.Full.{IsFull};
 ghost use Rattle.bench_flights.specs.Clearing.{CanClear, ClearedOff, IsOneTransfer, is_fault_end};
-ghost use Rattle.bench_flights.specs.Flown.{BrokeOff, CanCommand, HasCome, HasDone, IsTargetInRange, KeepsFlights};
-ghost use Rattle.bench_flights.specs.Flown.{LeavesBench, LeftOff, NamesNone, SendsFew, StepsMatching, matched_word};
+ghost use Rattle.bench_flights.specs.Flown.{BrokeOff, CanCommand, HasCome, HasDoneWhole, IsTargetInRange, KeepsFlights};
+ghost use Rattle.bench_flights.specs.Flown.{LeavesBench, LeftActionOff, NamesNoAccess, SendsFew, StepsMatching, matched_word};
 
 use batch_packer::FlightEnd;
 use probe_core::Config;
@@ -144,12 +144,12 @@ pub trait Flights {
         requires empty { accesses self.old ≡ [] }
         requires turns { 1 ≤ turns }
         ensures done { IfOk result (λ matched. StepsMatching config.idle config.retry
-            (HasDone (Polls mask requested turns) (matched_word matched)) (state self.old) (state self.new)) }
+            (HasDoneWhole (Polls mask requested turns) (matched_word matched)) (state self.old) (state self.new)) }
         ensures packets { OnOk result (StepsMatching config.idle config.retry (SendsFew (portions turns))
             (state self.old) (state self.new)) }
-        ensures left { IfErr result (λ end. StepsMatching config.idle config.retry (LeftOff (Polls mask requested turns) end)
+        ensures left { IfErr result (λ end. StepsMatching config.idle config.retry (LeftActionOff (Polls mask requested turns) end)
             (state self.old) (state self.new)) }
-        ensures none { IfErr result NamesNone }
+        ensures none { IfErr result NamesNoAccess }
         ensures keeps { KeepsFlights reported state identity accesses ended limits packet reply result self.old self.new };
 
     /// The same, each read a flight of its own, whatever DPBANKSEL is.
@@ -157,14 +157,14 @@ pub trait Flights {
         requires usable { ended self.old ≡ None }
         requires empty { accesses self.old ≡ [] }
         requires turns { 1 ≤ turns }
-        ensures done { IfOk result (λ found. StepsWhere CanFly (HasDone (Polls mask requested turns) (matched_word found.matched))
+        ensures done { IfOk result (λ found. StepsWhere CanFly (HasDoneWhole (Polls mask requested turns) (matched_word found.matched))
             (state self.old) (state self.new)) }
         ensures reads { IfOk result (λ found. StepsWhere CanFly
             (λ m _. found.reads ≡ (polled turns mask requested (target_of m.probe)).reads) (state self.old) (state self.new)) }
         ensures packets { IfOk result (λ found. StepsWhere CanFly (SendsFew found.reads) (state self.old) (state self.new)) }
-        ensures left { IfErr result (λ end. StepsWhere CanFly (LeftOff (Polls mask requested turns) end)
+        ensures left { IfErr result (λ end. StepsWhere CanFly (LeftActionOff (Polls mask requested turns) end)
             (state self.old) (state self.new)) }
-        ensures none { IfErr result NamesNone }
+        ensures none { IfErr result NamesNoAccess }
         ensures keeps { KeepsFlights reported state identity accesses ended limits packet reply result self.old self.new };
 
     /// Makes a command of the probe. Answers the levels of the pins, and 0 for other commands. A write of ABORT that
@@ -173,14 +173,14 @@ pub trait Flights {
         requires usable { ended self.old ≡ None }
         requires empty { accesses self.old ≡ [] }
         requires sound { IsSoundProbe call }
-        ensures done { IfOk result (λ word. StepsWhere (CanCommand call) (HasDone (Commands call) word) (state self.old) (state self.new)) }
+        ensures done { IfOk result (λ word. StepsWhere (CanCommand call) (HasDoneWhole (Commands call) word) (state self.old) (state self.new)) }
         ensures packets { OnOk result (StepsWhere IsTargetInRange (SendsFew (command_cost call - 1)) (state self.old) (state self.new)) }
-        ensures left { IfErr result (λ end. StepsWhere (CanCommand call) (LeftOff (Commands call) end) (state self.old) (state self.new)) }
+        ensures left { IfErr result (λ end. StepsWhere (CanCommand call) (LeftActionOff (Commands call) end) (state self.old) (state self.new)) }
         ensures cleared { call ≡ forgives → IfOk result (λ word. StepsWhere CanClear (λ m o. work_of m.probe + 1 < 2 ^ 64
-            → HasDone (Commands call) word m o) (state self.old) (state self.new)) }
+            → HasDoneWhole (Commands call) word m o) (state self.old) (state self.new)) }
         ensures uncleared { call ≡ forgives → IfErr result (λ end. StepsWhere CanClear (λ m o. work_of m.probe + 1 < 2 ^ 64
             → ClearedOff end m o) (state self.old) (state self.new)) }
-        ensures none { IfErr result NamesNone }
+        ensures none { IfErr result NamesNoAccess }
         ensures keeps { KeepsFlights reported state identity accesses ended limits packet reply result self.old self.new };
 
     /// The packet of the exchange that ended it by a cut or a bad reply.

@@ -7,7 +7,7 @@ ghost use Rattle.batch_packer.specs.FlightStates.{item_at};
 ghost use Rattle.batch_packer.specs.Flying.{IsWithin};
 ghost use Rattle.bench_flights.specs.Flown.{BenchGoesOn, IsTargetInRange};
 ghost use Rattle.access_calls.specs.Opening.{HasOpened, HasTried, MayBegin};
-ghost use Rattle.bench_flights.specs.Opening.{GivesLimits, IsRefusal, IsStopFor, LeftOpen};
+ghost use Rattle.bench_flights.specs.Opening.{GivesLimits, IsOpeningRefusal, IsStopFor, LeftOpen};
 ghost use Rattle.bench_flights.specs.Wires.{IsFree, IsNoCut, KeepsWire};
 
 use crate::flights::Flights;
@@ -46,7 +46,7 @@ pub trait FlightsOver<B: Bench>: Flights {
         ensures goes { IfOk result (λ f. BenchGoesOn (B.reported bench) (Self.Flights.reported f) (B.state bench) (Self.Flights.state f)) }
         ensures identity { IfOk result (λ f. Self.Flights.identity f ≡ B.identity bench) }
         // Why they did not begin.
-        ensures refused { IfErr result (λ n. IsRefusal n.stop (B.reported bench) (B.reported n.bench)
+        ensures refused { IfErr result (λ n. IsOpeningRefusal n.stop (B.reported bench) (B.reported n.bench)
             (take n.sent_length n.sent) (take n.got_length n.got)) }
         ensures lengths { IfErr result (λ n. (n.sent_length ≤ 1024) × (n.got_length ≤ 1024)) }
         // Where the bench is observable no reply is bad, and the settings were made or not.

@@ -11,10 +11,10 @@ ghost use Rattle.batch_packer.specs.Exchanges.{IsOpen, StepsWhere};
 ghost use Rattle.batch_packer.specs.FlightStates.{item_at, new_flight};
 ghost use Rattle.batch_packer.specs.Flying.{CanFly, IsWithin, TakesFlights};
 ghost use Rattle.batch_packer.specs.SlotList.{slot_room};
-ghost use Rattle.bench_flights.specs.Flown.{IsTargetInRange, IsUnnamed, LeftOff, StepsMatching, matched_word};
+ghost use Rattle.bench_flights.specs.Flown.{IsTargetInRange, IsUnnamed, LeftActionOff, StepsMatching, matched_word};
 ghost use Rattle.bench_flights.specs.Opening.{least_of};
 ghost use Rattle.bench_flights.specs.Flown.{SendsFew};
-ghost use Rattle.bench_flights.specs.Wires.{AreHeld, AreSmall, HasMade, HasRead, IsFree, IsOneCommand, KeepsUncut, KeepsWireWhole};
+ghost use Rattle.bench_flights.specs.Wires.{AreHeld, HasMadeAction, HasRead, HaveWordValues, IsFree, IsOneCommand, KeepsUncut, KeepsWireWhole};
 ghost use Rattle.bench_flights.specs.Wires.{MadeOrNot, MaySendCommand, MaySendPoll, ReadOrNot, unnamed};
 
 use crate::flights::{Flights, Polled};
@@ -37,7 +37,7 @@ pub struct Wire<B: Bench> {
     ghost within: { IsWithin flight.limits (B.reported bench).limits },
     ghost room: { slot_room flight.limits ≤ slots.room },
     ghost held: { AreHeld flight.limits flight.accesses },
-    ghost small: { AreSmall flight.accesses },
+    ghost small: { HaveWordValues flight.accesses },
     ghost open: { flight.end ≡ None → IsOpen (B.reported bench) },
     ghost resumable: { flight.resumable ≡ true → IsOpen (B.reported bench) },
 }
@@ -125,7 +125,7 @@ impl<B: Bench> Wire<B> {
     // Makes a command that needs only one packet.
     fn command_once(&mut self, call: ProbeCall) -> Result<u32, FlightEnd>
         requires may { MaySendCommand self.old.flight call }
-        ensures done { IfOk result (λ word. StepsWhere IsTargetInRange (HasMade (Commands call) word)
+        ensures done { IfOk result (λ word. StepsWhere IsTargetInRange (HasMadeAction (Commands call) word)
             (B.state self.old.bench) (B.state self.new.bench)) }
         ensures packets { OnOk result (StepsWhere IsTargetInRange (SendsFew 1) (B.state self.old.bench) (B.state self.new.bench)) }
         ensures left { IfErr result (λ end. StepsWhere IsTargetInRange (MadeOrNot (Commands call) end)
@@ -139,11 +139,11 @@ impl<B: Bench> Wire<B> {
     fn delay(&mut self, micros: u32) -> Result<u32, FlightEnd>
         requires free { IsFree self.old.flight }
         requires sound { IsSoundProbe (probe.Delay micros) }
-        ensures done { IfOk result (λ word. StepsWhere IsTargetInRange (HasMade (Commands (probe.Delay micros)) word)
+        ensures done { IfOk result (λ word. StepsWhere IsTargetInRange (HasMadeAction (Commands (probe.Delay micros)) word)
             (B.state self.old.bench) (B.state self.new.bench)) }
         ensures packets { OnOk result (StepsWhere IsTargetInRange (SendsFew (1 + micros / 65535))
             (B.state self.old.bench) (B.state self.new.bench)) }
-        ensures left { IfErr result (λ end. StepsWhere CanFly (LeftOff (Commands (probe.Delay micros)) end)
+        ensures left { IfErr result (λ end. StepsWhere CanFly (LeftActionOff (Commands (probe.Delay micros)) end)
             (B.state self.old.bench) (B.state self.new.bench)) }
         ensures keeps { KeepsUncut B.reported B.state B.identity result self.old.bench self.new.bench self.old.flight self.new.flight }
     {
@@ -162,7 +162,7 @@ impl<B: Bench> Wire<B> {
     fn poll_portion(&mut self, config: PollConfig, ask: PollAsk) -> Result<bool, FlightEnd>
         requires may { MaySendPoll self.old.flight ask.turns }
         ensures done { IfOk result (λ matched. StepsMatching config.idle config.retry
-            (HasMade (Polls ask.mask ask.value ask.turns) (matched_word matched)) (B.state self.old.bench) (B.state self.new.bench)) }
+            (HasMadeAction (Polls ask.mask ask.value ask.turns) (matched_word matched)) (B.state self.old.bench) (B.state self.new.bench)) }
         ensures packets { OnOk result (StepsMatching config.idle config.retry (SendsFew 1)
             (B.state self.old.bench) (B.state self.new.bench)) }
         ensures left { IfErr result (λ end. StepsMatching config.idle config.retry (MadeOrNot (Polls ask.mask ask.value ask.turns) end)

@@ -11,9 +11,9 @@ use Rattle.command_words.specs.declared.answer.Command.TheVariants.{Check, Run, 
 use Rattle.command_words.specs.declared.mode.Mode.{Mode}
 use Rattle.command_words.specs.declared.mode.Mode.TheVariants as mode
 use Rattle.command_words.specs.declared.options.Options.{Options}
-use Rattle.word_options.specs.Line.{IsTaken, given}
+use Rattle.word_options.specs.Line.{WordsAreTaken, given_value}
 use Rattle.command_words.specs.Line.{command_line}
-use Rattle.command_words.specs.Table.{IsCommand, IsForPort, IsPort, IsRow, IsShortNumber, for_device, for_number, mode_text, no_options, options_by}
+use Rattle.command_words.specs.Table.{IsForPort, IsPort, IsRow, IsShortNumber, WordsAreCommand, for_device, for_number, mode_text, no_options, options_by}
 use Rattle.command_words.proofs.TableLemmas.{mode_of_row, no_audit, no_check, no_gen, no_load, no_run, no_scan, no_trace}
 
 -- it is so, or it is not so
@@ -198,25 +198,25 @@ row m o =
 
 module _ (words : List (List ℕ)) where
   abbrev pub CommandOrNone : Type 0
-  CommandOrNone = ((c : Command) × IsCommand words c) ⊎ ((c : Command) → IsCommand words c → ⊥)
+  CommandOrNone = ((c : Command) × WordsAreCommand words c) ⊎ ((c : Command) → WordsAreCommand words c → ⊥)
 
-  taken_by : (faults : Kinds) → fault_of command_line words ≡ faults → Decided (IsTaken command_line words)
-  unfolding IsTaken
+  taken_by : (faults : Kinds) → fault_of command_line words ≡ faults → Decided (WordsAreTaken command_line words)
+  unfolding WordsAreTaken
   taken_by [] none = inl none
   taken_by (fault ∷ more) some = inr (λ taken. (let e : [] ≡ fault ∷ more = sym taken ∙ some in absurd cc))
 
-  same_mode : (m : List ℕ) → given command_line words (codes "mode") ≡ Some m → (is : List ℕ) → given command_line words (codes "mode") ≡ Some is → is ≡ m
+  same_mode : (m : List ℕ) → given_value command_line words (codes "mode") ≡ Some m → (is : List ℕ) → given_value command_line words (codes "mode") ≡ Some is → is ≡ m
   same_mode m e is f = same_value is m (sym f ∙ e)
 
-  found_by : IsTaken command_line words → (o : Option (List ℕ)) → given command_line words (codes "mode") ≡ o → CommandOrNone
+  found_by : WordsAreTaken command_line words → (o : Option (List ℕ)) → given_value command_line words (codes "mode") ≡ o → CommandOrNone
   found_by taken None none = inr (λ c is. no_value is.found.mode (sym none ∙ is.found.found))
-  found_by taken (Some m) found = elim (row m (options_by (given command_line words))) [
+  found_by taken (Some m) found = elim (row m (options_by (given_value command_line words))) [
     | inl r ↦ inl (r.0, record { taken = taken; found = record { mode = m; found = found; row = r.1 } })
-    | inr none ↦ inr (λ c is. none c (subst (λ (t : List ℕ). IsRow t (options_by (given command_line words)) c) (same_mode m found is.found.mode is.found.found) is.found.row))
+    | inr none ↦ inr (λ c is. none c (subst (λ (t : List ℕ). IsRow t (options_by (given_value command_line words)) c) (same_mode m found is.found.mode is.found.found) is.found.row))
   ]
 
   pub command_or_none : CommandOrNone
   command_or_none = elim (taken_by (fault_of command_line words) refl) [
-    | inl taken ↦ found_by taken (given command_line words (codes "mode")) refl
+    | inl taken ↦ found_by taken (given_value command_line words (codes "mode")) refl
     | inr refused ↦ inr (λ c is. refused is.taken)
   ]

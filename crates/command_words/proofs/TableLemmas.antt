@@ -8,9 +8,9 @@ use Rattle.sequence_resolve.specs.declared.selection.Selection.{Selection}
 use Rattle.command_words.specs.declared.mode.Mode.{Mode}
 use Rattle.command_words.specs.declared.mode.Mode.TheVariants as mode
 use Rattle.command_words.specs.declared.options.Options.{Options}
-use Rattle.word_options.specs.Line.{given}
+use Rattle.word_options.specs.Line.{given_value}
 use Rattle.command_words.specs.Line.{command_line}
-use Rattle.command_words.specs.Table.{IsCommand, IsCommandBy, IsForPort, IsPort, IsRow, IsShortNumber, for_device, for_number, mode_text, no_options, options_by}
+use Rattle.command_words.specs.Table.{IsCommandBy, IsForPort, IsPort, IsRow, IsShortNumber, WordsAreCommand, for_device, for_number, mode_text, no_options, options_by}
 
 -- two names of modes differ at their first bytes
 differ : (a b : List ℕ) → nat_eq (slice_index a 0) (slice_index b 0) ≡ false → a ≡ b → ⊥
@@ -127,12 +127,12 @@ of_row m o (Scan s name ap') row = ap₂ command_from row.0 row.1.1 ∙ ap (λ (
 of_row m o (Gen n) row = ap₂ command_from row.0 row.3 ∙ ap Gen row.2.value
 of_row m o Audit row = ap₂ command_from row.0 row.1
 
-of_words : (words : List (List ℕ)) (c : Command) → IsCommand words c → command_from (unwrap_or (given command_line words (codes "mode")) []) (options_by (given command_line words)) ≡ c
+of_words : (words : List (List ℕ)) (c : Command) → WordsAreCommand words c → command_from (unwrap_or (given_value command_line words (codes "mode")) []) (options_by (given_value command_line words)) ≡ c
 of_words words c is =
-    let value = given command_line words in
+    let value = given_value command_line words in
     ap (λ (v : Option (List ℕ)). command_from (unwrap_or v []) (options_by value)) is.found.found ∙ of_row is.found.mode (options_by value) c is.found.row
 
-pub one_command : (words : List (List ℕ)) (a b : Command) → IsCommand words a → IsCommand words b → a ≡ b
+pub one_command : (words : List (List ℕ)) (a b : Command) → WordsAreCommand words a → WordsAreCommand words b → a ≡ b
 one_command words a b is_a is_b = sym (of_words words a is_a) ∙ of_words words b is_b
 
 -- ---- the command of the values that were found

@@ -7,7 +7,7 @@ use Rattle.sequence_resolve.specs.declared.selection.Selection.{Selection}
 use Rattle.command_words.specs.declared.mode.Mode.{Mode}
 use Rattle.command_words.specs.declared.mode.Mode.TheVariants as mode
 use Rattle.command_words.specs.declared.options.Options.{Options}
-use Rattle.word_options.specs.Line.{AsksFor}
+use Rattle.word_options.specs.Line.{WordsAskFor}
 use Rattle.command_words.specs.Line.{command_line}
 
 -- one to five decimal digits, which write n, of at most 65,535
@@ -79,5 +79,5 @@ pub record IsCommandBy (value : List ℕ → Option (List ℕ)) (c : Command) : 
   pub row : IsRow mode (options_by value) c
 
 -- clap takes the words, and the mode and the options that it finds are a row of the table
-abbrev pub IsCommand : List (List ℕ) → Command → Type 0
-IsCommand = AsksFor command_line IsCommandBy
+abbrev pub WordsAreCommand : List (List ℕ) → Command → Type 0
+WordsAreCommand = WordsAskFor command_line IsCommandBy

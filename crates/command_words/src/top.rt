@@ -1,7 +1,7 @@
 //! From the words to a command.
 ghost use Rattle.std.specs.Prelude.{◌≡◌, ◌≢◌, IfOk, IfErr, MatchOption, MatchResult, Some, codes};
 ghost use Rattle.clap.specs.Words.{first_value, found_of};
-ghost use Rattle.command_words.specs.Table.{IsCommand, IsCommandBy, mode_text, options_by};
+ghost use Rattle.command_words.specs.Table.{IsCommandBy, WordsAreCommand, mode_text, options_by};
 ghost use Rattle.word_options.specs.declared.answer.WordsError.TheVariants as errors;
 
 use crate::answer::Command;
@@ -63,9 +63,9 @@ fn command_by(alloc: Global, matches: &ArgMatches<'_>) -> Result<Command, WordsE
 /// `Usage` exactly where `clap` refuses the words for another cause than memory, or where the mode or the options are none of these. The
 /// answers of `clap` to `--help` and `-h` are such refusals. `OutOfMemory` where memory is refused.
 pub fn command_of(alloc: Global, words: &Words) -> Result<Command, WordsError>
-    ensures answer { IfOk result (IsCommand words.now) }
-    ensures only { (c : _) → IsCommand words.now c → MatchResult result (λ r. r ≡ c) (λ e. e ≡ errors.OutOfMemory) }
-    ensures usage { IfErr result (λ e. e ≡ errors.Usage → (c : _) → IsCommand words.now c → ⊥) }
+    ensures answer { IfOk result (WordsAreCommand words.now) }
+    ensures only { (c : _) → WordsAreCommand words.now c → MatchResult result (λ r. r ≡ c) (λ e. e ≡ errors.OutOfMemory) }
+    ensures usage { IfErr result (λ e. e ≡ errors.Usage → (c : _) → WordsAreCommand words.now c → ⊥) }
 {
     let texts = texts_of(alloc, words)?;
     let matches = matches_in(alloc, texts.as_slice())?;

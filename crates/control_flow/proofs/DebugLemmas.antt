@@ -21,7 +21,7 @@ use Rattle.sequence_rules.proofs.LoopLemmas.{tail_two}
 use Rattle.function_calls.specs.declared.end.End.{End}
 use Rattle.function_calls.specs.Ends.{EndsLate, MeansLate}
 use Rattle.function_calls.proofs.Leaves.{ends_on, later_bind}
-use Rattle.control_flow.specs.Calls.{debugged_one}
+use Rattle.control_flow.specs.Calls.{late_debug_statement}
 use Rattle.control_flow.proofs.Exits.{later_debugged, later_done, later_sequence, later_steps_at}
 
 abbrev S : Type 0
@@ -42,36 +42,36 @@ put_on cost w name v s now at = rw at refl
 module _ (cost : Costs) (w : World) (turn_us : ℕ) (set : SetTrees) where
   -- ---- the debug variables
 
-  debug_first : (st : StmtTree) (code : List StmtTree) (s : S) → debugged (late cost w) turn_us set (st ∷ code) s ≡ (debugged_one (late cost w) turn_us set st s >>= λ y. debugged (late cost w) turn_us set code y.1)
+  debug_first : (st : StmtTree) (code : List StmtTree) (s : S) → debugged (late cost w) turn_us set (st ∷ code) s ≡ (late_debug_statement (late cost w) turn_us set st s >>= λ y. debugged (late cost w) turn_us set code y.1)
   unfolding debugged
   debug_first (t.Empty at) code s = refl
   debug_first (t.Declare name e) code s = tail_two {V = Value} {T = Late} {A = Value} {B = Value} {C = Unit {0}} (value (late cost w) (λ n q. sequence_at (late cost w) turn_us set 0 n q) e s) (λ x. stored (late cost w) name x.0 x.1) (λ q. debugged (late cost w) turn_us set code q)
   debug_first (t.Plain at e) code s = refl
 
   debug_more : (xs : List statement.Stmt) (i : ℕ) (d : statement.Stmt) (s : S) → i < length xs
-      → debugged (late cost w) turn_us set (code_trees (drop i xs)) s ≡ (debugged_one (late cost w) turn_us set (stmt_tree (get_or xs i d)) s >>= λ y. debugged (late cost w) turn_us set (code_trees (drop (i + 1) xs)) y.1)
+      → debugged (late cost w) turn_us set (code_trees (drop i xs)) s ≡ (late_debug_statement (late cost w) turn_us set (stmt_tree (get_or xs i d)) s >>= λ y. debugged (late cost w) turn_us set (code_trees (drop (i + 1) xs)) y.1)
   debug_more xs i d s h = rw (drop_more xs i d h) (debug_first (stmt_tree (get_or xs i d)) (code_trees (drop (i + 1) xs)) s)
 
   pub debug_on : (total : O (Unit {0})) (xs : List statement.Stmt) (i : ℕ) (d : statement.Stmt) (s r : S) → total ≡ debugged (late cost w) turn_us set (code_trees (drop i xs)) s → i < length xs
-      → debugged_one (late cost w) turn_us set (stmt_tree (get_or xs i d)) s ≡ Ok (tt, r) → total ≡ debugged (late cost w) turn_us set (code_trees (drop (i + 1) xs)) r
+      → late_debug_statement (late cost w) turn_us set (stmt_tree (get_or xs i d)) s ≡ Ok (tt, r) → total ≡ debugged (late cost w) turn_us set (code_trees (drop (i + 1) xs)) r
   debug_on total xs i d s r same h is = same ∙ debug_more xs i d s h ∙ ap (λ o. o >>= λ y. debugged (late cost w) turn_us set (code_trees (drop (i + 1) xs)) y.1) is
 
   pub debug_fail : (reached : AccessView) (total : O (Unit {0})) (xs : List statement.Stmt) (i : ℕ) (d : statement.Stmt) (s r : S) (e : End) → total ≡ debugged (late cost w) turn_us set (code_trees (drop i xs)) s → i < length xs
-      → EndsLate w reached e r (debugged_one (late cost w) turn_us set (stmt_tree (get_or xs i d)) s) → EndsLate w reached e r total
+      → EndsLate w reached e r (late_debug_statement (late cost w) turn_us set (stmt_tree (get_or xs i d)) s) → EndsLate w reached e r total
   debug_fail reached total xs i d s r e same h is =
-      rw (same ∙ debug_more xs i d s h) (ends_on w reached e r (debugged_one (late cost w) turn_us set (stmt_tree (get_or xs i d)) s) _ is (λ y. later_debugged cost w turn_us set (code_trees (drop (i + 1) xs)) y.1))
+      rw (same ∙ debug_more xs i d s h) (ends_on w reached e r (late_debug_statement (late cost w) turn_us set (stmt_tree (get_or xs i d)) s) _ is (λ y. later_debugged cost w turn_us set (code_trees (drop (i + 1) xs)) y.1))
 
   pub debug_over : (total : O (Unit {0})) (xs : List statement.Stmt) (i : ℕ) (s : S) → total ≡ debugged (late cost w) turn_us set (code_trees (drop i xs)) s → length xs ≤ i → total ≡ Ok (tt, s)
   unfolding debugged
   debug_over total xs i s same h = same ∙ rw (drop_all i xs h) refl
 
   pub debug_next : (total : O (Unit {0})) (xs : List statement.Stmt) (i : ℕ) (d a : statement.Stmt) (s r : S) → total ≡ debugged (late cost w) turn_us set (code_trees (drop i xs)) s → i < length xs → a ≡ get_or xs i d
-      → debugged_one (late cost w) turn_us set (stmt_tree a) s ≡ Ok (tt, r) → total ≡ debugged (late cost w) turn_us set (code_trees (drop (i + 1) xs)) r
-  debug_next total xs i d a s r same h item is = debug_on total xs i d s r same h (subst (λ x. debugged_one (late cost w) turn_us set (stmt_tree x) s ≡ Ok (tt, r)) item is)
+      → late_debug_statement (late cost w) turn_us set (stmt_tree a) s ≡ Ok (tt, r) → total ≡ debugged (late cost w) turn_us set (code_trees (drop (i + 1) xs)) r
+  debug_next total xs i d a s r same h item is = debug_on total xs i d s r same h (subst (λ x. late_debug_statement (late cost w) turn_us set (stmt_tree x) s ≡ Ok (tt, r)) item is)
 
   pub debug_end : (reached : AccessView) (total : O (Unit {0})) (xs : List statement.Stmt) (i : ℕ) (d a : statement.Stmt) (s r : S) (e : End) → total ≡ debugged (late cost w) turn_us set (code_trees (drop i xs)) s → i < length xs → a ≡ get_or xs i d
-      → EndsLate w reached e r (debugged_one (late cost w) turn_us set (stmt_tree a) s) → EndsLate w reached e r total
-  debug_end reached total xs i d a s r e same h item is = debug_fail reached total xs i d s r e same h (subst (λ x. EndsLate w reached e r (debugged_one (late cost w) turn_us set (stmt_tree x) s)) item is)
+      → EndsLate w reached e r (late_debug_statement (late cost w) turn_us set (stmt_tree a) s) → EndsLate w reached e r total
+  debug_end reached total xs i d a s r e same h item is = debug_fail reached total xs i d s r e same h (subst (λ x. EndsLate w reached e r (late_debug_statement (late cost w) turn_us set (stmt_tree x) s)) item is)
 
   -- ---- the run
 

@@ -15,9 +15,9 @@ use Rattle.target_calls.proofs.MarkLemmas.{stop_marked, skips_marked, value_mark
 use Rattle.target_calls.proofs.WorldLemmas.{whole_after}
 use Rattle.access_calls.specs.Answers.{AtCut, StopsCalls, StopsOrSettles, StopsSettling, calls_finished}
 use Rattle.access_calls.specs.GoesOn.{IsSameButAsks}
-use Rattle.access_calls.specs.Left.{answered_at, answered_cut}
+use Rattle.access_calls.specs.Left.{answered_at_end, answered_cut}
 use Rattle.access_calls.specs.Reported.{AccessView, Beginning, start_of, world_of}
-use Rattle.access_calls.specs.Standing.{Stands, StandsAt, WhereObservable}
+use Rattle.access_calls.specs.Standing.{AccessStands, StandsAt, WhereObservable}
 use Rattle.access_calls.specs.declared.stop.Report.{Report}
 use Rattle.access_calls.specs.declared.stop.Stop.{Stop}
 use Rattle.access_calls.specs.declared.stop.Stop.TheVariants.{Cut, BenchFault, ReplyBad, OutOfMemory}
@@ -39,12 +39,12 @@ use Rattle.sequence_rules.proofs.Goes as g
 use Rattle.sequence_rules.proofs.LateLemmas.{append_none, stop_here, steady_late}
 use Rattle.sequence_rules.proofs.Made.{no_cost, late_pair}
 use Rattle.sequels.proofs.LimitLemmas.{from_on, from_same}
-use Rattle.function_calls.specs.Ends.{AtEnd, Left}
-use Rattle.function_calls.specs.Held.{state_of}
+use Rattle.function_calls.specs.Ends.{AtEnd, LeftMeaning}
+use Rattle.function_calls.specs.Held.{late_state_of}
 use Rattle.function_calls.specs.declared.held.Held.{Held}
 use Rattle.access_calls.specs.declared.ended.Ending.{Ending}
 use Rattle.access_calls.specs.declared.ended.Ending.TheVariants as ending
-use Rattle.control_flow.specs.Answers.{Ran, IsAll, SharesCalls, IsPart, IsWhole, StopsAfter, EndsAtCut, EndsAs, HasNeeds}
+use Rattle.control_flow.specs.Answers.{Ran, IsAll, SharesCalls, IsPartOfOutcome, EndsWhole, StopsAfter, EndsAtCut, RunEndsAs, HasNeeds}
 use Rattle.access_calls.specs.Endings.{ending_of}
 use Rattle.control_flow.specs.Closing.{numbers_in, AreAsked, OutIs}
 
@@ -131,12 +131,12 @@ module _ (w : World) where
   record Front (calls : List Ask) (o : Outcome) : Type 0 where
     more : List Ask
     same : calls ≡ o.calls ++ more
-    only : IsWhole o.ending → more ≡ []
+    only : EndsWhole o.ending → more ≡ []
 
   front_same : (s : List Ask) (o : Outcome) → o.calls ≡ s → Front s o
   front_same s o e = record { more = []; same = sym e ∙ sym (append-nil o.calls); only = λ whole. refl }
 
-  front_of : (b : Bool) (t : Late) (k : ℕ) (u : Now) (o : Outcome) → StoppedAt w b t k u → o.calls ≡ u.calls → (IsWhole o.ending → ⊥) → Front t.asks.calls o
+  front_of : (b : Bool) (t : Late) (k : ℕ) (u : Now) (o : Outcome) → StoppedAt w b t k u → o.calls ≡ u.calls → (EndsWhole o.ending → ⊥) → Front t.asks.calls o
   front_of b t k u o h e stops = record { more = h.more; same = h.calls ∙ ap (λ (c : List Ask). c ++ h.more) (sym e); only = λ whole. absurd (stops whole) }
 
   their_calls : (out : L) (q : Q) → Pair w out q → Front (end_state out).rest.asks.calls (outcome_of q)
@@ -203,7 +203,7 @@ module _ (w : World) where
   stops_after cause.NoAnswer lines out q p answered e = stops_unanswered lines out q p answered e
 
   -- they do not stop: the meaning comes to its end
-  comes_to : (lines : ℕ) (out : L) (q : Q) → Pair w out q → stop w (end_state out).rest.asks.calls ≡ None → lines ≡ length (end_state out).rest.asks.calls → IsWhole (outcome_of q).ending × (units_of (outcome_of q) ≡ lines)
+  comes_to : (lines : ℕ) (out : L) (q : Q) → Pair w out q → stop w (end_state out).rest.asks.calls ≡ None → lines ≡ length (end_state out).rest.asks.calls → EndsWhole (outcome_of q).ending × (units_of (outcome_of q) ≡ lines)
   comes_to lines (Ok x) (Ok y) p e l = (tt, ap length p.0.rest.calls ∙ sym l)
   comes_to lines (Err e) (Ok y) p f l = absurd p
   comes_to lines (Ok x) (Err (machine.Halted c, r)) p e l = absurd p
@@ -238,7 +238,7 @@ module _ (w : World) where
       less : r.skipped ≡ min (skips w s.rest.asks.calls) 4294967295
       less = let same = c.skipped in let few = c.few in omega (arith, same, few)
 
-  pub is_done : (lines : ℕ) (r : Ran) (s : State Value Late) (out : L) (q : Q) → Pair w out q → out ≡ Ok (tt, s) → stop w s.rest.asks.calls ≡ None → Closed r s → EndsAs ending.Done lines (outcome_of q) r
+  pub is_done : (lines : ℕ) (r : Ran) (s : State Value Late) (out : L) (q : Q) → Pair w out q → out ≡ Ok (tt, s) → stop w s.rest.asks.calls ≡ None → Closed r s → RunEndsAs ending.Done lines (outcome_of q) r
   is_done lines r s (Ok x) (Ok y) p is whole c =
       let e : x.1 ≡ s = cc in
       let al : Alike (ComesTo w) (SameRest w) s y.1 = subst (λ z. Alike (ComesTo w) (SameRest w) z y.1) e p.0 in
@@ -249,7 +249,7 @@ module _ (w : World) where
   is_done lines r s (Ok x) (Err (machine.Unanswered, y)) p is whole c = let e : x.1 ≡ s = cc in some_none _ _ _ (stop_here no_cost w _ _ _ _ p) (ap (λ (z : State Value Late). stop w z.rest.asks.calls) e ∙ whole)
   is_done lines r s (Ok x) (Err (machine.Lost, y)) p is whole c = absurd p
 
-  pub is_halted : (lines : ℕ) (why : HaltCause) (r : Ran) (s : State Value Late) (out : L) (q : Q) → Pair w out q → out ≡ Err (machine.Halted why, s) → stop w s.rest.asks.calls ≡ None → Closed r s → EndsAs (ending.Halted why) lines (outcome_of q) r
+  pub is_halted : (lines : ℕ) (why : HaltCause) (r : Ran) (s : State Value Late) (out : L) (q : Q) → Pair w out q → out ≡ Err (machine.Halted why, s) → stop w s.rest.asks.calls ≡ None → Closed r s → RunEndsAs (ending.Halted why) lines (outcome_of q) r
   is_halted lines why r s (Ok x) q p is whole c = absurd cc
   is_halted lines why r s (Err e) (Ok y) p is whole c = absurd p
   is_halted lines why r s (Err e) (Err (machine.Halted k, y)) p is whole c =
@@ -294,7 +294,7 @@ module _ (w : World) where
     calls = shares out q r.asks.calls left.later.more p (left.later.calls ∙ ap (λ c. c ++ left.later.more) (sym calls));
   }
 
-  pub is_broken : (r : Ran) (now : State Value Late) (out : L) (q : Q) → Pair w out q → Later w now.rest (end_state out).rest → r.asks.calls ≡ now.rest.asks.calls → r.written ≡ now.rest.written → IsPart (outcome_of q) r
+  pub is_broken : (r : Ran) (now : State Value Late) (out : L) (q : Q) → Pair w out q → Later w now.rest (end_state out).rest → r.asks.calls ≡ now.rest.asks.calls → r.written ≡ now.rest.written → IsPartOfOutcome (outcome_of q) r
   is_broken r now out q p later calls written = record {
     written = record { part = later.grows.part; same = same_lines out q p ∙ later.grows.same ∙ ap (λ o. option_map (line_after later.grows.part) o) (sym written) };
     calls = shares out q r.asks.calls later.more p (later.calls ∙ ap (λ c. c ++ later.more) (sym calls));
@@ -314,7 +314,7 @@ module _ (w : World) where
       by_cause cause.NoAnswer some (inl e) = stops_unanswered lines out q p some e
       by_cause cause.NoAnswer some (inr e) = inr (comes_to lines out q p e.0 e.1)
 
-  settling_broken : (r : Ran) (out : L) (q : Q) → Pair w out q → r.asks.calls ≡ settled_last (end_state out).rest.asks.calls → r.written ≡ (end_state out).rest.written → IsPart (outcome_of q) r
+  settling_broken : (r : Ran) (out : L) (q : Q) → Pair w out q → r.asks.calls ≡ settled_last (end_state out).rest.asks.calls → r.written ≡ (end_state out).rest.written → IsPartOfOutcome (outcome_of q) r
   settling_broken r out q p calls written = record {
     written = record { part = []; same = same_lines out q p ∙ sym written ∙ append_none r.written };
     calls = shares_settled out q r.asks.calls p calls;
@@ -332,8 +332,8 @@ module _ (w : World) where
   ends_so ending.OutOfMemory s out is = absurd is
 
   -- a stop in `finish`, or after it
-  pub stops_closing : (end : Ending) (st : Stop) (s : State Value Late) (out : L) (q : Q) (lines : ℕ) (r : Ran) → OutIs end s out → Pair w out q → w.answered ≡ answered_at (Some st) lines → StopsSettling w s.rest.asks.calls lines st
-      → r.asks.calls ≡ settled_last s.rest.asks.calls → r.written ≡ s.rest.written → EndsAs (ending_of st) lines (outcome_of q) r
+  pub stops_closing : (end : Ending) (st : Stop) (s : State Value Late) (out : L) (q : Q) (lines : ℕ) (r : Ran) → OutIs end s out → Pair w out q → w.answered ≡ answered_at_end (Some st) lines → StopsSettling w s.rest.asks.calls lines st
+      → r.asks.calls ≡ settled_last s.rest.asks.calls → r.written ≡ s.rest.written → RunEndsAs (ending_of st) lines (outcome_of q) r
   stops_closing end (Cut report) s out q lines r is p answered stops calls written =
       let e = ends_so end s out is in
       settling_cut lines report r out q p answered (rw e stops) (rw e calls) (rw e written)
@@ -342,7 +342,7 @@ module _ (w : World) where
   stops_closing end OutOfMemory s out q lines r is p answered stops calls written = let e = ends_so end s out is in settling_broken r out q p (rw e calls) (rw e written)
 
   -- so it is in each world that is left
-  pub left_closing : (end : Ending) (s : State Value Late) (out : L) (q : Q) (r : Ran) → OutIs end s out → Pair w out q → r.asks.calls ≡ settled_last s.rest.asks.calls → r.written ≡ s.rest.written → IsPart (outcome_of q) r
+  pub left_closing : (end : Ending) (s : State Value Late) (out : L) (q : Q) (r : Ran) → OutIs end s out → Pair w out q → r.asks.calls ≡ settled_last s.rest.asks.calls → r.written ≡ s.rest.written → IsPartOfOutcome (outcome_of q) r
   left_closing end s out q r is p calls written = let e = ends_so end s out is in settling_broken r out q p (rw e calls) (rw e written)
 
   pub settles : (calls : List Ask) (lines : ℕ) (st : Stop) → StopsCalls w (settled_last calls) lines st → StopsSettling w calls lines st
@@ -405,7 +405,7 @@ module _ (w : World) where
         written = k.written;
       }
 
-  pub closes : (end : Ending) (s : State Value Late) (out : L) (q : Q) (lines : ℕ) (r : Ran) (b : Asks) → OutIs end s out → Pair w out q → stop w s.rest.asks.calls ≡ None → Looked r s b → EndsAs end lines (outcome_of q) r × HasNeeds end r.asks out
+  pub closes : (end : Ending) (s : State Value Late) (out : L) (q : Q) (lines : ℕ) (r : Ran) (b : Asks) → OutIs end s out → Pair w out q → stop w s.rest.asks.calls ≡ None → Looked r s b → RunEndsAs end lines (outcome_of q) r × HasNeeds end r.asks out
   closes ending.Done s out q lines r b is p whole k =
       let c = closed r s b k (left_asked ending.Done s out q is p whole) in
       (is_done lines r s out q p is whole c, c.asks ∙ ap (λ (z : State Value Late). needed (finished z.rest.asks)) (sym (ends_so ending.Done s out is)))
@@ -418,16 +418,16 @@ module _ (w : World) where
   closes ending.WriteFault s out q lines r b is p whole k = absurd is
   closes ending.OutOfMemory s out q lines r b is p whole k = absurd is
 
-stopped_by : (w : World) (st : Stop) (lines : ℕ) (r : Ran) (now : State Value Late) (out : L) (q : Q) → Pair w out q → w.answered ≡ answered_at (Some st) lines → LeftBy w lines st now out → r.asks.calls ≡ now.rest.asks.calls → r.written ≡ now.rest.written
-    → EndsAs (ending_of st) lines (outcome_of q) r
+stopped_by : (w : World) (st : Stop) (lines : ℕ) (r : Ran) (now : State Value Late) (out : L) (q : Q) → Pair w out q → w.answered ≡ answered_at_end (Some st) lines → LeftBy w lines st now out → r.asks.calls ≡ now.rest.asks.calls → r.written ≡ now.rest.written
+    → RunEndsAs (ending_of st) lines (outcome_of q) r
 stopped_by w (Cut report) lines r now out q p answered left calls written = is_cut_off w lines report r now out q p answered left calls written
 stopped_by w (BenchFault issued confirmed) lines r now out q p answered left calls written = is_broken w r now out q p left.later calls written
 stopped_by w ReplyBad lines r now out q p answered left calls written = is_broken w r now out q p left.later calls written
 stopped_by w OutOfMemory lines r now out q p answered left calls written = is_broken w r now out q p left.later calls written
 
 -- the evaluator stopped, and the access was asked for its stop
-pub stopped_ends : (w : World) (st : Stop) (a last : AccessView) (r : Ran) (now : State Value Late) (out : L) (q : Q) → Pair w out q → w.answered ≡ answered_at (Some st) last.lines → Left w a now out → a.end ≡ Some st → IsSameButAsks a last
-    → r.asks.calls ≡ now.rest.asks.calls → r.written ≡ now.rest.written → EndsAs (ending_of st) last.lines (outcome_of q) r
+pub stopped_ends : (w : World) (st : Stop) (a last : AccessView) (r : Ran) (now : State Value Late) (out : L) (q : Q) → Pair w out q → w.answered ≡ answered_at_end (Some st) last.lines → LeftMeaning w a now out → a.end ≡ Some st → IsSameButAsks a last
+    → r.asks.calls ≡ now.rest.asks.calls → r.written ≡ now.rest.written → RunEndsAs (ending_of st) last.lines (outcome_of q) r
 stopped_ends w st a last r now out q p answered left end same calls written =
     let lines : last.lines ≡ a.lines = ap (λ (t : AccessView). t.lines) same.same in
     let first : AtCut st (λ r. stop w now.rest.asks.calls ≡ Some (a.lines + 1)) = subst (λ (e : Option Stop). AtEnd e (λ r. stop w now.rest.asks.calls ≡ Some (a.lines + 1))) end left.first.so in
@@ -447,7 +447,7 @@ finished_calls a c none is = is ∙ ap (λ (e : Option Stop). cond (is_some e) a
 skips_at : (entries : List Entry) (a : AccessView) (b : Beginning) (m : BenchState) → a.end ≡ None → StandsAt a.end entries a b m → a.skipped ≡ skips (world_of b) a.asks.calls
 skips_at entries a b m none h = (subst (λ e. StandsAt e entries a b m) none h).skipped
 
-pub skipped_is : (journal : TargetState → List Ask → List Entry) (a : AccessView) (b : Beginning) → a.end ≡ None → Stands journal a b → a.skipped ≡ skips (world_of b) a.asks.calls
+pub skipped_is : (journal : TargetState → List Ask → List Entry) (a : AccessView) (b : Beginning) → a.end ≡ None → AccessStands journal a b → a.skipped ≡ skips (world_of b) a.asks.calls
 skipped_is journal a b none stands = by_state a.state stands
   where
     by_state : (o : Option BenchState) → WhereObservable o (λ m. StandsAt a.end (journal (start_of b) a.asks.calls) a b m) → a.skipped ≡ skips (world_of b) a.asks.calls
@@ -455,7 +455,7 @@ skipped_is journal a b none stands = by_state a.state stands
     by_state (Some m) h = skips_at (journal (start_of b) a.asks.calls) a b m none h
 
 -- a run that did not begin
-pub not_begun : (w : World) (p : Program) (before : Option (List ℕ)) (r : Ran) → r.asks ≡ nothing_asked → r.written ≡ before → IsPart (outcome_of (meaning w p before)) r
+pub not_begun : (w : World) (p : Program) (before : Option (List ℕ)) (r : Ran) → r.asks ≡ nothing_asked → r.written ≡ before → IsPartOfOutcome (outcome_of (meaning w p before)) r
 not_begun w p before r asks written =
     let s = start_state (late no_cost w) p.turn_us p.set (runs.as_values (late no_cost w) p.predefined) (late_of nothing_asked before) in
     is_broken w r s (late_meaning no_cost w p before) (meaning w p before) (late_pair no_cost w p before)
@@ -463,15 +463,15 @@ not_begun w p before r asks written =
 
 -- the code of a run is its meaning with results that come later
 pub at_start : (cost : Costs) (w : World) (p : Program) (held : Held) (asks : Asks) (before : Option (List ℕ)) → asks ≡ nothing_asked
-    → state_of held nothing_asked before ≡ start_state (late cost w) p.turn_us p.set (runs.as_values (late cost w) p.predefined) (late_of nothing_asked before)
-    → run_of (late cost w) p.turn_us p.set p.start (state_of held asks before) ≡ late_meaning cost w p before
-at_start cost w p held asks before fresh is = ap (λ a. run_of (late cost w) p.turn_us p.set p.start (state_of held a before)) fresh ∙ ap (λ s. run_of (late cost w) p.turn_us p.set p.start s) is
+    → late_state_of held nothing_asked before ≡ start_state (late cost w) p.turn_us p.set (runs.as_values (late cost w) p.predefined) (late_of nothing_asked before)
+    → run_of (late cost w) p.turn_us p.set p.start (late_state_of held asks before) ≡ late_meaning cost w p before
+at_start cost w p held asks before fresh is = ap (λ a. run_of (late cost w) p.turn_us p.set p.start (late_state_of held a before)) fresh ∙ ap (λ s. run_of (late cost w) p.turn_us p.set p.start s) is
 
 pub at_end : (end : Ending) (s : State Value Late) (one two : L) → one ≡ two → OutIs end s one → OutIs end s two
 at_end end s one two same h = subst (λ o. OutIs end s o) same h
 
-pub left_end : (w : World) (a : AccessView) (now : State Value Late) (one two : L) → one ≡ two → Left w a now one → Left w a now two
-left_end w a now one two same h = subst (λ o. Left w a now o) same h
+pub left_end : (w : World) (a : AccessView) (now : State Value Late) (one two : L) → one ≡ two → LeftMeaning w a now one → LeftMeaning w a now two
+left_end w a now one two same h = subst (λ o. LeftMeaning w a now o) same h
 
 pub later_end : (w : World) (now : State Value Late) (one two : L) → one ≡ two → Later w now.rest (end_state one).rest → Later w now.rest (end_state two).rest
 later_end w now one two same h = subst (λ (o : L). Later w now.rest (end_state o).rest) same h

@@ -20,7 +20,7 @@ use Rattle.sequence_rules.specs.Runs as runs
 use Rattle.sequence_rules.specs.Steps.{declared_names, start_state}
 use Rattle.sequence_rules.specs.Variables.{bound, has_in, with_new, with_all_new}
 use Rattle.sequence_rules.specs.Runs.{variables_of}
-use Rattle.control_flow.specs.Closing.{as_values, numbers_in, AreAsked}
+use Rattle.control_flow.specs.Closing.{bindings_as_values, numbers_in, AreAsked}
 
 -- ---- the predefined variables have names of their own
 
@@ -28,7 +28,7 @@ has : List (List ℕ) → List ℕ → Bool
 has [] n = false
 has (x ∷ xs) n = cond (bytes_eq n x) true (has xs n)
 
-has_is : (vs : List Variable) (i : ℕ) (n : List ℕ) → has_in (as_values (variables_of (take i vs))) n ≡ has (take i (map (λ v. v.name) vs)) n
+has_is : (vs : List Variable) (i : ℕ) (n : List ℕ) → has_in (bindings_as_values (variables_of (take i vs))) n ≡ has (take i (map (λ v. v.name) vs)) n
 unfolding has
 has_is [] zero n = refl
 has_is [] (suc i) n = refl
@@ -46,21 +46,21 @@ own_name (suc (suc (suc (suc (suc zero))))) h = refl
 own_name (suc (suc (suc (suc (suc (suc zero)))))) h = refl
 own_name (suc (suc (suc (suc (suc (suc (suc i))))))) h = absurd (omega arith)
 
-new_name : (vs : List Variable) (i : ℕ) (d : Variable) → map (λ v. v.name) vs ≡ predefined → i < length vs → has_in (as_values (variables_of (take i vs))) (get_or vs i d).name ≡ false
+new_name : (vs : List Variable) (i : ℕ) (d : Variable) → map (λ v. v.name) vs ≡ predefined → i < length vs → has_in (bindings_as_values (variables_of (take i vs))) (get_or vs i d).name ≡ false
 new_name vs i d same h =
     let seven : length vs ≡ 7 = sym (length-map vs (λ (v : Variable). v.name)) ∙ ap length same in
     let named : (get_or vs i d).name ≡ get_or predefined i [] = sym (get_or-map (λ (v : Variable). v.name) vs i d [] h) ∙ ap (λ ns. get_or ns i []) same in
     has_is vs i (get_or vs i d).name ∙ ap (λ ns. has (take i ns) (get_or vs i d).name) same ∙ ap (has (take i predefined)) named ∙ own_name i (omega arith)
 
 -- one more of them
-pub start_more : (vs : List Variable) (i : ℕ) (d v : Variable) (old new : List (Binding Value)) → map (λ v. v.name) vs ≡ predefined → i < length vs → v ≡ get_or vs i d → old ≡ as_values (variables_of (take i vs)) → new ≡ with_new old v.name (Number v.value)
-    → new ≡ as_values (variables_of (take (i + 1) vs))
+pub start_more : (vs : List Variable) (i : ℕ) (d v : Variable) (old new : List (Binding Value)) → map (λ v. v.name) vs ≡ predefined → i < length vs → v ≡ get_or vs i d → old ≡ bindings_as_values (variables_of (take i vs)) → new ≡ with_new old v.name (Number v.value)
+    → new ≡ bindings_as_values (variables_of (take (i + 1) vs))
 start_more vs i d v old new same h is was add =
-    let fresh : has_in old v.name ≡ false = ap (λ bs. has_in bs v.name) was ∙ ap (λ x. has_in (as_values (variables_of (take i vs))) x.name) is ∙ new_name vs i d same h in
+    let fresh : has_in old v.name ≡ false = ap (λ bs. has_in bs v.name) was ∙ ap (λ x. has_in (bindings_as_values (variables_of (take i vs))) x.name) is ∙ new_name vs i d same h in
     add ∙ ap (λ b. cond b old (old ++ bound v.name (Number v.value) ∷ [])) fresh ∙ ap (λ bs. bs ++ bound v.name (Number v.value) ∷ []) was
-    ∙ ap (λ x. as_values (variables_of (take i vs)) ++ bound x.name (Number x.value) ∷ []) is
-    ∙ sym (ap (λ l. as_values (variables_of l)) (take_more vs i d h)
-    ∙ ap as_values (map-append (λ (x : Variable). record { name = x.name; value = x.value }) (take i vs) (get_or vs i d ∷ []))
+    ∙ ap (λ x. bindings_as_values (variables_of (take i vs)) ++ bound x.name (Number x.value) ∷ []) is
+    ∙ sym (ap (λ l. bindings_as_values (variables_of l)) (take_more vs i d h)
+    ∙ ap bindings_as_values (map-append (λ (x : Variable). record { name = x.name; value = x.value }) (take i vs) (get_or vs i d ∷ []))
     ∙ map-append (λ (b : Binding ℕ). record { name = b.name; value = Number b.value }) (variables_of (take i vs)) (bound (get_or vs i d).name (get_or vs i d).value ∷ []))
 
 -- ---- the debug variables
@@ -105,11 +105,11 @@ asked_at calls (b ∷ bs) (suc i) x all h = asked_at calls bs i x all.1 h
 
 -- ---- the state at the start
 
-same_start : (cost : Costs) (w : World) (set : SetTrees) (bs : List (Binding ℕ)) → with_all_new (as_values bs) (declared_names set.debugvars) (Number 0) ≡ with_all_new (runs.as_values (late cost w) bs) (declared_names set.debugvars) ((late cost w).number 0)
+same_start : (cost : Costs) (w : World) (set : SetTrees) (bs : List (Binding ℕ)) → with_all_new (bindings_as_values bs) (declared_names set.debugvars) (Number 0) ≡ with_all_new (runs.as_values (late cost w) bs) (declared_names set.debugvars) ((late cost w).number 0)
 unfolding late
 same_start cost w set bs = refl
 
-pub start_is : (cost : Costs) (w : World) (turn_us : ℕ) (set : SetTrees) (bs : List (Binding ℕ)) (gs : List (Binding Value)) (written : Option (List ℕ)) → gs ≡ with_all_new (as_values bs) (declared_names set.debugvars) (Number 0)
+pub start_is : (cost : Costs) (w : World) (turn_us : ℕ) (set : SetTrees) (bs : List (Binding ℕ)) (gs : List (Binding Value)) (written : Option (List ℕ)) → gs ≡ with_all_new (bindings_as_values bs) (declared_names set.debugvars) (Number 0)
     → record { globals = gs; locals = []; units = 0; lines = 0; steps = 0; rest = late_of nothing_asked written } ≡ start_state (late cost w) turn_us set (runs.as_values (late cost w) bs) (late_of nothing_asked written)
 start_is cost w turn_us set bs gs written h =
     ap (λ k. at k) (h ∙ same_start cost w set bs)

@@ -42,20 +42,20 @@ pub record IsAll (o : Outcome) (r : Ran) : Type 0 where
   pub written : r.written ≡ o.written
 
 -- the outcome ends at a fault
-abbrev pub IsFaulted : runs.Ending → Type 0
-IsFaulted runs.Done = ⊥
-IsFaulted (runs.Halted cause) = ⊥
-IsFaulted (runs.Faulted call) = Unit {0}
-IsFaulted runs.Unanswered = ⊥
-IsFaulted runs.Lost = ⊥
+abbrev pub EndsAtFault : runs.Ending → Type 0
+EndsAtFault runs.Done = ⊥
+EndsAtFault (runs.Halted cause) = ⊥
+EndsAtFault (runs.Faulted call) = Unit {0}
+EndsAtFault runs.Unanswered = ⊥
+EndsAtFault runs.Lost = ⊥
 
 -- the outcome is Done or Halted
-abbrev pub IsWhole : runs.Ending → Type 0
-IsWhole runs.Done = Unit {0}
-IsWhole (runs.Halted cause) = Unit {0}
-IsWhole (runs.Faulted call) = ⊥
-IsWhole runs.Unanswered = ⊥
-IsWhole runs.Lost = ⊥
+abbrev pub EndsWhole : runs.Ending → Type 0
+EndsWhole runs.Done = Unit {0}
+EndsWhole (runs.Halted cause) = Unit {0}
+EndsWhole (runs.Faulted call) = ⊥
+EndsWhole runs.Unanswered = ⊥
+EndsWhole runs.Lost = ⊥
 
 -- One list of calls goes on from what was asked, and from the calls of the outcome. Where the outcome is Done or Halted, that list has no
 -- more calls than it.
@@ -63,18 +63,18 @@ pub record SharesCalls (asked : List Ask) (o : Outcome) : Type 0 where
   pub all : List Ask
   pub ours : GoesOnFrom asked all
   pub theirs : GoesOnFrom o.calls all
-  pub only : IsWhole o.ending → length all ≤ units_of o
+  pub only : EndsWhole o.ending → length all ≤ units_of o
 
 -- The run was left in its middle: what was written comes first in what the outcome writes, and its calls are among the first.
-pub record IsPart (o : Outcome) (r : Ran) : Type 0 where
+pub record IsPartOfOutcome (o : Outcome) (r : Ran) : Type 0 where
   pub written : Grows r.written o.written
   pub calls : SharesCalls r.asks.calls o
 
 -- Let the target or the probe stop the calls, and so many units have their lines before that. Then the outcome ends at a fault of the next unit,
 -- or at the next unit, which is not answered. Or it comes to its end with so many units, and a retry ended after them.
 abbrev pub StopsAfter : StopCause → ℕ → Outcome → Type 0
-StopsAfter cause.Faulted lines o = IsFaulted o.ending × (units_of o ≡ lines + 1)
-StopsAfter cause.NoAnswer lines o = ((o.ending ≡ runs.Unanswered) × (units_of o ≡ lines + 1)) ⊎ (IsWhole o.ending × (units_of o ≡ lines))
+StopsAfter cause.Faulted lines o = EndsAtFault o.ending × (units_of o ≡ lines + 1)
+StopsAfter cause.NoAnswer lines o = ((o.ending ≡ runs.Unanswered) × (units_of o ≡ lines + 1)) ⊎ (EndsWhole o.ending × (units_of o ≡ lines))
 
 -- A run that was cut: the outcome stops there, exactly its lines are written, and its calls are among the first.
 pub record EndsAtCut (cause : StopCause) (lines : ℕ) (o : Outcome) (r : Ran) : Type 0 where
@@ -83,14 +83,14 @@ pub record EndsAtCut (cause : StopCause) (lines : ℕ) (o : Outcome) (r : Ran) :
   pub calls : SharesCalls r.asks.calls o
 
 -- how a run ended, by the outcome
-abbrev pub EndsAs : Ending → ℕ → Outcome → Ran → Type 0
-EndsAs e.Done lines o r = (o.ending ≡ runs.Done) × IsAll o r
-EndsAs (e.Halted cause) lines o r = (o.ending ≡ runs.Halted cause) × IsAll o r
-EndsAs (e.Cut report) lines o r = EndsAtCut report.cause lines o r
-EndsAs (e.BenchFault issued confirmed) lines o r = IsPart o r
-EndsAs e.ReplyBad lines o r = IsPart o r
-EndsAs e.WriteFault lines o r = IsPart o r
-EndsAs e.OutOfMemory lines o r = IsPart o r
+abbrev pub RunEndsAs : Ending → ℕ → Outcome → Ran → Type 0
+RunEndsAs e.Done lines o r = (o.ending ≡ runs.Done) × IsAll o r
+RunEndsAs (e.Halted cause) lines o r = (o.ending ≡ runs.Halted cause) × IsAll o r
+RunEndsAs (e.Cut report) lines o r = EndsAtCut report.cause lines o r
+RunEndsAs (e.BenchFault issued confirmed) lines o r = IsPartOfOutcome o r
+RunEndsAs e.ReplyBad lines o r = IsPartOfOutcome o r
+RunEndsAs e.WriteFault lines o r = IsPartOfOutcome o r
+RunEndsAs e.OutOfMemory lines o r = IsPartOfOutcome o r
 
 -- Where a run is Done or Halted, what was asked has the need points of the meaning with results that come later, and one for the end.
 abbrev pub HasNeeds : Ending → Asks → Out Value Late (Unit {0}) → Type 0
@@ -113,14 +113,14 @@ EndBy e.WriteFault end = end ≡ None
 EndBy e.OutOfMemory end = end ≡ None
 
 -- the sink's count of faults rose where the sink failed, and else it is the same
-abbrev pub HasSinkCause : Ending → ℕ → ℕ → Type 0
-HasSinkCause e.Done before now = now ≡ before
-HasSinkCause (e.Halted cause) before now = now ≡ before
-HasSinkCause (e.Cut r) before now = now ≡ before
-HasSinkCause (e.BenchFault issued confirmed) before now = now ≡ before
-HasSinkCause e.ReplyBad before now = now ≡ before
-HasSinkCause e.WriteFault before now = Rose before now
-HasSinkCause e.OutOfMemory before now = now ≡ before
+abbrev pub RunHasSinkCause : Ending → ℕ → ℕ → Type 0
+RunHasSinkCause e.Done before now = now ≡ before
+RunHasSinkCause (e.Halted cause) before now = now ≡ before
+RunHasSinkCause (e.Cut r) before now = now ≡ before
+RunHasSinkCause (e.BenchFault issued confirmed) before now = now ≡ before
+RunHasSinkCause e.ReplyBad before now = now ≡ before
+RunHasSinkCause e.WriteFault before now = Rose before now
+RunHasSinkCause e.OutOfMemory before now = now ≡ before
 
 -- Whole lines were written; only where the sink failed a part of a line may be.
 abbrev pub HasLines : Ending → Option (List ℕ) → Option (List ℕ) → Type 0

@@ -27,7 +27,7 @@ abbrev pub two_numbers : Place → Tree → Place → Tree → ArgTrees
 two_numbers at a later b = t.MoreArgs (t.ExprArg at a) (t.MoreArgs (t.ExprArg later b) t.NoArgs)
 
 -- an argument is an expression
-pub record IsNumber (arg : ArgTree) (a : Tree) : Type 0 where
+pub record IsExpressionArgument (arg : ArgTree) (a : Tree) : Type 0 where
   pub at : Place
   pub is : arg ≡ t.ExprArg at a
 
@@ -44,12 +44,12 @@ pub record AreTwo (args : ArgTrees) (a b : Tree) : Type 0 where
 
 module _ (m : Machine Value Late) (turn_us : ℕ) (set : SetTrees) where
   -- a debug variable gets its value
-  abbrev pub defined : Name → Tree → State Value Late → Out Value Late (Unit {0})
-  defined name e s =
+  abbrev pub late_definition : Name → Tree → State Value Late → Out Value Late (Unit {0})
+  late_definition name e s =
       value m (λ n q. sequence_at m turn_us set 0 n q) e s >>= λ x. stored m name x.0 x.1 >>= λ y. Ok (tt, y.1)
 
   -- one statement of the debug variables
-  abbrev pub debugged_one : StmtTree → State Value Late → Out Value Late (Unit {0})
-  debugged_one (t.Empty at) s = Ok (tt, s)
-  debugged_one (t.Declare name e) s = defined name e s
-  debugged_one (t.Plain at e) s = Ok (tt, s)
+  abbrev pub late_debug_statement : StmtTree → State Value Late → Out Value Late (Unit {0})
+  late_debug_statement (t.Empty at) s = Ok (tt, s)
+  late_debug_statement (t.Declare name e) s = late_definition name e s
+  late_debug_statement (t.Plain at e) s = Ok (tt, s)

@@ -13,8 +13,8 @@ use Rattle.access_calls.specs.declared.ended.Ending.{Ending}
 use Rattle.access_calls.specs.declared.ended.Ending.TheVariants as e
 
 -- numbers as values
-abbrev pub as_values : List (Binding ℕ) → List (Binding Value)
-as_values bs = map (λ (b : Binding ℕ). record { name = b.name; value = Number b.value }) bs
+abbrev pub bindings_as_values : List (Binding ℕ) → List (Binding Value)
+bindings_as_values bs = map (λ (b : Binding ℕ). record { name = b.name; value = Number b.value }) bs
 
 -- variables with the numbers that their values are, once these calls were made
 abbrev pub numbers_in : World → List Ask → List (Binding Value) → List (Binding ℕ)
@@ -46,11 +46,11 @@ ComesToEnd e.WriteFault = ⊥
 ComesToEnd e.OutOfMemory = ⊥
 
 -- the sink did not fail
-abbrev pub NoWriteFault : Ending → Type 0
-NoWriteFault e.Done = Unit {0}
-NoWriteFault (e.Halted cause) = Unit {0}
-NoWriteFault (e.Cut report) = Unit {0}
-NoWriteFault (e.BenchFault issued confirmed) = Unit {0}
-NoWriteFault e.ReplyBad = Unit {0}
-NoWriteFault e.WriteFault = ⊥
-NoWriteFault e.OutOfMemory = Unit {0}
+abbrev pub RunHasNoWriteFault : Ending → Type 0
+RunHasNoWriteFault e.Done = Unit {0}
+RunHasNoWriteFault (e.Halted cause) = Unit {0}
+RunHasNoWriteFault (e.Cut report) = Unit {0}
+RunHasNoWriteFault (e.BenchFault issued confirmed) = Unit {0}
+RunHasNoWriteFault e.ReplyBad = Unit {0}
+RunHasNoWriteFault e.WriteFault = ⊥
+RunHasNoWriteFault e.OutOfMemory = Unit {0}

@@ -157,11 +157,11 @@ module _ (runner : Runner) where
 
   -- a debug variable gets its value
   abbrev pub late_definition_of : Name → Tree → LateMeaning (Unit {0})
-  late_definition_of name e m = c.defined m runner.turn_us (checked_trees runner.set.now) name e
+  late_definition_of name e m = c.late_definition m runner.turn_us (checked_trees runner.set.now) name e
 
   -- one statement of the debug variables
   abbrev pub late_debug_of : StmtTree → LateMeaning (Unit {0})
-  late_debug_of one m = c.debugged_one m runner.turn_us (checked_trees runner.set.now) one
+  late_debug_of one m = c.late_debug_statement m runner.turn_us (checked_trees runner.set.now) one
 
   -- the debug variables get their values, in order
   abbrev pub late_debugs_of : List StmtTree → LateMeaning (Unit {0})

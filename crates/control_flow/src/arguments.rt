@@ -1,13 +1,13 @@
 //! The arguments of calls that are one number or two.
 ghost use Rattle.std.specs.Prelude.{IfSome};
 ghost use Rattle.expr_grammar.specs.Tree.{arg_tree, arg_trees, tree};
-ghost use Rattle.control_flow.specs.Calls.{AreTwo, IsNumber, IsOne};
+ghost use Rattle.control_flow.specs.Calls.{AreTwo, IsExpressionArgument, IsOne};
 
 use expr_grammar::{Arg, Expr};
 
 // The expression of an argument, where it is no text.
 fn number_in(arg: &Arg) -> Option<&Expr>
-    ensures { IfSome result (λ expr. IsNumber (arg_tree arg.now) (tree expr.now)) }
+    ensures { IfSome result (λ expr. IsExpressionArgument (arg_tree arg.now) (tree expr.now)) }
 {
     match arg {
         Arg::Number(_, expr) => Some(expr),

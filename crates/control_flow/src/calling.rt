@@ -6,7 +6,7 @@ ghost use Rattle.function_table.specs.declared.function.Function.{Function};
 ghost use Rattle.seq_check.specs.Answers.{checked_trees};
 ghost use Rattle.sequence_trees.specs.Trees.{NoSteps, steps_named, steps_tree};
 ghost use Rattle.function_calls.specs.Ends.{answer_by};
-ghost use Rattle.function_calls.specs.Frame.{IsReady, RunsWriting};
+ghost use Rattle.function_calls.specs.Frame.{IsReadyToCall, RunsWriting};
 ghost use Rattle.control_flow.specs.Calls.{one_number, two_numbers};
 ghost use Rattle.control_flow.specs.Parts.{late_argument_of, late_arguments_of, late_call_of, late_function_of, late_named_of, late_sequence_of, late_value_after};
 
@@ -34,7 +34,7 @@ impl Runner<'_> {
         access: &mut A,
         sink: &mut K,
     ) -> Result<(), End>
-        requires ready { IsReady held.old.units (A.reported access.old) }
+        requires ready { IsReadyToCall held.old.units (A.reported access.old) }
         ensures { RunsWriting (late_argument_of self.now depth (arg_tree arg.now) values.old.items)
             A.cost A.begun A.reported A.identity K.written K.faults held.old access.old sink.old held.new access.new sink.new (answer_by (λ x. values.new.items) result) }
     {
@@ -56,7 +56,7 @@ impl Runner<'_> {
         access: &mut A,
         sink: &mut K,
     ) -> Result<(), End>
-        requires ready { IsReady held.old.units (A.reported access.old) }
+        requires ready { IsReadyToCall held.old.units (A.reported access.old) }
         ensures { RunsWriting (late_value_after self.now depth values.old.items (tree expr.now))
             A.cost A.begun A.reported A.identity K.written K.faults held.old access.old sink.old held.new access.new sink.new (answer_by (λ x. values.new.items) result) }
     {
@@ -79,7 +79,7 @@ impl Runner<'_> {
         access: &mut A,
         sink: &mut K,
     ) -> Result<(), End>
-        requires ready { IsReady held.old.units (A.reported access.old) }
+        requires ready { IsReadyToCall held.old.units (A.reported access.old) }
         ensures { RunsWriting (late_arguments_of self.now depth (arg_trees args.now) values.old.items)
             A.cost A.begun A.reported A.identity K.written K.faults held.old access.old sink.old held.new access.new sink.new (answer_by (λ x. values.new.items) result) }
     {
@@ -101,7 +101,7 @@ impl Runner<'_> {
         access: &mut A,
         sink: &mut K,
     ) -> Result<Value, End>
-        requires ready { IsReady held.old.units (A.reported access.old) }
+        requires ready { IsReadyToCall held.old.units (A.reported access.old) }
         ensures { RunsWriting (late_call_of self.now depth called.now.name (arg_trees args.now))
             A.cost A.begun A.reported A.identity K.written K.faults held.old access.old sink.old held.new access.new sink.new result }
     {
@@ -131,7 +131,7 @@ impl Runner<'_> {
         access: &mut A,
         sink: &mut K,
     ) -> Result<Value, End>
-        requires ready { IsReady held.old.units (A.reported access.old) }
+        requires ready { IsReadyToCall held.old.units (A.reported access.old) }
         ensures { (at : Place) → RunsWriting (late_call_of self.now depth called.now.name (one_number at (tree only.now)))
             A.cost A.begun A.reported A.identity K.written K.faults held.old access.old sink.old held.new access.new sink.new result }
     {
@@ -152,7 +152,7 @@ impl Runner<'_> {
         access: &mut A,
         sink: &mut K,
     ) -> Result<Value, End>
-        requires ready { IsReady held.old.units (A.reported access.old) }
+        requires ready { IsReadyToCall held.old.units (A.reported access.old) }
         ensures { (at later : Place) → RunsWriting (late_call_of self.now depth called.now.name (two_numbers at (tree first.now) later (tree second.now)))
             A.cost A.begun A.reported A.identity K.written K.faults held.old access.old sink.old held.new access.new sink.new result }
     {
@@ -180,7 +180,7 @@ impl Runner<'_> {
         access: &mut A,
         sink: &mut K,
     ) -> Result<Value, End>
-        requires ready { IsReady held.old.units (A.reported access.old) }
+        requires ready { IsReadyToCall held.old.units (A.reported access.old) }
         ensures { RunsWriting (late_call_of self.now depth called.now.name (arg_trees args.now))
             A.cost A.begun A.reported A.identity K.written K.faults held.old access.old sink.old held.new access.new sink.new result }
     {
@@ -206,7 +206,7 @@ impl Runner<'_> {
         access: &mut A,
         sink: &mut K,
     ) -> Result<Value, End>
-        requires ready { IsReady held.old.units (A.reported access.old) }
+        requires ready { IsReadyToCall held.old.units (A.reported access.old) }
         ensures { RunsWriting (late_function_of self.now depth function text.now numbers.now)
             A.cost A.begun A.reported A.identity K.written K.faults held.old access.old sink.old held.new access.new sink.new result }
     {
@@ -228,7 +228,7 @@ impl Runner<'_> {
         access: &mut A,
         sink: &mut K,
     ) -> Result<Value, End>
-        requires ready { IsReady held.old.units (A.reported access.old) }
+        requires ready { IsReadyToCall held.old.units (A.reported access.old) }
         ensures { RunsWriting (late_function_of self.now depth (Some Function.Sequence) name.now [])
             A.cost A.begun A.reported A.identity K.written K.faults held.old access.old sink.old held.new access.new sink.new result }
     {
@@ -247,7 +247,7 @@ impl Runner<'_> {
         access: &mut A,
         sink: &mut K,
     ) -> Result<(), End>
-        requires ready { IsReady held.old.units (A.reported access.old) }
+        requires ready { IsReadyToCall held.old.units (A.reported access.old) }
         ensures { RunsWriting (late_named_of self.now depth name.now)
             A.cost A.begun A.reported A.identity K.written K.faults held.old access.old sink.old held.new access.new sink.new result }
     {
@@ -279,7 +279,7 @@ impl Runner<'_> {
         access: &mut A,
         sink: &mut K,
     ) -> Result<(), End>
-        requires ready { IsReady held.old.units (A.reported access.old) }
+        requires ready { IsReadyToCall held.old.units (A.reported access.old) }
         ensures { RunsWriting (late_sequence_of self.now depth (steps_tree steps.now))
             A.cost A.begun A.reported A.identity K.written K.faults held.old access.old sink.old held.new access.new sink.new result }
     {

@@ -7,7 +7,7 @@ ghost use Rattle.access_calls.specs.Answers.{StopsCalls};
 ghost use Rattle.access_calls.specs.GoesOn.{IsSameButAsks};
 ghost use Rattle.access_calls.specs.Left.{IsLeft, answered_by};
 ghost use Rattle.access_calls.specs.Reported.{world_from};
-ghost use Rattle.access_calls.specs.Keeps.{Keeps};
+ghost use Rattle.access_calls.specs.Keeps.{KeepsAccess};
 ghost use Rattle.sequence_rules.specs.Direct.{Now};
 ghost use Rattle.sequence_rules.specs.Late.{Late};
 ghost use Rattle.sequence_rules.specs.Laws.{Pair};
@@ -15,10 +15,10 @@ ghost use Rattle.sequence_rules.specs.Machine.{Out};
 ghost use Rattle.sequence_rules.specs.Runs.{outcome_of, variables_of};
 ghost use Rattle.sequence_rules.specs.Shared.{bindings_of};
 ghost use Rattle.function_calls.specs.Ends.{HasEnded};
-ghost use Rattle.function_calls.specs.Held.{state_of};
-ghost use Rattle.control_flow.specs.Answers.{EndBy, EndsAs, HasNeeds, IsPart, ran};
-ghost use Rattle.control_flow.specs.Closing.{AreAsked, ComesToEnd, NoWriteFault, OutIs, numbers_in};
-ghost use Rattle.access_calls.specs.Asking.{EndsBy};
+ghost use Rattle.function_calls.specs.Held.{late_state_of};
+ghost use Rattle.control_flow.specs.Answers.{EndBy, HasNeeds, IsPartOfOutcome, RunEndsAs, ran};
+ghost use Rattle.control_flow.specs.Closing.{AreAsked, ComesToEnd, OutIs, RunHasNoWriteFault, numbers_in};
+ghost use Rattle.access_calls.specs.Asking.{EndsByStop};
 
 use access_calls::{Access, Ended, Ending, Stop};
 use dap_base::NameText;
@@ -33,10 +33,10 @@ use target_machine::{Variable, Variables};
 pub(crate) fn stop_of<A: Access>(access: &mut A) -> Stop
     requires ended { HasEnded (A.reported access.old).end }
     ensures stop { (A.reported access.old).end ≡ Some result }
-    ensures by { EndsBy result (A.reported access.new).end }
+    ensures by { EndsByStop result (A.reported access.new).end }
     ensures same { IsSameButAsks (A.reported access.old) (A.reported access.new) }
     ensures calls { (A.reported access.new).asks.calls ≡ (A.reported access.old).asks.calls }
-    ensures keeps { Keeps A.begun A.reported A.identity access.old access.new }
+    ensures keeps { KeepsAccess A.begun A.reported A.identity access.old access.new }
 {
     match access.flush() {
         Ok(()) => unreachable!(),
@@ -55,8 +55,8 @@ fn look_up<A: Access>(value: Value, access: &mut A) -> Result<u64, Stop>
     ensures stops { (m : BenchState) (answered : Option ℕ) → A.begun access.old m → IsLeft (A.reported access.new) answered
         → IfErr result (StopsCalls (world_from m answered) (A.reported access.old).asks.calls (A.reported access.new).lines) }
     ensures open { OnOk result ((A.reported access.new).end ≡ None) }
-    ensures end { IfErr result (λ s. EndsBy s (A.reported access.new).end) }
-    ensures keeps { Keeps A.begun A.reported A.identity access.old access.new }
+    ensures end { IfErr result (λ s. EndsByStop s (A.reported access.new).end) }
+    ensures keeps { KeepsAccess A.begun A.reported A.identity access.old access.new }
 {
     match value {
         Value::Number(number) => Ok(number),
@@ -79,8 +79,8 @@ fn look_up_variables<A: Access>(
     ensures stops { (m : BenchState) (answered : Option ℕ) → A.begun access.old m → IsLeft (A.reported access.new) answered
         → IfErr result (StopsCalls (world_from m answered) (A.reported access.old).asks.calls (A.reported access.new).lines) }
     ensures open { OnOk result ((A.reported access.new).end ≡ None) }
-    ensures end { IfErr result (λ s. EndsBy s (A.reported access.new).end) }
-    ensures keeps { Keeps A.begun A.reported A.identity access.old access.new }
+    ensures end { IfErr result (λ s. EndsByStop s (A.reported access.new).end) }
+    ensures keeps { KeepsAccess A.begun A.reported A.identity access.old access.new }
 {
     let mut variables = Variables::new(alloc);
     let mut index = 0;
@@ -128,19 +128,19 @@ pub(crate) fn ended_whole<A: Access>(
     requires whole { ComesToEnd ending }
     requires counted { held.now.units ≡ length (A.reported access.old).asks.calls }
     ensures answer { (m : BenchState) (written : Option (List ℕ)) (out : Out Value Late (Unit {0})) (q : Out ℕ Now (Unit {0})) → A.begun access.old m
-        → OutIs ending (state_of held.now (A.reported access.old).asks written) out → Pair (world_from m (answered_by (A.reported access.new))) out q
-        → EndsAs result.ending (A.reported access.new).lines (outcome_of q) (ran result (A.reported access.new).asks written) × HasNeeds result.ending
+        → OutIs ending (late_state_of held.now (A.reported access.old).asks written) out → Pair (world_from m (answered_by (A.reported access.new))) out q
+        → RunEndsAs result.ending (A.reported access.new).lines (outcome_of q) (ran result (A.reported access.new).asks written) × HasNeeds result.ending
         (A.reported access.new).asks out }
     ensures part { (m : BenchState) (answered : Option ℕ) (written : Option (List ℕ)) (out : Out Value Late (Unit {0})) (q : Out ℕ Now (Unit {0})) → A.begun access.old m
-        → IsLeft (A.reported access.new) answered → OutIs ending (state_of held.now (A.reported access.old).asks written) out → Pair (world_from m answered) out q
-        → (ComesToEnd result.ending → ⊥) → IsPart (outcome_of q) (ran result (A.reported access.new).asks written) }
+        → IsLeft (A.reported access.new) answered → OutIs ending (late_state_of held.now (A.reported access.old).asks written) out → Pair (world_from m answered) out q
+        → (ComesToEnd result.ending → ⊥) → IsPartOfOutcome (outcome_of q) (ran result (A.reported access.new).asks written) }
     ensures goes { (m : BenchState) (answered : Option ℕ) → A.begun access.old m → IsLeft (A.reported access.new) answered → ComesToEnd result.ending
         → stop (world_from m answered) (A.reported access.new).asks.calls ≡ None }
     ensures counted { ComesToEnd result.ending → result.units ≡ length (A.reported access.new).asks.calls }
     ensures end { EndBy result.ending (A.reported access.new).end }
-    ensures cause { NoWriteFault result.ending }
+    ensures cause { RunHasNoWriteFault result.ending }
     ensures skipped { result.skipped ≡ (A.reported access.new).skipped }
-    ensures keeps { Keeps A.begun A.reported A.identity access.old access.new }
+    ensures keeps { KeepsAccess A.begun A.reported A.identity access.old access.new }
 {
     match access.finish() {
         Ok(()) => {}

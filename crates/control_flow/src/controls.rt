@@ -2,7 +2,7 @@
 ghost use Rattle.std.specs.Prelude.{◌≤◌, Option, None, Some, option_map};
 ghost use Rattle.expr_grammar.specs.Tree.{tree};
 ghost use Rattle.sequence_trees.specs.Trees.{steps_tree};
-ghost use Rattle.function_calls.specs.Frame.{IsReady, RunsWriting};
+ghost use Rattle.function_calls.specs.Frame.{IsReadyToCall, RunsWriting};
 ghost use Rattle.control_flow.specs.Parts.{late_condition_of, late_control_of, late_inside_of, late_loop_of, late_repeat_of, late_turn_of, late_turns_of};
 
 use crate::polling::run_poll;
@@ -29,7 +29,7 @@ impl Runner<'_> {
         access: &mut A,
         sink: &mut K,
     ) -> Result<(), End>
-        requires ready { IsReady held.old.units (A.reported access.old) }
+        requires ready { IsReadyToCall held.old.units (A.reported access.old) }
         ensures { RunsWriting (late_control_of self.now depth (option_map tree cond.now) (option_map tree repeat.now) timeout (steps_tree steps.now))
             A.cost A.begun A.reported A.identity K.written K.faults held.old access.old sink.old held.new access.new sink.new result }
     {
@@ -51,7 +51,7 @@ impl Runner<'_> {
         access: &mut A,
         sink: &mut K,
     ) -> Result<bool, End>
-        requires ready { IsReady held.old.units (A.reported access.old) }
+        requires ready { IsReadyToCall held.old.units (A.reported access.old) }
         ensures { RunsWriting (late_condition_of self.now depth (option_map tree cond.now))
             A.cost A.begun A.reported A.identity K.written K.faults held.old access.old sink.old held.new access.new sink.new result }
     {
@@ -72,7 +72,7 @@ impl Runner<'_> {
         access: &mut A,
         sink: &mut K,
     ) -> Result<bool, End>
-        requires ready { IsReady held.old.units (A.reported access.old) }
+        requires ready { IsReadyToCall held.old.units (A.reported access.old) }
         ensures { RunsWriting (late_condition_of self.now depth (Some (tree expr.now)))
             A.cost A.begun A.reported A.identity K.written K.faults held.old access.old sink.old held.new access.new sink.new result }
     {
@@ -93,7 +93,7 @@ impl Runner<'_> {
         access: &mut A,
         sink: &mut K,
     ) -> Result<(), End>
-        requires ready { IsReady held.old.units (A.reported access.old) }
+        requires ready { IsReadyToCall held.old.units (A.reported access.old) }
         ensures { RunsWriting (late_repeat_of self.now depth (option_map tree repeat.now) timeout (steps_tree steps.now))
             A.cost A.begun A.reported A.identity K.written K.faults held.old access.old sink.old held.new access.new sink.new result }
     {
@@ -126,7 +126,7 @@ impl Runner<'_> {
     ) -> Result<(), End>
         requires least { 1 ≤ count }
         requires most { count ≤ 60000000 }
-        requires ready { IsReady held.old.units (A.reported access.old) }
+        requires ready { IsReadyToCall held.old.units (A.reported access.old) }
         ensures { RunsWriting (late_loop_of self.now depth (tree expr.now) count (steps_tree steps.now))
             A.cost A.begun A.reported A.identity K.written K.faults held.old access.old sink.old held.new access.new sink.new result }
     {
@@ -149,7 +149,7 @@ impl Runner<'_> {
         access: &mut A,
         sink: &mut K,
     ) -> Result<(), End>
-        requires ready { IsReady held.old.units (A.reported access.old) }
+        requires ready { IsReadyToCall held.old.units (A.reported access.old) }
         ensures { RunsWriting (late_turns_of self.now depth (tree expr.now) count (steps_tree steps.now))
             A.cost A.begun A.reported A.identity K.written K.faults held.old access.old sink.old held.new access.new sink.new result }
     {
@@ -176,7 +176,7 @@ impl Runner<'_> {
         access: &mut A,
         sink: &mut K,
     ) -> Result<bool, End>
-        requires ready { IsReady held.old.units (A.reported access.old) }
+        requires ready { IsReadyToCall held.old.units (A.reported access.old) }
         ensures { RunsWriting (late_turn_of self.now depth (tree expr.now) (steps_tree steps.now))
             A.cost A.begun A.reported A.identity K.written K.faults held.old access.old sink.old held.new access.new sink.new result }
     {
@@ -203,7 +203,7 @@ impl Runner<'_> {
         access: &mut A,
         sink: &mut K,
     ) -> Result<(), End>
-        requires ready { IsReady held.old.units (A.reported access.old) }
+        requires ready { IsReadyToCall held.old.units (A.reported access.old) }
         ensures { RunsWriting (late_inside_of self.now depth (steps_tree steps.now))
             A.cost A.begun A.reported A.identity K.written K.faults held.old access.old sink.old held.new access.new sink.new result }
     {

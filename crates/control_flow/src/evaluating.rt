@@ -1,6 +1,6 @@
 //! Whole runs of the evaluator: the debug variables, and then the sequence that a run starts with.
 ghost use Rattle.expr_grammar.specs.Tree.{code_trees, stmt_tree, tree};
-ghost use Rattle.function_calls.specs.Frame.{IsReady, RunsWriting};
+ghost use Rattle.function_calls.specs.Frame.{IsReadyToCall, RunsWriting};
 ghost use Rattle.control_flow.specs.Parts.{late_debug_of, late_debugs_of, late_definition_of, late_run_of};
 
 use crate::runner::Runner;
@@ -21,7 +21,7 @@ impl Runner<'_> {
         access: &mut A,
         sink: &mut K,
     ) -> Result<(), End>
-        requires ready { IsReady held.old.units (A.reported access.old) }
+        requires ready { IsReadyToCall held.old.units (A.reported access.old) }
         ensures { RunsWriting (late_definition_of self.now name.now (tree expr.now))
             A.cost A.begun A.reported A.identity K.written K.faults held.old access.old sink.old held.new access.new sink.new result }
     {
@@ -39,7 +39,7 @@ impl Runner<'_> {
         access: &mut A,
         sink: &mut K,
     ) -> Result<(), End>
-        requires ready { IsReady held.old.units (A.reported access.old) }
+        requires ready { IsReadyToCall held.old.units (A.reported access.old) }
         ensures { RunsWriting (late_debug_of self.now (stmt_tree one.now))
             A.cost A.begun A.reported A.identity K.written K.faults held.old access.old sink.old held.new access.new sink.new result }
     {
@@ -58,7 +58,7 @@ impl Runner<'_> {
         access: &mut A,
         sink: &mut K,
     ) -> Result<(), End>
-        requires ready { IsReady held.old.units (A.reported access.old) }
+        requires ready { IsReadyToCall held.old.units (A.reported access.old) }
         ensures { RunsWriting (late_debugs_of self.now (code_trees code.now))
             A.cost A.begun A.reported A.identity K.written K.faults held.old access.old sink.old held.new access.new sink.new result }
     {
@@ -77,7 +77,7 @@ impl Runner<'_> {
         access: &mut A,
         sink: &mut K,
     ) -> Result<(), End>
-        requires ready { IsReady held.old.units (A.reported access.old) }
+        requires ready { IsReadyToCall held.old.units (A.reported access.old) }
         ensures { RunsWriting (late_run_of self.now start.now)
             A.cost A.begun A.reported A.identity K.written K.faults held.old access.old sink.old held.new access.new sink.new result }
     {

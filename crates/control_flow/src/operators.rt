@@ -2,7 +2,7 @@
 ghost use Rattle.std.specs.Prelude.{◌≡◌, None};
 ghost use Rattle.expr_grammar.specs.Arithmetic.{truth};
 ghost use Rattle.expr_grammar.specs.Tree.{tree};
-ghost use Rattle.function_calls.specs.Frame.{IsReady, RunsWriting};
+ghost use Rattle.function_calls.specs.Frame.{IsReadyToCall, RunsWriting};
 ghost use Rattle.control_flow.specs.Parts.{late_and_of, late_binary_of, late_operands_of, late_or_of, late_strict_of, late_truth_of, late_unary_of};
 
 use crate::runner::Runner;
@@ -27,7 +27,7 @@ impl Runner<'_> {
         access: &mut A,
         sink: &mut K,
     ) -> Result<Value, End>
-        requires ready { IsReady held.old.units (A.reported access.old) }
+        requires ready { IsReadyToCall held.old.units (A.reported access.old) }
         ensures { RunsWriting (late_unary_of self.now depth op (tree operand.now))
             A.cost A.begun A.reported A.identity K.written K.faults held.old access.old sink.old held.new access.new sink.new result }
     {
@@ -48,7 +48,7 @@ impl Runner<'_> {
         access: &mut A,
         sink: &mut K,
     ) -> Result<(u64, u64), End>
-        requires ready { IsReady held.old.units (A.reported access.old) }
+        requires ready { IsReadyToCall held.old.units (A.reported access.old) }
         ensures { RunsWriting (late_operands_of self.now depth (tree left.now) (tree right.now))
             A.cost A.begun A.reported A.identity K.written K.faults held.old access.old sink.old held.new access.new sink.new result }
     {
@@ -70,7 +70,7 @@ impl Runner<'_> {
         access: &mut A,
         sink: &mut K,
     ) -> Result<Value, End>
-        requires ready { IsReady held.old.units (A.reported access.old) }
+        requires ready { IsReadyToCall held.old.units (A.reported access.old) }
         ensures { RunsWriting (late_strict_of self.now depth op (tree left.now) (tree right.now))
             A.cost A.begun A.reported A.identity K.written K.faults held.old access.old sink.old held.new access.new sink.new result }
     {
@@ -92,7 +92,7 @@ impl Runner<'_> {
         access: &mut A,
         sink: &mut K,
     ) -> Result<Value, End>
-        requires ready { IsReady held.old.units (A.reported access.old) }
+        requires ready { IsReadyToCall held.old.units (A.reported access.old) }
         ensures { RunsWriting (late_truth_of self.now depth (tree expr.now))
             A.cost A.begun A.reported A.identity K.written K.faults held.old access.old sink.old held.new access.new sink.new result }
     {
@@ -113,7 +113,7 @@ impl Runner<'_> {
         access: &mut A,
         sink: &mut K,
     ) -> Result<Value, End>
-        requires ready { IsReady held.old.units (A.reported access.old) }
+        requires ready { IsReadyToCall held.old.units (A.reported access.old) }
         ensures { RunsWriting (late_and_of self.now depth (tree left.now) (tree right.now))
             A.cost A.begun A.reported A.identity K.written K.faults held.old access.old sink.old held.new access.new sink.new result }
     {
@@ -137,7 +137,7 @@ impl Runner<'_> {
         access: &mut A,
         sink: &mut K,
     ) -> Result<Value, End>
-        requires ready { IsReady held.old.units (A.reported access.old) }
+        requires ready { IsReadyToCall held.old.units (A.reported access.old) }
         ensures { RunsWriting (late_or_of self.now depth (tree left.now) (tree right.now))
             A.cost A.begun A.reported A.identity K.written K.faults held.old access.old sink.old held.new access.new sink.new result }
     {
@@ -161,7 +161,7 @@ impl Runner<'_> {
         access: &mut A,
         sink: &mut K,
     ) -> Result<Value, End>
-        requires ready { IsReady held.old.units (A.reported access.old) }
+        requires ready { IsReadyToCall held.old.units (A.reported access.old) }
         ensures { RunsWriting (late_binary_of self.now depth op (tree left.now) (tree right.now))
             A.cost A.begun A.reported A.identity K.written K.faults held.old access.old sink.old held.new access.new sink.new result }
     {

@@ -1,7 +1,7 @@
 //! Polls of CTRL/STAT.
 ghost use Rattle.std.specs.Prelude.{◌≤◌};
 ghost use Rattle.sequence_rules.specs.Steps as st;
-ghost use Rattle.function_calls.specs.Frame.{IsReady, RunsCall};
+ghost use Rattle.function_calls.specs.Frame.{IsReadyToCall, RunsCall};
 
 use access_calls::Access;
 use function_calls::{End, Held, ask, use_debug_port};
@@ -19,7 +19,7 @@ fn run_poll_at<A: Access>(
 ) -> Result<(), End>
     requires least { 1 ≤ count }
     requires most { count ≤ 60000000 }
-    requires ready { IsReady held.old.units (A.reported access.old) }
+    requires ready { IsReadyToCall held.old.units (A.reported access.old) }
     ensures { RunsCall (λ m. st.poll_result_at m (mask, requested) count dp) A.cost A.begun A.reported A.identity held.old access.old held.new access.new result }
 {
     if dp != 0 {
@@ -45,7 +45,7 @@ pub(crate) fn run_poll<A: Access>(
 ) -> Result<(), End>
     requires least { 1 ≤ count }
     requires most { count ≤ 60000000 }
-    requires ready { IsReady held.old.units (A.reported access.old) }
+    requires ready { IsReadyToCall held.old.units (A.reported access.old) }
     ensures { RunsCall (λ m. st.poll_result m (mask, requested) count) A.cost A.begun A.reported A.identity held.old access.old held.new access.new result }
 {
     match held.count_step() {

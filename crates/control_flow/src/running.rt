@@ -7,11 +7,11 @@ ghost use Rattle.target_calls.specs.World.{stop};
 ghost use Rattle.access_calls.specs.Left.{IsLeft, answered_by};
 ghost use Rattle.access_calls.specs.Reported.{world_from};
 ghost use Rattle.access_calls.specs.declared.ended.Ending.TheVariants as ends;
-ghost use Rattle.access_calls.specs.Keeps.{Keeps};
+ghost use Rattle.access_calls.specs.Keeps.{KeepsAccess};
 ghost use Rattle.seq_check.specs.Answers.{checked_trees};
 ghost use Rattle.sequence_rules.specs.Runs.{late_meaning, meaning, outcome_of, program_of};
 ghost use Rattle.sequence_rules.specs.Known.{Knows, known_part};
-ghost use Rattle.control_flow.specs.Answers.{EndBy, EndsAs, HasLines, HasNeeds, HasSinkCause, IsPart, ran};
+ghost use Rattle.control_flow.specs.Answers.{EndBy, HasLines, HasNeeds, IsPartOfOutcome, RunEndsAs, RunHasSinkCause, ran};
 ghost use Rattle.control_flow.specs.Closing.{ComesToEnd};
 
 use crate::closing::{ended_early, ended_whole, stop_of};
@@ -49,7 +49,7 @@ pub fn run<A: Access, K: Sink>(
     requires fresh { (A.reported access.old).asks ≡ nothing_asked }
     // How it ended, what is answered, and the lines are those of what the program means in the world that is left.
     ensures answer { (m : BenchState) (known : Bool) → A.begun access.old m → Knows known (K.written sink.old)
-        → EndsAs result.ending (A.reported access.new).lines
+        → RunEndsAs result.ending (A.reported access.new).lines
         (outcome_of (meaning (world_from m (answered_by (A.reported access.new))) (program_of (checked_trees checked.now) start.now settings.now)
         (known_part known (K.written sink.old))))
         (ran result (A.reported access.new).asks (known_part known (K.written sink.new))) }
@@ -57,7 +57,8 @@ pub fn run<A: Access, K: Sink>(
     // had come when it was written.
     ensures part { (m : BenchState) (answered : Option ℕ) (known : Bool) → A.begun access.old m → IsLeft (A.reported access.new) answered → Knows known (K.written sink.old)
         → (ComesToEnd result.ending → ⊥)
-        → IsPart (outcome_of (meaning (world_from m answered) (program_of (checked_trees checked.now) start.now settings.now) (known_part known (K.written sink.old))))
+        → IsPartOfOutcome
+        (outcome_of (meaning (world_from m answered) (program_of (checked_trees checked.now) start.now settings.now) (known_part known (K.written sink.old))))
         (ran result (A.reported access.new).asks (known_part known (K.written sink.new))) }
     // What was asked has the need points of the meaning with results that come later, and one for the end.
     ensures needs { (m : BenchState) (known : Bool) → A.begun access.old m → Knows known (K.written sink.old)
@@ -72,8 +73,8 @@ pub fn run<A: Access, K: Sink>(
     ensures end { EndBy result.ending (A.reported access.new).end }
     ensures skipped { result.skipped ≡ (A.reported access.new).skipped }
     ensures lines { HasLines result.ending (K.written sink.old) (K.written sink.new) }
-    ensures cause { HasSinkCause result.ending (K.faults sink.old) (K.faults sink.new) }
-    ensures keeps { Keeps A.begun A.reported A.identity access.old access.new }
+    ensures cause { RunHasSinkCause result.ending (K.faults sink.old) (K.faults sink.new) }
+    ensures keeps { KeepsAccess A.begun A.reported A.identity access.old access.new }
 {
     let Ok(mut held) = held_at_start(alloc, checked, settings) else {
         return ended_early(alloc, Ending::OutOfMemory, 0, access.skipped());

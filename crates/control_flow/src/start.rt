@@ -11,9 +11,9 @@ ghost use Rattle.sequence_rules.specs.Runs as r;
 ghost use Rattle.sequence_rules.specs.Shared.{bindings_of};
 ghost use Rattle.sequence_rules.specs.Steps.{declared_names, start_state};
 ghost use Rattle.sequence_rules.specs.Variables.{with_all_new};
-ghost use Rattle.function_calls.specs.Held.{state_of};
+ghost use Rattle.function_calls.specs.Held.{late_state_of};
 ghost use Rattle.sequence_rules.specs.Runs.{variables_of};
-ghost use Rattle.control_flow.specs.Closing.{as_values};
+ghost use Rattle.control_flow.specs.Closing.{bindings_as_values};
 
 use dap_base::OutOfMemory;
 use expr_grammar::Stmt;
@@ -27,7 +27,7 @@ use target_machine::{Settings, Variable};
 // The predefined variables with their starting values.
 fn make_globals(alloc: Global, start: &[Variable]) -> Result<Globals<Value>, OutOfMemory>
     requires { map (λ variable. variable.name) start.now ≡ predefined }
-    ensures { IfOk result (λ globals. bindings_of globals ≡ as_values (variables_of start.now)) }
+    ensures { IfOk result (λ globals. bindings_of globals ≡ bindings_as_values (variables_of start.now)) }
 {
     let mut globals = Globals::new(alloc);
     for variable in start {
@@ -67,7 +67,7 @@ pub(crate) fn held_at_start(
     settings: &Settings,
 ) -> Result<Held, OutOfMemory>
     requires { map (λ variable. variable.name) settings.now.start ≡ predefined }
-    ensures state { (cost : Costs) (w : World) (written : Option (List ℕ)) → IfOk result (λ held. state_of held nothing_asked written
+    ensures state { (cost : Costs) (w : World) (written : Option (List ℕ)) → IfOk result (λ held. late_state_of held nothing_asked written
         ≡ start_state (late cost w) settings.now.turn_us (checked_trees checked.now) (r.as_values (late cost w) (variables_of settings.now.start))
         (late_of nothing_asked written)) }
     ensures units { IfOk result (λ held. held.units ≡ 0) }

@@ -1,7 +1,7 @@
 //! Steps and statements.
 ghost use Rattle.expr_grammar.specs.Tree.{code_trees, stmt_tree, tree};
 ghost use Rattle.sequence_trees.specs.Trees.{step_tree, steps_tree};
-ghost use Rattle.function_calls.specs.Frame.{IsReady, RunsWriting};
+ghost use Rattle.function_calls.specs.Frame.{IsReadyToCall, RunsWriting};
 ghost use Rattle.control_flow.specs.Parts.{late_block_of, late_declaration_of, late_plain_of, late_statement_of, late_step_of, late_steps_of};
 
 use crate::runner::Runner;
@@ -23,7 +23,7 @@ impl Runner<'_> {
         access: &mut A,
         sink: &mut K,
     ) -> Result<(), End>
-        requires ready { IsReady held.old.units (A.reported access.old) }
+        requires ready { IsReadyToCall held.old.units (A.reported access.old) }
         ensures { RunsWriting (late_steps_of self.now depth (steps_tree steps.now))
             A.cost A.begun A.reported A.identity K.written K.faults held.old access.old sink.old held.new access.new sink.new result }
     {
@@ -44,7 +44,7 @@ impl Runner<'_> {
         access: &mut A,
         sink: &mut K,
     ) -> Result<(), End>
-        requires ready { IsReady held.old.units (A.reported access.old) }
+        requires ready { IsReadyToCall held.old.units (A.reported access.old) }
         ensures { RunsWriting (late_step_of self.now depth (step_tree one.now))
             A.cost A.begun A.reported A.identity K.written K.faults held.old access.old sink.old held.new access.new sink.new result }
     {
@@ -79,7 +79,7 @@ impl Runner<'_> {
         access: &mut A,
         sink: &mut K,
     ) -> Result<(), End>
-        requires ready { IsReady held.old.units (A.reported access.old) }
+        requires ready { IsReadyToCall held.old.units (A.reported access.old) }
         ensures { RunsWriting (late_block_of self.now depth (code_trees code.now))
             A.cost A.begun A.reported A.identity K.written K.faults held.old access.old sink.old held.new access.new sink.new result }
     {
@@ -100,7 +100,7 @@ impl Runner<'_> {
         access: &mut A,
         sink: &mut K,
     ) -> Result<(), End>
-        requires ready { IsReady held.old.units (A.reported access.old) }
+        requires ready { IsReadyToCall held.old.units (A.reported access.old) }
         ensures { RunsWriting (late_statement_of self.now depth (stmt_tree one.now))
             A.cost A.begun A.reported A.identity K.written K.faults held.old access.old sink.old held.new access.new sink.new result }
     {
@@ -126,7 +126,7 @@ impl Runner<'_> {
         access: &mut A,
         sink: &mut K,
     ) -> Result<(), End>
-        requires ready { IsReady held.old.units (A.reported access.old) }
+        requires ready { IsReadyToCall held.old.units (A.reported access.old) }
         ensures { RunsWriting (late_declaration_of self.now depth name.now (tree expr.now))
             A.cost A.begun A.reported A.identity K.written K.faults held.old access.old sink.old held.new access.new sink.new result }
     {
@@ -152,7 +152,7 @@ impl Runner<'_> {
         access: &mut A,
         sink: &mut K,
     ) -> Result<(), End>
-        requires ready { IsReady held.old.units (A.reported access.old) }
+        requires ready { IsReadyToCall held.old.units (A.reported access.old) }
         ensures { RunsWriting (late_plain_of self.now depth (tree expr.now))
             A.cost A.begun A.reported A.identity K.written K.faults held.old access.old sink.old held.new access.new sink.new result }
     {

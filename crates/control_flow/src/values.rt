@@ -1,6 +1,6 @@
 //! The values of expressions.
 ghost use Rattle.expr_grammar.specs.Tree.{tree};
-ghost use Rattle.function_calls.specs.Frame.{IsReady, RunsWriting};
+ghost use Rattle.function_calls.specs.Frame.{IsReadyToCall, RunsWriting};
 ghost use Rattle.control_flow.specs.Parts.{late_assignment_of, late_choice_of, late_number_of, late_value_of};
 
 use crate::runner::Runner;
@@ -22,7 +22,7 @@ impl Runner<'_> {
         access: &mut A,
         sink: &mut K,
     ) -> Result<Value, End>
-        requires ready { IsReady held.old.units (A.reported access.old) }
+        requires ready { IsReadyToCall held.old.units (A.reported access.old) }
         ensures { RunsWriting (late_value_of self.now depth (tree expr.now))
             A.cost A.begun A.reported A.identity K.written K.faults held.old access.old sink.old held.new access.new sink.new result }
     {
@@ -63,7 +63,7 @@ impl Runner<'_> {
         access: &mut A,
         sink: &mut K,
     ) -> Result<Value, End>
-        requires ready { IsReady held.old.units (A.reported access.old) }
+        requires ready { IsReadyToCall held.old.units (A.reported access.old) }
         ensures { RunsWriting (late_value_of self.now depth (tree expr.now))
             A.cost A.begun A.reported A.identity K.written K.faults held.old access.old sink.old held.new access.new sink.new result }
     {
@@ -85,7 +85,7 @@ impl Runner<'_> {
         access: &mut A,
         sink: &mut K,
     ) -> Result<u64, End>
-        requires ready { IsReady held.old.units (A.reported access.old) }
+        requires ready { IsReadyToCall held.old.units (A.reported access.old) }
         ensures { RunsWriting (late_number_of self.now depth (tree expr.now))
             A.cost A.begun A.reported A.identity K.written K.faults held.old access.old sink.old held.new access.new sink.new result }
     {
@@ -107,7 +107,7 @@ impl Runner<'_> {
         access: &mut A,
         sink: &mut K,
     ) -> Result<Value, End>
-        requires ready { IsReady held.old.units (A.reported access.old) }
+        requires ready { IsReadyToCall held.old.units (A.reported access.old) }
         ensures { RunsWriting (late_choice_of self.now depth (tree test.now) (tree first.now) (tree second.now))
             A.cost A.begun A.reported A.identity K.written K.faults held.old access.old sink.old held.new access.new sink.new result }
     {
@@ -132,7 +132,7 @@ impl Runner<'_> {
         access: &mut A,
         sink: &mut K,
     ) -> Result<Value, End>
-        requires ready { IsReady held.old.units (A.reported access.old) }
+        requires ready { IsReadyToCall held.old.units (A.reported access.old) }
         ensures { RunsWriting (late_assignment_of self.now depth name.now (tree right.now))
             A.cost A.begun A.reported A.identity K.written K.faults held.old access.old sink.old held.new access.new sink.new result }
     {

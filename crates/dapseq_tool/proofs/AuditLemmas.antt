@@ -25,7 +25,7 @@ use Rattle.job_text.specs.Ranges.{AreEntryTexts}
 use Rattle.job_text.proofs.SettingLaws.{trace_entries}
 use Rattle.job_check.proofs.OneAnswer.{job_and_none, one_job, one_no_job}
 use Rattle.job_check.proofs.SomeJob.{job_or_none}
-use Rattle.dapseq_tool.specs.Audit.{AsksOfAudit, HasEntries, IsAccepted, IsAuditAnswer, IsAuditOf, IsWrongTrace, accepted, described, no_trace, not_described, wrong}
+use Rattle.dapseq_tool.specs.Audit.{AsksOfAudit, HasEntries, IsAuditAnswer, IsAuditOf, IsWrongTrace, TraceIsAccepted, accepted, described, no_trace, not_described, wrong}
 use Rattle.dapseq_tool.specs.declared.asking.Answer.{Answer}
 use Rattle.dapseq_tool.specs.declared.asking.Answer.TheVariants as answers
 use Rattle.dapseq_tool.specs.declared.asking.What.{What}
@@ -66,7 +66,7 @@ made a probe packets replies p q r =
 pub one_audited : (first : ProbeState) (es : List Entry) (a b : Audited) → IsAudited first es a → IsAudited first es b → a ≡ b
 one_audited first es a b p q = made a b.probe b.packets b.replies (one_end first a.probe b.probe es p.run q.run) (p.packets ∙ sym q.packets) (p.replies ∙ sym q.replies)
 
-one_accepted : (job : Job) (a b : Audit) → IsAccepted job a → IsAccepted job b → a ≡ b
+one_accepted : (job : Job) (a b : Audit) → TraceIsAccepted job a → TraceIsAccepted job b → a ≡ b
 one_accepted job a b p q =
     let es = same_entries job p.es q.es p.entries q.entries in
     let audited = one_audited (fresh_probe job.bench) q.es a.audited b.audited (subst (λ (l : List Entry). IsAudited (fresh_probe job.bench) l a.audited) es p.run) q.run in
@@ -77,7 +77,7 @@ one_wrong job x y p q =
     let es = same_entries job p.es q.es p.entries q.entries in
     one_fault (fresh_probe job.bench) q.es x y (subst (λ (l : List Entry). IsFirstWrong (fresh_probe job.bench) l x) es p.wrong) q.wrong
 
-pub accepted_or_wrong : (job : Job) (a : Audit) (fault : AuditFault) → IsAccepted job a → IsWrongTrace job fault → ⊥
+pub accepted_or_wrong : (job : Job) (a : Audit) (fault : AuditFault) → TraceIsAccepted job a → IsWrongTrace job fault → ⊥
 accepted_or_wrong job a fault p q =
     let es = same_entries job q.es p.es q.entries p.entries in
     no_run (fresh_probe job.bench) a.audited.probe p.es fault (subst (λ (l : List Entry). IsFirstWrong (fresh_probe job.bench) l fault) es q.wrong) p.run.run

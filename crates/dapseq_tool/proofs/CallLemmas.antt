@@ -8,8 +8,8 @@ use Rattle.text_lines.proofs.PutLemmas.{prefix_first, put_after}
 use Rattle.text_lines.specs.declared.putting.TextError.{TextError}
 use Rattle.text_lines.specs.declared.putting.TextError.TheVariants as errors
 use Rattle.dapseq_tool.specs.Answers.{answer_status, answer_text, head_text}
-use Rattle.dapseq_tool.specs.Asked.{Asks}
-use Rattle.dapseq_tool.specs.Headline.{Call, Does, DoesWhat, FailsPutting, IsPut, Runs, after_of, does, not_headed, not_loaded, ran}
+use Rattle.dapseq_tool.specs.Asked.{AsksForRequest}
+use Rattle.dapseq_tool.specs.Headline.{BenchCall, DoesWhat, DoesWithBench, FailsPutting, IsPut, Runs, after_of, does, not_headed, not_loaded, ran}
 use Rattle.job_source.specs.Source.{AreBytesOf}
 use Rattle.dapseq_tool.specs.RunEnds as after
 use Rattle.dapseq_tool.specs.RunEnds.{AskedRun, DoesAfter}
@@ -31,7 +31,7 @@ then_put old mid new first second own end put (inr h) = inr (h.0, put_after {E =
 -- ---- what is asked for
 
 -- after the first line
-pub what_is_done : (access : AccessKind) (call : Call) (unchanged : Type 0) (number : Option ℕ) (what : What) (old : Seen) (mid : Option (List ℕ))
+pub what_is_done : (access : AccessKind) (call : BenchCall) (unchanged : Type 0) (number : Option ℕ) (what : What) (old : Seen) (mid : Option (List ℕ))
     → old ≡ record { reported = call.old.reported; state = call.old.state } → Appends call.old.written mid (head_text number)
     → DoesAfter access what old unchanged mid (after_of call.new call.end) → DoesWhat access call unchanged number what
 what_is_done access call unchanged number (whats.Answer answer) old mid is head h =
@@ -46,12 +46,12 @@ what_is_done access call unchanged number (whats.Run run) old mid is head h =
     ]
 
 -- where the first line is not written whole
-pub what_is_begun : (access : AccessKind) (call : Call) (unchanged : Type 0) (number : Option ℕ) (what : What) → IsSome number → FailsPutting call.end
+pub what_is_begun : (access : AccessKind) (call : BenchCall) (unchanged : Type 0) (number : Option ℕ) (what : What) → IsSome number → FailsPutting call.end
     → AppendsPrefix call.old.written call.new.written (head_text number) → unchanged → DoesWhat access call unchanged number what
 what_is_begun access call unchanged number (whats.Answer answer) some fails part same =
     record { text = inr (fails, prefix_first call.old.written call.new.written (head_text number) (answer_text answer) part); bench = same }
 what_is_begun access call unchanged number (whats.Run run) some fails part same = not_headed some fails part same
 
-pub is_done : (access : AccessKind) (call : Call) (unchanged : Type 0) (asked : Requested) → ((bytes : List ℕ) × AreBytesOf call.old.left bytes × Asks call.words bytes asked)
-    → DoesWhat access call unchanged asked.number asked.what → Does access call unchanged
+pub is_done : (access : AccessKind) (call : BenchCall) (unchanged : Type 0) (asked : Requested) → ((bytes : List ℕ) × AreBytesOf call.old.left bytes × AsksForRequest call.words bytes asked)
+    → DoesWhat access call unchanged asked.number asked.what → DoesWithBench access call unchanged
 is_done access call unchanged asked known done = does known.0 asked known.1 known.2 done

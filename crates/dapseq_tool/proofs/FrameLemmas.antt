@@ -11,11 +11,11 @@ use Rattle.job_check.specs.declared.answer.Refusal.{Refusal}
 use Rattle.sequence_resolve.specs.declared.entry.SeqSet.{SeqSet}
 use Rattle.job_runs.specs.Runs.{AccessKind}
 use Rattle.dapseq_tool.specs.Answers.{IsAnswerStatus, IsRunStatus, answer_status, failed_status}
-use Rattle.dapseq_tool.specs.Asked.{IsReadLine, IsRunLine, IsSound, IsSoundAnswer, IsSoundRun, IsSoundWhat, IsUsage, OnRun}
+use Rattle.dapseq_tool.specs.Asked.{IsNoCommand, IsReadLine, IsRunLine, IsSoundAnswer, IsSoundRequest, IsSoundRun, IsSoundWhat, OnRun}
 use Rattle.dapseq_tool.specs.Frame as frame
-use Rattle.dapseq_tool.specs.Frame.{CountsBench, CountsSink, IsAsked, IsFit, IsFinished, IsFramed, IsFulfilled, IsStatusFor, IsUnasked, known, memory, performed, source, unknown}
+use Rattle.dapseq_tool.specs.Frame.{CountsBench, CountsSink, RequestIsAsked, IsFit, RequestIsFinished, IsFramed, IsFulfilled, IsStatusFor, IsUnasked, known, memory, performed, source, unknown}
 use Rattle.dapseq_tool.proofs.CallLemmas.{is_done, what_is_begun, what_is_done}
-use Rattle.dapseq_tool.specs.Headline.{After, Call, Does, FailsPutting, FailsWriting, IsPut, after_of, no_memory, unread}
+use Rattle.dapseq_tool.specs.Headline.{After, BenchCall, DoesWithBench, FailsPutting, FailsWriting, IsPut, after_of, no_memory, unread}
 use Rattle.job_source.specs.Source.{AreTaken}
 use Rattle.dapseq_tool.specs.RunEnds.{DoesAfter}
 use Rattle.dapseq_tool.specs.declared.asking.Answer.{Answer}
@@ -196,7 +196,7 @@ module _ (runs : Type 0) where
   unfolding IsSoundAnswer
   fit_too_long = fit_answer answers.TooLong tt (λ is. cc is)
 
-pub plain : (a : Answer) → IsSoundAnswer a → IsSound (whats.Answer a)
+pub plain : (a : Answer) → IsSoundAnswer a → IsSoundRequest (whats.Answer a)
 unfolding IsSoundWhat
 plain a sound = record { so = sound }
 
@@ -211,23 +211,23 @@ pub all_fit_so : {E : Type 0} (p q : Type 0) → (p → q) → (r : Result What 
 all_fit_so p q so (Ok what) h = fit_so p q so what h
 all_fit_so p q so (Err e) h = tt
 
-sound_answer : (a : Answer) → IsSound (whats.Answer a) → IsSoundAnswer a
+sound_answer : (a : Answer) → IsSoundRequest (whats.Answer a) → IsSoundAnswer a
 unfolding IsSoundWhat
 sound_answer a h = h.so
 
-sound_run : (run : Run) → IsSound (whats.Run run) → IsSoundRun run
+sound_run : (run : Run) → IsSoundRequest (whats.Run run) → IsSoundRun run
 unfolding IsSoundWhat
 sound_run run h = h.so
 
-pub sound_by_answer : (what : What) (a : Answer) → what ≡ whats.Answer a → IsSound what → IsSoundAnswer a
-sound_by_answer what a is h = sound_answer a (subst IsSound is h)
+pub sound_by_answer : (what : What) (a : Answer) → what ≡ whats.Answer a → IsSoundRequest what → IsSoundAnswer a
+sound_by_answer what a is h = sound_answer a (subst IsSoundRequest is h)
 
-pub sound_by_run : (what : What) (run : Run) → what ≡ whats.Run run → IsSound what → IsSoundRun run
-sound_by_run what run is h = sound_run run (subst IsSound is h)
+pub sound_by_run : (what : What) (run : Run) → what ≡ whats.Run run → IsSoundRequest what → IsSoundRun run
+sound_by_run what run is h = sound_run run (subst IsSoundRequest is h)
 
 -- ---- a whole call
 
-module _ (call : Call) (untaken unchanged : Type 0) where
+module _ (call : BenchCall) (untaken unchanged : Type 0) where
   -- The bench is the one that it was, the source did not fail, and a line was not written whole, or memory was refused.
   pub framed_failed : FailsPutting call.end → ((IsReadLine call.words → ⊥) → untaken)
       → (IsReadLine call.words → call.end ≢ status.OutOfMemory → AreTaken call.old.left call.new.left) → unchanged
@@ -279,7 +279,7 @@ module _ (call : Call) (untaken unchanged : Type 0) where
   kept_unless P (inr so) none = absurd (none so)
 
   -- what is asked for was done
-  pub framed_done : (access : AccessKind) (asked : Requested) (old : Seen) (before : Option (List ℕ)) (after : After) → IsAsked call.words call.old.left asked
+  pub framed_done : (access : AccessKind) (asked : Requested) (old : Seen) (before : Option (List ℕ)) (after : After) → RequestIsAsked call.words call.old.left asked
       → ((IsReadLine call.words → ⊥) → untaken) → (IsReadLine call.words → AreTaken call.old.left call.new.left) → DoesAfter access asked.what old unchanged before after
       → IsStatusFor asked.what call.end → call.new.source_faults ≡ call.old.source_faults → CountsSink call.old.sink_faults call.new.sink_faults call.end
       → CountsBench call.old.reported.faults call.new.reported.faults call.end → IsFramed call untaken unchanged
@@ -311,16 +311,16 @@ no_bench_unasked end before now s n h = elim h [
     unread_no_bench s (inl e) is = let z : status.ReadFault ≡ status.BenchFault = sym e ∙ is in cc
     unread_no_bench s (inr e) is = let z : status.WriteFault ≡ status.BenchFault = sym e ∙ is in cc
 
-module _ (access : AccessKind) (call : Call) (untaken unchanged : Type 0) where
-  pub fulfilled : (asked : Requested) → IsAsked call.words call.old.left asked
-      → IsFulfilled access asked (record { reported = call.old.reported; state = call.old.state }) unchanged call.old.written (after_of call.new call.end) → Does access call unchanged
+module _ (access : AccessKind) (call : BenchCall) (untaken unchanged : Type 0) where
+  pub fulfilled : (asked : Requested) → RequestIsAsked call.words call.old.left asked
+      → IsFulfilled access asked (record { reported = call.old.reported; state = call.old.state }) unchanged call.old.written (after_of call.new call.end) → DoesWithBench access call unchanged
   fulfilled asked is h = elim h [
     | performed mid head done status_is ↦ is_done access call unchanged asked is.asks
         (what_is_done access call unchanged asked.number asked.what (record { reported = call.old.reported; state = call.old.state }) mid refl head done)
     | frame.not_headed some fails part same ↦ is_done access call unchanged asked is.asks (what_is_begun access call unchanged asked.number asked.what some fails part same)
   ]
 
-  pub fulfilled_framed : (asked : Requested) → IsAsked call.words call.old.left asked
+  pub fulfilled_framed : (asked : Requested) → RequestIsAsked call.words call.old.left asked
       → ((IsReadLine call.words → ⊥) → untaken) → (IsReadLine call.words → AreTaken call.old.left call.new.left)
       → call.new.source_faults ≡ call.old.source_faults → CountsSink call.old.sink_faults call.new.sink_faults call.end
       → CountsBench call.old.reported.faults call.new.reported.faults call.end
@@ -332,7 +332,7 @@ module _ (access : AccessKind) (call : Call) (untaken unchanged : Type 0) where
   ]
 
   pub unasked_done : {T : Type 0} (end : Unasked) → NamesFault {T = T} unasked.ReadFault call.old.source_faults call.new.source_faults (Err end) → unchanged
-      → IsUnasked end call.old.written call.new.written call.end → Does access call unchanged
+      → IsUnasked end call.old.written call.new.written call.end → DoesWithBench access call unchanged
   unasked_done end names same h = elim h [
     | memory is done nothing ↦ no_memory done nothing same
     | source is put ends ↦ unread (names.failed (ap Err is)) put same
@@ -349,10 +349,10 @@ module _ (access : AccessKind) (call : Call) (untaken unchanged : Type 0) where
   ]
 
   -- the words and the source, as they were read
-  module _ (r : Result Requested Unasked) (asks : IfOk r (IsAsked call.words call.old.left)) (names : NamesFault unasked.ReadFault call.old.source_faults call.new.source_faults r) where
-    pub finished : IsFinished access r (record { reported = call.old.reported; state = call.old.state }) unchanged call.old.written (after_of call.new call.end) → Does access call unchanged
+  module _ (r : Result Requested Unasked) (asks : IfOk r (RequestIsAsked call.words call.old.left)) (names : NamesFault unasked.ReadFault call.old.source_faults call.new.source_faults r) where
+    pub finished : RequestIsFinished access r (record { reported = call.old.reported; state = call.old.state }) unchanged call.old.written (after_of call.new call.end) → DoesWithBench access call unchanged
     finished h = elim h [
-      | known x is done ↦ fulfilled x (subst (λ (q : Result Requested Unasked). IfOk q (IsAsked call.words call.old.left)) is asks) done
+      | known x is done ↦ fulfilled x (subst (λ (q : Result Requested Unasked). IfOk q (RequestIsAsked call.words call.old.left)) is asks) done
       | unknown end is done same ↦
           unasked_done {T = Requested} end (subst (λ (q : Result Requested Unasked). NamesFault unasked.ReadFault call.old.source_faults call.new.source_faults q) is names) same done
     ]
@@ -360,10 +360,10 @@ module _ (access : AccessKind) (call : Call) (untaken unchanged : Type 0) where
     pub finished_framed : ((IsReadLine call.words → ⊥) → untaken) → OnOk r (IsReadLine call.words → AreTaken call.old.left call.new.left)
         → (IsErrOf r unasked.ReadFault → IsReadLine call.words) → CountsSink call.old.sink_faults call.new.sink_faults call.end
         → CountsBench call.old.reported.faults call.new.reported.faults call.end
-        → IsFinished access r (record { reported = call.old.reported; state = call.old.state }) unchanged call.old.written (after_of call.new call.end) → IsFramed call untaken unchanged
+        → RequestIsFinished access r (record { reported = call.old.reported; state = call.old.state }) unchanged call.old.written (after_of call.new call.end) → IsFramed call untaken unchanged
     finished_framed unread_by taken fault sink bench h = elim h [
       | known x is done ↦
-          fulfilled_framed x (subst (λ (q : Result Requested Unasked). IfOk q (IsAsked call.words call.old.left)) is asks) unread_by
+          fulfilled_framed x (subst (λ (q : Result Requested Unasked). IfOk q (RequestIsAsked call.words call.old.left)) is asks) unread_by
           (subst (λ (q : Result Requested Unasked). OnOk q (IsReadLine call.words → AreTaken call.old.left call.new.left)) is taken)
           (subst (λ (q : Result Requested Unasked). NamesFault unasked.ReadFault call.old.source_faults call.new.source_faults q) is names).else sink bench done
       | unknown end is done same ↦
@@ -371,15 +371,15 @@ module _ (access : AccessKind) (call : Call) (untaken unchanged : Type 0) where
           (λ failed. fault (is ∙ ap Err failed)) same sink bench done
     ]
 
-pub sound_asked : {E : Type 0} (words : List (List ℕ)) (left : Option (List ℕ)) (r : Result Requested E) → IfOk r (IsAsked words left) → IfOk r (λ asked. IsSound asked.what)
+pub sound_asked : {E : Type 0} (words : List (List ℕ)) (left : Option (List ℕ)) (r : Result Requested E) → IfOk r (RequestIsAsked words left) → IfOk r (λ asked. IsSoundRequest asked.what)
 sound_asked words left (Ok asked) h = h.sound
 sound_asked words left (Err e) h = tt
 
-pub sound_by : (r : Result Requested Unasked) (x : Requested) → r ≡ Ok x → IfOk r (λ asked. IsSound asked.what) → IsSound x.what
-sound_by r x is h = subst (λ (q : Result Requested Unasked). IfOk q (λ asked. IsSound asked.what)) is h
+pub sound_by : (r : Result Requested Unasked) (x : Requested) → r ≡ Ok x → IfOk r (λ asked. IsSoundRequest asked.what) → IsSoundRequest x.what
+sound_by r x is h = subst (λ (q : Result Requested Unasked). IfOk q (λ asked. IsSoundRequest asked.what)) is h
 
 -- a bench that is the one that it was in other words
-pub framed_so : (call : Call) (untaken u v : Type 0) → (u → v) → IsFramed call untaken u → IsFramed call untaken v
+pub framed_so : (call : BenchCall) (untaken u v : Type 0) → (u → v) → IsFramed call untaken u → IsFramed call untaken v
 framed_so call untaken u v so h = record {
   usage = h.usage;
   usage_only = h.usage_only;

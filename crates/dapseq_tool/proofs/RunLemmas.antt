@@ -16,7 +16,7 @@ use Rattle.report_lines.specs.declared.put.TextEnd.TheVariants as texts
 use Rattle.job_runs.specs.Ends.{HasBenchCause, HasGotResponse}
 use Rattle.access_calls.specs.Opening.{HasBadReply}
 use Rattle.dapseq_tool.specs.Answers.{IsRunStatus, close_status, run_status, status_after, text_status}
-use Rattle.control_flow.specs.Answers.{HasSinkCause}
+use Rattle.control_flow.specs.Answers.{RunHasSinkCause}
 use Rattle.probe_core.specs.Loads.{HasLoadCause}
 use Rattle.probe_core.specs.declared.interface.LoadError.{LoadError}
 use Rattle.probe_core.specs.declared.interface.LoadError.TheVariants as loads
@@ -29,7 +29,7 @@ use Rattle.sequels.specs.declared.close.Close.TheVariants as closes
 use Rattle.task_runs.specs.Tasks.{ClosesAs, sequel_of}
 use Rattle.task_runs.specs.declared.followed.Followed.{Followed}
 use Rattle.task_runs.specs.declared.followed.Followed.TheVariants as follows
-use Rattle.dapseq_tool.specs.Headline.{BeginsWith, FailsPutting, FailsWriting, IsPut, IsWritten}
+use Rattle.dapseq_tool.specs.Headline.{FailsPutting, FailsWriting, IsPut, IsWritten, WritesFirst}
 use Rattle.dapseq_tool.specs.declared.status.Status.{Status}
 use Rattle.dapseq_tool.specs.declared.status.Status.TheVariants as status
 
@@ -66,7 +66,7 @@ text_written (Err t) ending close mid new text end is put = inr (subst FailsWrit
 
 -- the same of lines that come first
 pub first_written : (w : W) (ending : Ending) (close : Close) (mid new : Option (List ℕ)) (lines : List ℕ) (end : Status) → end ≡ status_after w ending close → PutsFirst lines mid new w
-    → BeginsWith mid new lines (run_status ending close) end
+    → WritesFirst mid new lines (run_status ending close) end
 first_written w ending close mid new lines end is first = record { rest = first.rest; text = text_written w ending close mid new (lines ++ first.rest) end is first.puts }
 
 -- the same of a text that no bench is asked for
@@ -129,7 +129,7 @@ then_rose : (a b c : ℕ) → Rose a b ⊎ (b ≡ a) → Rose b c → Rose a c
 then_rose a b c (inl first) second = rose_after a b c first second
 then_rose a b c (inr is) second = rose_here a b c is second
 
-sink_in_run : (ending : Ending) (a b : ℕ) → HasSinkCause ending a b → (Rose a b × (ending ≡ e.WriteFault)) ⊎ (b ≡ a)
+sink_in_run : (ending : Ending) (a b : ℕ) → RunHasSinkCause ending a b → (Rose a b × (ending ≡ e.WriteFault)) ⊎ (b ≡ a)
 sink_in_run e.Done a b h = inr h
 sink_in_run (e.Halted cause) a b h = inr h
 sink_in_run (e.Cut report) a b h = inr h
@@ -145,7 +145,7 @@ close_writes (closes.Differs address wanted found) is = cc is
 close_writes closes.Scanned is = cc is
 close_writes closes.Full is = cc is
 
-sink_by_run : (ending : Ending) (close : Close) (a b : ℕ) → run_status ending close ≡ status.WriteFault → HasSinkCause ending a b → Rose a b
+sink_by_run : (ending : Ending) (close : Close) (a b : ℕ) → run_status ending close ≡ status.WriteFault → RunHasSinkCause ending a b → Rose a b
 sink_by_run e.Done close a b is h = absurd (close_writes close is)
 sink_by_run (e.Halted cause) close a b is h = absurd (cc is)
 sink_by_run (e.Cut report) close a b is h = absurd (cc is)
@@ -159,10 +159,10 @@ sink_by_text texts.BenchFault is = absurd (cc is)
 sink_by_text texts.WriteFault is = refl
 sink_by_text texts.OutOfMemory is = absurd (cc is)
 
-rose_or_same : (ending : Ending) (a b : ℕ) → HasSinkCause ending a b → Rose a b ⊎ (b ≡ a)
+rose_or_same : (ending : Ending) (a b : ℕ) → RunHasSinkCause ending a b → Rose a b ⊎ (b ≡ a)
 rose_or_same ending a b h = elim (sink_in_run ending a b h) [ inl x ↦ inl x.0 | inr same ↦ inr same ]
 
-sink_cause : (w : W) (ending : Ending) (close : Close) (end : Status) (a b c : ℕ) → end ≡ status_after w ending close → HasSinkCause ending a b → NamesFault texts.WriteFault b c w
+sink_cause : (w : W) (ending : Ending) (close : Close) (end : Status) (a b c : ℕ) → end ≡ status_after w ending close → RunHasSinkCause ending a b → NamesFault texts.WriteFault b c w
     → end ≡ status.WriteFault → Rose a c
 sink_cause (Ok u) ending close end a b c is in_run in_text fault = rose_on a b c (sink_by_run ending close a b (sym is ∙ fault) in_run) in_text.else
 sink_cause (Err t) ending close end a b c is in_run in_text fault =
@@ -172,7 +172,7 @@ counted_by_text : (w : W) (ending : Ending) (close : Close) (end : Status) (a b 
 counted_by_text (Ok u) ending close end a b c is same in_text = inl (in_text.else ∙ same)
 counted_by_text (Err t) ending close end a b c is same in_text = elim in_text.else [ inl fault ↦ inr (is ∙ ap text_status fault) | inr quiet ↦ inl (quiet ∙ same) ]
 
-sink_counted : (w : W) (ending : Ending) (close : Close) (end : Status) (a b c : ℕ) → end ≡ status_after w ending close → (has_report ending ≡ false → w ≡ Ok tt) → HasSinkCause ending a b
+sink_counted : (w : W) (ending : Ending) (close : Close) (end : Status) (a b c : ℕ) → end ≡ status_after w ending close → (has_report ending ≡ false → w ≡ Ok tt) → RunHasSinkCause ending a b
     → NamesFault texts.WriteFault b c w → (c ≡ a) ⊎ (end ≡ status.WriteFault)
 sink_counted w ending close end a b c is silent in_run in_text = elim (sink_in_run ending a b in_run) [
   | inl x ↦
@@ -182,7 +182,7 @@ sink_counted w ending close end a b c is silent in_run in_text = elim (sink_in_r
 ]
 
 -- a run and its text count the faults of the sink
-pub counts_sink : (w : W) (ending : Ending) (close : Close) (end : Status) (a b c : ℕ) → end ≡ status_after w ending close → (has_report ending ≡ false → w ≡ Ok tt) → HasSinkCause ending a b
+pub counts_sink : (w : W) (ending : Ending) (close : Close) (end : Status) (a b c : ℕ) → end ≡ status_after w ending close → (has_report ending ≡ false → w ≡ Ok tt) → RunHasSinkCause ending a b
     → NamesFault texts.WriteFault b c w → CountsSink a c end
 counts_sink w ending close end a b c is silent in_run in_text = record {
   cause = sink_cause w ending close end a b c is in_run in_text;

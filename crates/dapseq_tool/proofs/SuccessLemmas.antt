@@ -13,8 +13,8 @@ use Rattle.job_runs.proofs.MeantLemmas.{ends_as_meant}
 use Rattle.sequels.specs.declared.close.Close.{Close}
 use Rattle.dapseq_tool.proofs.RunLemmas.{put_written, putting_fails}
 use Rattle.dapseq_tool.specs.Answers.{answer_status, answer_text, head_text, run_status}
-use Rattle.dapseq_tool.specs.Headline.{After, Answers, Call, Does, DoesWhat, FailsWriting, HasRun, IsRunTo, IsWritten, RunEnd, Runs, after_of, does, no_memory, not_headed, not_loaded, ran, unread}
-use Rattle.dapseq_tool.specs.Success.{HasCauses, HasRunAsMeant, IsAnswered, IsDone, IsQuietCall, Success, left_by, run_from}
+use Rattle.dapseq_tool.specs.Headline.{After, BenchCall, DoesWhat, DoesWithBench, FailsWriting, HasRunAndReported, IsRunTo, IsWritten, RunEnd, Runs, WritesAnswer, after_of, does, no_memory, not_headed, not_loaded, ran, unread}
+use Rattle.dapseq_tool.specs.Success.{AnswerIsWritten, HasCauses, HasRunAsMeant, IsQuietCall, RequestIsDone, Success, left_by_run, run_from}
 use Rattle.dapseq_tool.specs.declared.asking.Answer.{Answer}
 use Rattle.dapseq_tool.specs.declared.asking.Run.{Run}
 use Rattle.dapseq_tool.specs.declared.asking.What.{What}
@@ -35,7 +35,7 @@ fails_by status.WriteFault b w m h = w refl
 fails_by status.OutOfMemory b w m h = m refl
 fails_by status.ReplyBad b w m h = h
 
-no_failure : (call : Call) → IsQuietCall call → HasCauses call → FailsWriting call.end → ⊥
+no_failure : (call : BenchCall) → IsQuietCall call → HasCauses call → FailsWriting call.end → ⊥
 no_failure call quiet causes fails =
     fails_by call.end
     (λ is. not_rose call.old.reported.faults call.new.reported.faults quiet.bench (causes.bench is))
@@ -64,14 +64,14 @@ unopened_outside e.ReplyBad h = absurd h
 unopened_outside e.WriteFault h = absurd h
 unopened_outside e.OutOfMemory h = tt
 
-module _ (access : AccessKind) (call : Call) (number : Option ℕ) (run : Run) (none : FailsWriting call.end → ⊥) where
+module _ (access : AccessKind) (call : BenchCall) (number : Option ℕ) (run : Run) (none : FailsWriting call.end → ⊥) where
   -- nothing outside failed where the status says no such fault
   not_outside : (ending : Ending) (close : Close) → call.end ≡ run_status ending close → FailedOutside ending → ⊥
   not_outside ending close is h = none (subst FailsWriting (sym is) (outside_fails ending close h))
 
-  as_it_is : (before : Option (List ℕ)) (r : RunEnd) (n : BenchState) → LeavesAs r.ended.ending (run_from access run before) (left_by before r n)
-      → call.end ≡ run_status r.ended.ending r.close → EndsAsMeant (run_from access run before) (left_by before r n)
-  as_it_is before r n leaves is = ends_as_meant r.ended.ending (run_from access run before) (left_by before r n) refl leaves (not_outside r.ended.ending r.close is)
+  as_it_is : (before : Option (List ℕ)) (r : RunEnd) (n : BenchState) → LeavesAs r.ended.ending (run_from access run before) (left_by_run before r n)
+      → call.end ≡ run_status r.ended.ending r.close → EndsAsMeant (run_from access run before) (left_by_run before r n)
+  as_it_is before r n leaves is = ends_as_meant r.ended.ending (run_from access run before) (left_by_run before r n) refl leaves (not_outside r.ended.ending r.close is)
 
   as_meant : (before : Option (List ℕ)) (r : RunEnd) (n : BenchState) → Appends call.old.written before (head_text number)
       → IsRunTo access run before r (after_of call.new call.end) n → HasRunAsMeant access call number run
@@ -104,14 +104,14 @@ module _ (access : AccessKind) (call : Call) (number : Option ℕ) (run : Run) (
       by_end (inl is) = none (subst FailsWriting (sym is) tt)
       by_end (inr is) = none (subst FailsWriting (sym is) tt)
 
-what_done : (access : AccessKind) (call : Call) (unchanged : Type 0) (number : Option ℕ) (what : What) → (FailsWriting call.end → ⊥) → IsSome call.old.state
-    → DoesWhat access call unchanged number what → IsDone access call number what
+what_done : (access : AccessKind) (call : BenchCall) (unchanged : Type 0) (number : Option ℕ) (what : What) → (FailsWriting call.end → ⊥) → IsSome call.old.state
+    → DoesWhat access call unchanged number what → RequestIsDone access call number what
 what_done access call unchanged number (whats.Answer answer) none some h =
     let put = whole call.old.written call.new.written (head_text number ++ answer_text answer) (answer_status answer) call.end none (put_written call.old.written call.new.written (head_text number ++ answer_text answer) (answer_status answer) call.end h.text) in
     record { text = put.1; status = put.0 }
 what_done access call unchanged number (whats.Run run) none some h = run_done access call number run none unchanged some h
 
-pub success : (access : AccessKind) (call : Call) (unchanged : Type 0) → Does access call unchanged → HasCauses call → Success access call
+pub success : (access : AccessKind) (call : BenchCall) (unchanged : Type 0) → DoesWithBench access call unchanged → HasCauses call → Success access call
 success access call unchanged d causes = λ quiet some. elim d [
   | does bytes asked are asks done ↦ (bytes, asked, are, asks, what_done access call unchanged asked.number asked.what (no_failure call quiet causes) some done)
   | unread rose text same ↦ absurd (not_rose call.old.source_faults call.new.source_faults quiet.source rose)

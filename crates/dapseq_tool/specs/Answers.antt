@@ -17,16 +17,16 @@ use Rattle.dapseq_tool.specs.declared.status.Status.{Status}
 use Rattle.dapseq_tool.specs.declared.status.Status.TheVariants as status
 
 -- the status as the number with which the program ends
-abbrev pub code_of : Status → ℕ
-code_of status.Done = 0
-code_of status.Refused = 1
-code_of status.Usage = 2
-code_of status.Stopped = 3
-code_of status.BenchFault = 4
-code_of status.ReadFault = 5
-code_of status.WriteFault = 6
-code_of status.OutOfMemory = 7
-code_of status.ReplyBad = 8
+abbrev pub dapseq_exit_code : Status → ℕ
+dapseq_exit_code status.Done = 0
+dapseq_exit_code status.Refused = 1
+dapseq_exit_code status.Usage = 2
+dapseq_exit_code status.Stopped = 3
+dapseq_exit_code status.BenchFault = 4
+dapseq_exit_code status.ReadFault = 5
+dapseq_exit_code status.WriteFault = 6
+dapseq_exit_code status.OutOfMemory = 7
+dapseq_exit_code status.ReplyBad = 8
 
 -- the line of a job without a trace, in an audit
 abbrev pub no_trace_line : List ℕ

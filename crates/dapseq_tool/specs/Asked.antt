@@ -2,7 +2,7 @@
 use Rattle.std.specs.Prelude.{◌≡◌, ⊤, ℕ, nat_le, List, length, Option, Some, None, Result, Ok, Err, MatchBool}
 use Rattle.command_words.specs.declared.answer.Command.{Command}
 use Rattle.command_words.specs.declared.answer.Command.TheVariants as commands
-use Rattle.command_words.specs.Table.{IsCommand}
+use Rattle.command_words.specs.Table.{WordsAreCommand}
 use Rattle.sequence_resolve.specs.declared.selection.Selection.{Selection}
 use Rattle.sequence_resolve.specs.declared.entry.SeqSet.{SeqSet}
 use Rattle.probe_core.specs.Ranges.{IsBenchJob}
@@ -12,7 +12,7 @@ use Rattle.job_check.specs.declared.own.Own.{Own}
 use Rattle.job_check.specs.declared.own.Own.TheVariants as own
 use Rattle.job_check.specs.declared.running.RunRefusal.{RunRefusal}
 use Rattle.job_check.specs.declared.running.RunRefusal.TheVariants as refusals
-use Rattle.job_check.specs.Answers.{IsAnswer}
+use Rattle.job_check.specs.Answers.{IsCheckAnswer}
 use Rattle.job_check.specs.Running.{IsRefusedRun, IsSameRun, IsValidRun}
 use Rattle.job_source.specs.Source.{limit}
 use Rattle.dapseq_tool.specs.Audit.{AsksOfAudit}
@@ -30,8 +30,8 @@ use Rattle.dapseq_tool.specs.declared.asking.What.TheVariants as whats
 -- ---- the words
 
 -- the words are no command
-abbrev pub IsUsage : List (List ℕ) → Type 0
-IsUsage words = (c : Command) → IsCommand words c → ⊥
+abbrev pub IsNoCommand : List (List ℕ) → Type 0
+IsNoCommand words = (c : Command) → WordsAreCommand words c → ⊥
 
 -- the command reads the source
 abbrev pub ReadsSource : Command → Type 0
@@ -55,11 +55,11 @@ IsRunCommand commands.Audit = ⊥
 
 -- the words are a command that reads the source
 abbrev pub IsReadLine : List (List ℕ) → Type 0
-IsReadLine words = (c : Command) × IsCommand words c × ReadsSource c
+IsReadLine words = (c : Command) × WordsAreCommand words c × ReadsSource c
 
 -- the words are a command that runs a sequence
 abbrev pub IsRunLine : List (List ℕ) → Type 0
-IsRunLine words = (c : Command) × IsCommand words c × IsRunCommand c
+IsRunLine words = (c : Command) × WordsAreCommand words c × IsRunCommand c
 
 -- ---- a check
 
@@ -70,27 +70,27 @@ of_check (Err r) = whats.Answer (answers.Refused r)
 
 -- a check of the bytes asks for its answer: the valid set of the selection, or a refusal
 abbrev pub AsksOfCheck : Selection → List ℕ → What → Type 0
-AsksOfCheck s bytes what = (answer : Result SeqSet Refusal) × IsAnswer bytes s answer × (what ≡ of_check answer)
+AsksOfCheck s bytes what = (answer : Result SeqSet Refusal) × IsCheckAnswer bytes s answer × (what ≡ of_check answer)
 
 -- ---- a run
 
 -- what a mode that runs needs of a job besides its sequences
-abbrev pub own_of : Purpose → Own
-own_of purposes.Run = own.Nothing
-own_of purposes.Trace = own.Nothing
-own_of purposes.Load = own.Image
-own_of (purposes.Scan ap) = own.Nothing
+abbrev pub own_for_purpose : Purpose → Own
+own_for_purpose purposes.Run = own.Nothing
+own_for_purpose purposes.Trace = own.Nothing
+own_for_purpose purposes.Load = own.Image
+own_for_purpose (purposes.Scan ap) = own.Nothing
 
 -- the sequence runs, with what is done besides
 pub record IsRunOf (s : Selection) (sequence : List ℕ) (purpose : Purpose) (bytes : List ℕ) (run : Run) : Type 0 where
   pub name : run.sequence ≡ sequence
   pub mode : run.purpose ≡ purpose
-  pub valid : IsValidRun bytes (own_of purpose) s sequence run.valid
+  pub valid : IsValidRun bytes (own_for_purpose purpose) s sequence run.valid
 
 -- no sequence runs, for this reason
 abbrev pub IsNoRunOf : Selection → List ℕ → Purpose → List ℕ → Answer → Type 0
-IsNoRunOf s sequence purpose bytes answers.NoSequence = IsRefusedRun bytes (own_of purpose) s sequence refusals.NoSequence
-IsNoRunOf s sequence purpose bytes (answers.Refused r) = IsRefusedRun bytes (own_of purpose) s sequence (refusals.Refused r)
+IsNoRunOf s sequence purpose bytes answers.NoSequence = IsRefusedRun bytes (own_for_purpose purpose) s sequence refusals.NoSequence
+IsNoRunOf s sequence purpose bytes (answers.Refused r) = IsRefusedRun bytes (own_for_purpose purpose) s sequence (refusals.Refused r)
 IsNoRunOf s sequence purpose bytes other = ⊥
 
 -- what is asked for where no sequence runs, unless memory ran out
@@ -107,25 +107,25 @@ AsksOfRun s sequence purpose bytes (whats.Answer answer) = IsNoRunOf s sequence 
 -- ---- together
 
 -- what a command asks for of the bytes of a source
-abbrev pub AsksOfBytes : Command → List ℕ → What → Type 0
-AsksOfBytes (commands.Check s) bytes what = AsksOfCheck s bytes what
-AsksOfBytes (commands.Run s sequence) bytes what = AsksOfRun s sequence purposes.Run bytes what
-AsksOfBytes (commands.Trace s sequence) bytes what = AsksOfRun s sequence purposes.Trace bytes what
-AsksOfBytes (commands.Load s sequence) bytes what = AsksOfRun s sequence purposes.Load bytes what
-AsksOfBytes (commands.Scan s sequence ap) bytes what = AsksOfRun s sequence (purposes.Scan ap) bytes what
-AsksOfBytes (commands.Gen number) bytes what = ⊥
-AsksOfBytes commands.Audit bytes what = AsksOfAudit bytes what
+abbrev pub CommandAsksOfBytes : Command → List ℕ → What → Type 0
+CommandAsksOfBytes (commands.Check s) bytes what = AsksOfCheck s bytes what
+CommandAsksOfBytes (commands.Run s sequence) bytes what = AsksOfRun s sequence purposes.Run bytes what
+CommandAsksOfBytes (commands.Trace s sequence) bytes what = AsksOfRun s sequence purposes.Trace bytes what
+CommandAsksOfBytes (commands.Load s sequence) bytes what = AsksOfRun s sequence purposes.Load bytes what
+CommandAsksOfBytes (commands.Scan s sequence ap) bytes what = AsksOfRun s sequence (purposes.Scan ap) bytes what
+CommandAsksOfBytes (commands.Gen number) bytes what = ⊥
+CommandAsksOfBytes commands.Audit bytes what = AsksOfAudit bytes what
 
 -- the same, of bytes of which there may be too many
 abbrev pub AsksOfCommand : Command → List ℕ → What → Type 0
-AsksOfCommand c bytes what = MatchBool (nat_le (length bytes) limit) (AsksOfBytes c bytes what) (what ≡ whats.Answer answers.TooLong)
+AsksOfCommand c bytes what = MatchBool (nat_le (length bytes) limit) (CommandAsksOfBytes c bytes what) (what ≡ whats.Answer answers.TooLong)
 
 -- This is what the words and all the bytes of the source ask for. In the mode `gen` the bytes are those of the job of the number.
-pub data Asks (words : List (List ℕ)) (bytes : List ℕ) (asked : Requested) : Type 0 where
-  usage : IsUsage words → asked.number ≡ None → asked.what ≡ whats.Answer answers.Usage → Asks words bytes asked
-  command : (c : Command) → IsCommand words c → ReadsSource c → asked.number ≡ None → AsksOfCommand c bytes asked.what → Asks words bytes asked
-  generated : (n : ℕ) → IsCommand words (commands.Gen n) → asked.number ≡ Some n →
-      AsksOfRun its_device its_sequence purposes.Run (job_text n) asked.what → Asks words bytes asked
+pub data AsksForRequest (words : List (List ℕ)) (bytes : List ℕ) (asked : Requested) : Type 0 where
+  usage : IsNoCommand words → asked.number ≡ None → asked.what ≡ whats.Answer answers.Usage → AsksForRequest words bytes asked
+  command : (c : Command) → WordsAreCommand words c → ReadsSource c → asked.number ≡ None → AsksOfCommand c bytes asked.what → AsksForRequest words bytes asked
+  generated : (n : ℕ) → WordsAreCommand words (commands.Gen n) → asked.number ≡ Some n →
+      AsksOfRun its_device its_sequence purposes.Run (job_text n) asked.what → AsksForRequest words bytes asked
 
 -- ---- a run that is asked for
 
@@ -158,7 +158,7 @@ IsSoundWhat (whats.Run run) = IsSoundRun run
 IsSoundWhat (whats.Answer answer) = IsSoundAnswer answer
 
 -- the job of a run or of an accepted trace is in its ranges
-pub record IsSound (what : What) : Type 0 where
+pub record IsSoundRequest (what : What) : Type 0 where
   pub so : IsSoundWhat what
 
 -- ---- one thing

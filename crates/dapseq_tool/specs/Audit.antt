@@ -22,7 +22,7 @@ pub record HasEntries (job : Job) (es : List Entry) : Type 0 where
   pub are : AreEntriesOf texts es
 
 -- the trace of the job is a run of its probe: with the probe after it, and how many packets and replies it has
-pub record IsAccepted (job : Job) (audit : Audit) : Type 0 where
+pub record TraceIsAccepted (job : Job) (audit : Audit) : Type 0 where
   pub of : audit.job ≡ job
   pub es : List Entry
   pub entries : HasEntries job es
@@ -36,7 +36,7 @@ pub record IsWrongTrace (job : Job) (fault : AuditFault) : Type 0 where
 
 -- the answer to a job: its trace is accepted, or refused, or there is none
 pub data IsAuditOf (job : Job) (answer : Answer) : Type 0 where
-  accepted : (audit : Audit) → IsAccepted job audit → answer ≡ answers.Audited audit → IsAuditOf job answer
+  accepted : (audit : Audit) → TraceIsAccepted job audit → answer ≡ answers.Audited audit → IsAuditOf job answer
   wrong : (fault : AuditFault) → IsWrongTrace job fault → answer ≡ answers.AuditRefused fault → IsAuditOf job answer
   no_trace : job.trace ≡ None → answer ≡ answers.NoTrace → IsAuditOf job answer
 

@@ -7,15 +7,15 @@ use Rattle.probe_core.specs.Probe.{target_of}
 use Rattle.access_calls.specs.declared.ended.Ending.TheVariants as e
 use Rattle.image_load.specs.Laid.{CanLoad, laid}
 use Rattle.image_load.specs.Pieces.{pieces}
-use Rattle.rom_scan.specs.Listing.{lines_of, listed_within}
+use Rattle.rom_scan.specs.Listing.{component_lines, listed_within}
 use Rattle.rom_scan.specs.Showing.{CanScan}
 use Rattle.sequels.specs.declared.close.Close.TheVariants as closes
 use Rattle.sequence_rules.specs.Runs as runs
 use Rattle.sequence_rules.specs.Runs.{Program}
 use Rattle.job_check.specs.declared.own.JobImage.{JobImage}
 use Rattle.job_runs.specs.Runs.{AccessKind, known_after, program_in}
-use Rattle.task_runs.specs.Laws.{alone_in, shown, world_then}
-use Rattle.task_runs.specs.Tasks.{close_of}
+use Rattle.task_runs.specs.Laws.{alone_in, components_shown, world_then}
+use Rattle.task_runs.specs.Tasks.{scan_close}
 use Rattle.dapseq_tool.specs.Headline.{After, IsRunTo, RunEnd}
 use Rattle.dapseq_tool.specs.declared.asking.Purpose.TheVariants as purposes
 use Rattle.dapseq_tool.specs.declared.asking.Run.{Run}
@@ -51,10 +51,10 @@ RunsLay = (access : AccessKind) (run : Run) (before : Option (List ℕ)) (r : Ru
 -- of the first 1,024 were written, and the scan is full exactly there. The words are those that the sequence leaves.
 pub record IsListed (run : Run) (before : Option (List ℕ)) (ap : ℕ) (r : RunEnd) (n : BenchState) : Type 0 where
   pub written : known_after before r.written
-      ≡ option_map (λ bytes. bytes ++ lines_of (take 1024 (shown (first_world run) (program_by run) before ap)))
+      ≡ option_map (λ bytes. bytes ++ component_lines (take 1024 (components_shown (first_world run) (program_by run) before ap)))
       (alone_in (first_world run) (program_by run) before).written
   pub words : (target_of n.probe).words ≡ (left_world run before).target.words
-  pub close : r.close ≡ close_of (listed_within 1024 (shown (first_world run) (program_by run) before ap))
+  pub close : r.close ≡ scan_close (listed_within 1024 (components_shown (first_world run) (program_by run) before ap))
 
 -- A run of the mode `scan` that is done, where words can be read by the access port after the sequence, is so.
 abbrev pub RunsList : Type 0

@@ -3,12 +3,12 @@ use Rattle.std.specs.Prelude.{◌≡◌, ◌≢◌, ◌⊎◌, ℕ, List, Option
 use Rattle.std.specs.Io.KnownBytes.{Appends}
 use Rattle.dap_base.specs.Streams.{AppendsPrefix}
 use Rattle.probe_core.specs.Bench.{Reported, Seen}
-use Rattle.access_calls.specs.Opening.{IsIdle}
+use Rattle.access_calls.specs.Opening.{BenchIsIdle}
 use Rattle.dapseq_tool.specs.RunEnds.{DoesAfter}
 use Rattle.dap_base.specs.Causes.{IsQuiet, Rose}
 use Rattle.dapseq_tool.specs.Answers.{IsRunStatus, head_text}
-use Rattle.dapseq_tool.specs.Asked.{Asks, IsReadLine, IsRunLine, IsSound, IsSoundRun, IsUsage, OnRun}
-use Rattle.dapseq_tool.specs.Headline.{After, Call, Does, FailsPutting, FailsWriting, IsPut}
+use Rattle.dapseq_tool.specs.Asked.{AsksForRequest, IsNoCommand, IsReadLine, IsRunLine, IsSoundRequest, IsSoundRun, OnRun}
+use Rattle.dapseq_tool.specs.Headline.{After, BenchCall, DoesWithBench, FailsPutting, FailsWriting, IsPut}
 use Rattle.job_source.specs.Source.{AreBytesOf, AreTaken}
 use Rattle.job_runs.specs.Runs.{AccessKind}
 use Rattle.dapseq_tool.specs.declared.asking.Answer.TheVariants as answers
@@ -20,23 +20,23 @@ use Rattle.dapseq_tool.specs.declared.asking.What.{What}
 use Rattle.dapseq_tool.specs.declared.asking.What.TheVariants as whats
 use Rattle.dapseq_tool.specs.declared.status.Status.{Status}
 use Rattle.dapseq_tool.specs.declared.status.Status.TheVariants as statuses
-use Rattle.tool_calls.specs.Calls.{fault_text}
+use Rattle.tool_calls.specs.Calls.{source_fault_line}
 
 -- ---- what is asked for
 
 -- What is asked for is in its ranges, a run only where this is so, and never the usage.
 pub record IsFit (runs : Type 0) (what : What) : Type 0 where
-  pub sound : IsSound what
+  pub sound : IsSoundRequest what
   pub run : OnRun what (λ run. runs)
   pub used : what ≢ whats.Answer answers.Usage
 
 -- The words and the bytes of a source ask for it. They ask for the usage exactly where they are no command, and for a run only where they are a
 -- command that runs. It is in its ranges.
-pub record IsAsked (words : List (List ℕ)) (left : Option (List ℕ)) (asked : Requested) : Type 0 where
-  pub asks : (bytes : List ℕ) × AreBytesOf left bytes × Asks words bytes asked
-  pub usage : asked.what ≡ whats.Answer answers.Usage → IsUsage words
-  pub usage_only : IsUsage words → asked.what ≡ whats.Answer answers.Usage
-  pub sound : IsSound asked.what
+pub record RequestIsAsked (words : List (List ℕ)) (left : Option (List ℕ)) (asked : Requested) : Type 0 where
+  pub asks : (bytes : List ℕ) × AreBytesOf left bytes × AsksForRequest words bytes asked
+  pub usage : asked.what ≡ whats.Answer answers.Usage → IsNoCommand words
+  pub usage_only : IsNoCommand words → asked.what ≡ whats.Answer answers.Usage
+  pub sound : IsSoundRequest asked.what
   pub run : OnRun asked.what (λ run. IsRunLine words)
 
 -- ---- what is done
@@ -67,7 +67,7 @@ pub record KeepsRun (same : Type 0) (sink_old sink_new bench_old bench_new : ℕ
 -- A run is in its ranges, and a bench that reports this is idle and has the limits of its job.
 pub record IsLoadedFor (run : Run) (reported : Reported) : Type 0 where
   pub sound : IsSoundRun run
-  pub idle : IsIdle reported
+  pub idle : BenchIsIdle reported
   pub limits : run.valid.job.bench.limits ≡ reported.limits
 
 -- The status is one that what is asked for can have. A run has its own, the usage comes where it is asked for, and no source is read.
@@ -90,21 +90,22 @@ pub data IsFulfilled (access : AccessKind) (asked : Requested) (old : Seen) (unc
 -- source that failed.
 pub data IsUnasked (end : Unasked) (before now : Option (List ℕ)) (status : Status) : Type 0 where
   memory : end ≡ unasked.OutOfMemory → status ≡ statuses.OutOfMemory → now ≡ before → IsUnasked end before now status
-  source : end ≡ unasked.ReadFault → IsPut before now fault_text statuses.ReadFault status → (status ≡ statuses.ReadFault) ⊎ (status ≡ statuses.WriteFault)
+  source : end ≡ unasked.ReadFault → IsPut before now source_fault_line statuses.ReadFault status → (status ≡ statuses.ReadFault) ⊎ (status ≡ statuses.WriteFault)
       → IsUnasked end before now status
 
 -- What is done of what was found out of the words and the source. That is what is asked for, or the end where this is not known, with the bench
 -- as it was.
-pub data IsFinished (access : AccessKind) (asked : Result Requested Unasked) (old : Seen) (unchanged : Type 0) (before : Option (List ℕ)) (after : After) : Type 0 where
-  known : (x : Requested) → asked ≡ Ok x → IsFulfilled access x old unchanged before after → IsFinished access asked old unchanged before after
-  unknown : (end : Unasked) → asked ≡ Err end → IsUnasked end before after.written after.end → unchanged → IsFinished access asked old unchanged before after
+pub data RequestIsFinished (access : AccessKind) (asked : Result Requested Unasked) (old : Seen) (unchanged : Type 0) (before : Option (List ℕ))
+    (after : After) : Type 0 where
+  known : (x : Requested) → asked ≡ Ok x → IsFulfilled access x old unchanged before after → RequestIsFinished access asked old unchanged before after
+  unknown : (end : Unasked) → asked ≡ Err end → IsUnasked end before after.written after.end → unchanged → RequestIsFinished access asked old unchanged before after
 
 -- What every call keeps. The words alone decide on the usage, and whether the source is read; `untaken` says that it is the one that it
 -- was. The bench is called in the modes that run alone; `unchanged` says that it is the one that it was. Each fault has its cause, and
 -- one that comes is reported.
-pub record IsFramed (call : Call) (untaken unchanged : Type 0) : Type 0 where
-  pub usage : call.end ≡ statuses.Usage → IsUsage call.words
-  pub usage_only : IsUsage call.words → (call.end ≡ statuses.Usage) ⊎ (call.end ≡ statuses.WriteFault) ⊎ (call.end ≡ statuses.OutOfMemory)
+pub record IsFramed (call : BenchCall) (untaken unchanged : Type 0) : Type 0 where
+  pub usage : call.end ≡ statuses.Usage → IsNoCommand call.words
+  pub usage_only : IsNoCommand call.words → (call.end ≡ statuses.Usage) ⊎ (call.end ≡ statuses.WriteFault) ⊎ (call.end ≡ statuses.OutOfMemory)
   pub unread : (IsReadLine call.words → ⊥) → untaken
   pub taken : IsReadLine call.words → IsQuiet call.old.source_faults call.new.source_faults → call.end ≢ statuses.OutOfMemory → AreTaken call.old.left call.new.left
   pub bench_only_in_run : unchanged ⊎ IsRunLine call.words
@@ -117,6 +118,6 @@ pub record IsFramed (call : Call) (untaken unchanged : Type 0) : Type 0 where
   pub bench : CountsBench call.old.reported.faults call.new.reported.faults call.end
 
 -- A whole call: what it does, and what it keeps.
-pub record IsCall (access : AccessKind) (call : Call) (untaken unchanged : Type 0) : Type 0 where
-  pub asked : Does access call unchanged
+pub record IsCall (access : AccessKind) (call : BenchCall) (untaken unchanged : Type 0) : Type 0 where
+  pub asked : DoesWithBench access call unchanged
   pub frame : IsFramed call untaken unchanged

@@ -14,14 +14,14 @@ use Rattle.report_lines.specs.Endings.{ending_lines, shows_target}
 use Rattle.control_flow.specs.Answers.{HasLines}
 use Rattle.access_calls.specs.Opening.{HasBadReply}
 use Rattle.job_runs.specs.Ends.{HasGotResponse}
-use Rattle.job_runs.specs.Runs.{AccessKind, ComesTo, config_of, job_close, known_after}
+use Rattle.job_runs.specs.Runs.{AccessKind, JobComesTo, config_of, job_close, known_after}
 use Rattle.job_runs.specs.Texts.{first_lines, whole_text}
 use Rattle.sequels.specs.declared.close.Close.{Close}
 use Rattle.sequels.specs.declared.close.Close.TheVariants as closes
 use Rattle.job_source.specs.Source.{AreBytesOf, AreTaken}
 use Rattle.dapseq_tool.specs.Purpose.{sequel_by, shows_packets, task_by}
 use Rattle.dapseq_tool.specs.Answers.{answer_status, answer_text, head_text, run_status}
-use Rattle.dapseq_tool.specs.Asked.{Asks}
+use Rattle.dapseq_tool.specs.Asked.{AsksForRequest}
 use Rattle.dapseq_tool.specs.declared.asking.Answer.{Answer}
 use Rattle.dapseq_tool.specs.declared.asking.Requested.{Requested}
 use Rattle.dapseq_tool.specs.declared.asking.Run.{Run}
@@ -29,13 +29,13 @@ use Rattle.dapseq_tool.specs.declared.asking.What.{What}
 use Rattle.dapseq_tool.specs.declared.asking.What.TheVariants as whats
 use Rattle.dapseq_tool.specs.declared.status.Status.{Status}
 use Rattle.dapseq_tool.specs.declared.status.Status.TheVariants as status
-use Rattle.tool_calls.specs.Calls.{fault_text}
+use Rattle.tool_calls.specs.Calls.{source_fault_line}
 
 -- ---- a call
 
 -- What is known of a source, a sink and a bench at a moment. That is the bytes that are left, those that were written and the state, each where
 -- the object is observable, and what every object reports.
-pub record Moment : Type 0 where
+pub record BenchMoment : Type 0 where
   pub left : Option (List ℕ)
   pub source_faults : ℕ
   pub written : Option (List ℕ)
@@ -44,8 +44,9 @@ pub record Moment : Type 0 where
   pub state : Option BenchState
 
 -- the same, by the ghost members of the three traits
-abbrev pub moment : {S K B : Type 0} → (S → Option (List ℕ)) → (S → ℕ) → (K → Option (List ℕ)) → (K → ℕ) → (B → Reported) → (B → Option BenchState) → S → K → B → Moment
-moment left source_faults written sink_faults reported state source sink bench = record {
+abbrev pub bench_moment : {S K B : Type 0} → (S → Option (List ℕ)) → (S → ℕ) → (K → Option (List ℕ)) → (K → ℕ) → (B → Reported) → (B → Option BenchState) → S → K → B
+    → BenchMoment
+bench_moment left source_faults written sink_faults reported state source sink bench = record {
   left = left source;
   source_faults = source_faults source;
   written = written sink;
@@ -55,10 +56,10 @@ moment left source_faults written sink_faults reported state source sink bench =
 }
 
 -- A call: its words, what is known before it and after it, and its status.
-pub record Call : Type 0 where
+pub record BenchCall : Type 0 where
   pub words : List (List ℕ)
-  pub old : Moment
-  pub new : Moment
+  pub old : BenchMoment
+  pub new : BenchMoment
   pub end : Status
 
 -- ---- what is written
@@ -86,14 +87,14 @@ IsPut old new text own end = ((end ≡ own) × Appends old new text) ⊎ (FailsP
 
 -- A text that begins with these lines was appended, and the status is its own; or writing it failed, and a part of it was appended,
 -- from its front.
-pub record BeginsWith (old new : Option (List ℕ)) (lines : List ℕ) (own end : Status) : Type 0 where
+pub record WritesFirst (old new : Option (List ℕ)) (lines : List ℕ) (own end : Status) : Type 0 where
   pub rest : List ℕ
   pub text : IsWritten old new (lines ++ rest) own end
 
 -- ---- where no run is asked for
 
 -- the answer is written after the head, and the bench is the one that it was
-pub record Answers (call : Call) (unchanged : Type 0) (number : Option ℕ) (answer : Answer) : Type 0 where
+pub record WritesAnswer (call : BenchCall) (unchanged : Type 0) (number : Option ℕ) (answer : Answer) : Type 0 where
   pub text : IsPut call.old.written call.new.written (head_text number ++ answer_text answer) (answer_status answer) call.end
   pub bench : unchanged
 
@@ -117,7 +118,7 @@ pub record After : Type 0 where
 -- a run of the job's probe.
 pub record IsRunTo (access : AccessKind) (run : Run) (before : Option (List ℕ)) (r : RunEnd) (a : After) (n : BenchState) : Type 0 where
   pub state : a.bench.state ≡ Some n
-  pub comes : ComesTo access (config_of run.valid.job.settings) run.valid.job.bench (task_by run) before
+  pub comes : JobComesTo access (config_of run.valid.job.settings) run.valid.job.bench (task_by run) before
       (record { ended = r.ended; written = known_after before r.written; bench = n })
   pub close : r.ended.ending ≡ e.Done → r.close ≡ job_close (config_of run.valid.job.settings) run.valid.job.bench (task_by run) before
   pub text : IsWritten r.written a.written (whole_text (shows_packets run.purpose) r.ended r.close r.sent r.got run.valid.job n) (run_status r.ended.ending r.close) a.end
@@ -127,12 +128,12 @@ pub record IsRunTo (access : AccessKind) (run : Run) (before : Option (List ℕ)
 -- bench, a report that does not show the target was written. The status is that of the run, unless writing failed. The run wrote whole lines,
 -- except perhaps where the sink failed, and the lines of its ending come first of what was written after it. A cut comes with a reply of its
 -- response, and a bad reply is the one that is reported.
-pub record HasRun (access : AccessKind) (run : Run) (observable : Type 0) (old : Reported) (before : Option (List ℕ)) (r : RunEnd) (a : After) : Type 0 where
+pub record HasRunAndReported (access : AccessKind) (run : Run) (observable : Type 0) (old : Reported) (before : Option (List ℕ)) (r : RunEnd) (a : After) : Type 0 where
   pub comes : observable → (n : BenchState) × IsRunTo access run before r a n
   pub alone : shows_target r.ended.ending ≡ false →
       IsPut r.written a.written (ending_lines r.ended.ending r.ended r.sent r.got) (run_status r.ended.ending closes.Nothing) a.end
   pub lines : HasLines r.ended.ending before r.written
-  pub front : BeginsWith r.written a.written (first_lines r.ended r.close r.sent r.got) (run_status r.ended.ending r.close) a.end
+  pub front : WritesFirst r.written a.written (first_lines r.ended r.close r.sent r.got) (run_status r.ended.ending r.close) a.end
   pub status : (a.end ≡ run_status r.ended.ending r.close) ⊎ FailsWriting a.end
   pub nothing : sequel_by run.purpose run.valid.image ≡ None → r.close ≡ closes.Nothing
   pub unclosed : (r.ended.ending ≡ e.Done → ⊥) → r.close ≡ closes.Nothing
@@ -140,31 +141,31 @@ pub record HasRun (access : AccessKind) (run : Run) (observable : Type 0) (old :
   pub bad : r.ended.ending ≡ e.ReplyBad → HasBadReply old a.bench.reported r.sent r.got
 
 -- the same moment without the source
-abbrev pub after_of : Moment → Status → After
+abbrev pub after_of : BenchMoment → Status → After
 after_of m end = record { written = m.written; end = end; bench = record { reported = m.reported; state = m.state } }
 
 -- What is done of a run. There is a head, and it is not written whole; or the bench was not loaded, and is as it was; or it ran.
-pub data Runs (access : AccessKind) (call : Call) (unchanged : Type 0) (number : Option ℕ) (run : Run) : Type 0 where
+pub data Runs (access : AccessKind) (call : BenchCall) (unchanged : Type 0) (number : Option ℕ) (run : Run) : Type 0 where
   not_headed : IsSome number → FailsPutting call.end → AppendsPrefix call.old.written call.new.written (head_text number) →
       unchanged → Runs access call unchanged number run
   not_loaded : (call.end ≡ status.BenchFault) ⊎ (call.end ≡ status.OutOfMemory) → Appends call.old.written call.new.written (head_text number)
       → call.new.state ≡ call.old.state → Runs access call unchanged number run
   ran : (before : Option (List ℕ)) (r : RunEnd) → Appends call.old.written before (head_text number)
-      → HasRun access run (IsSome call.old.state) call.old.reported before r (after_of call.new call.end) → Runs access call unchanged number run
+      → HasRunAndReported access run (IsSome call.old.state) call.old.reported before r (after_of call.new call.end) → Runs access call unchanged number run
 
 -- ---- both
 
 -- what is done of what was asked for
-abbrev pub DoesWhat : AccessKind → Call → Type 0 → Option ℕ → What → Type 0
-DoesWhat access call unchanged number (whats.Answer answer) = Answers call unchanged number answer
+abbrev pub DoesWhat : AccessKind → BenchCall → Type 0 → Option ℕ → What → Type 0
+DoesWhat access call unchanged number (whats.Answer answer) = WritesAnswer call unchanged number answer
 DoesWhat access call unchanged number (whats.Run run) = Runs access call unchanged number run
 
 -- What a call does; `unchanged` says that the bench is the one that it was. There are bytes, those of the source where it is
 -- observable, of which the words ask for something, and it was done. Or the source failed, or memory was refused before it was
 -- known what is asked for.
-pub data Does (access : AccessKind) (call : Call) (unchanged : Type 0) : Type 0 where
-  does : (bytes : List ℕ) (asked : Requested) → AreBytesOf call.old.left bytes → Asks call.words bytes asked
-      → DoesWhat access call unchanged asked.number asked.what → Does access call unchanged
-  unread : Rose call.old.source_faults call.new.source_faults → IsPut call.old.written call.new.written fault_text status.ReadFault call.end →
-      unchanged → Does access call unchanged
-  no_memory : call.end ≡ status.OutOfMemory → call.new.written ≡ call.old.written → unchanged → Does access call unchanged
+pub data DoesWithBench (access : AccessKind) (call : BenchCall) (unchanged : Type 0) : Type 0 where
+  does : (bytes : List ℕ) (asked : Requested) → AreBytesOf call.old.left bytes → AsksForRequest call.words bytes asked
+      → DoesWhat access call unchanged asked.number asked.what → DoesWithBench access call unchanged
+  unread : Rose call.old.source_faults call.new.source_faults → IsPut call.old.written call.new.written source_fault_line status.ReadFault call.end →
+      unchanged → DoesWithBench access call unchanged
+  no_memory : call.end ≡ status.OutOfMemory → call.new.written ≡ call.old.written → unchanged → DoesWithBench access call unchanged

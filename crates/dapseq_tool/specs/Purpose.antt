@@ -1,6 +1,6 @@
 -- What is done besides the run of a sequence.
 use Rattle.std.specs.Prelude.{Bool, true, false, ℕ, List, Option, Some, None}
-use Rattle.image_load.specs.LoadSequel.{loaded}
+use Rattle.image_load.specs.LoadSequel.{load_sequel}
 use Rattle.job_check.specs.declared.own.JobImage.{JobImage}
 use Rattle.job_runs.specs.Runs.{task_with}
 use Rattle.followed_runs.specs.Followed.{Task}
@@ -23,7 +23,7 @@ abbrev pub sequel_by : Purpose → Option JobImage → Option (Sequel Close)
 sequel_by Run image = None
 sequel_by Trace image = None
 sequel_by Load None = None
-sequel_by Load (Some i) = Some (loaded i.ap i.image)
+sequel_by Load (Some i) = Some (load_sequel i.ap i.image)
 sequel_by (Scan ap) image = Some (scanning ap)
 
 -- The sequence of a run with what follows it.

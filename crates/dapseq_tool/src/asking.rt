@@ -2,8 +2,8 @@
 ghost use Rattle.std.specs.Prelude.{◌≡◌, ⊤, ℕ, List, None, Some, IfOk, OnOk, IfErr, IsErrOf, MatchOption};
 ghost use Rattle.text_lines.specs.Causes.{NamesFault};
 ghost use Rattle.command_words.specs.declared.answer.Command.TheVariants as commands;
-ghost use Rattle.dapseq_tool.specs.Asked.{AsksOfBytes, AsksOfCheck, AsksOfCommand, AsksOfRun, IsReadLine, IsRunCommand, ReadsSource, of_refused, own_of};
-ghost use Rattle.dapseq_tool.specs.Frame.{IsAsked, IsFit};
+ghost use Rattle.dapseq_tool.specs.Asked.{AsksOfCheck, AsksOfCommand, AsksOfRun, CommandAsksOfBytes, IsReadLine, IsRunCommand, ReadsSource, of_refused, own_for_purpose};
+ghost use Rattle.dapseq_tool.specs.Frame.{IsFit, RequestIsAsked};
 ghost use Rattle.dapseq_tool.specs.Generated.{its_device, its_sequence, job_text};
 ghost use Rattle.job_source.specs.Source.{AreBytesOf, AreTaken};
 ghost use Rattle.tool_calls.specs.Calls.{ReadsJob};
@@ -95,7 +95,7 @@ fn ask_no_run(refusal: RunRefusal) -> Result<What, OutOfMemory>
 
 // What a mode that runs needs of a job besides its sequences.
 fn own_of(purpose: Purpose) -> Own
-    ensures { result ≡ own_of purpose }
+    ensures { result ≡ own_for_purpose purpose }
 {
     match purpose {
         Purpose::Load => Own::Image,
@@ -139,7 +139,7 @@ fn ask_for_check(alloc: Global, selection: &Selection, bytes: &[u8]) -> Result<W
 // What the bytes of a job ask for.
 fn ask_by_bytes(alloc: Global, command: &Command, bytes: &[u8]) -> Result<What, OutOfMemory>
     requires { ReadsSource command.now }
-    ensures asked { IfOk result (AsksOfBytes command.now bytes.now) }
+    ensures asked { IfOk result (CommandAsksOfBytes command.now bytes.now) }
     ensures fit { IfOk result (IsFit (IsRunCommand command.now)) }
 {
     match command {
@@ -254,7 +254,7 @@ fn number_of(command: &Command) -> Option<u16>
 /// What the words and the source ask for. Where the words are no command, and in the mode `gen`, the
 /// source is not read.
 pub fn ask<S: Source>(alloc: Global, words: &Words, source: &mut S) -> Result<Requested, Unasked>
-    ensures asked { IfOk result (IsAsked words.now (S.left source.old)) }
+    ensures asked { IfOk result (RequestIsAsked words.now (S.left source.old)) }
     ensures taken { OnOk result (IsReadLine words.now → AreTaken (S.left source.old) (S.left source.new)) }
     ensures unread { (IsReadLine words.now → ⊥) → source.new ≡ source.old }
     ensures fault { IsErrOf result Unasked.ReadFault → IsReadLine words.now }

@@ -3,13 +3,13 @@ ghost use Rattle.std.specs.Prelude.{◌≡◌, ◌≢◌, ◌⊎◌, IfOk};
 ghost use Rattle.dap_base.specs.Causes.{IsQuiet, Rose};
 ghost use Rattle.probe_core.specs.Bench.{seen};
 ghost use Rattle.dapseq_tool.specs.Answers.{answer_status, answer_text, failed_status};
-ghost use Rattle.dapseq_tool.specs.Asked.{IsReadLine, IsRunLine, IsSound, IsSoundAnswer, IsUsage};
-ghost use Rattle.dapseq_tool.specs.Frame.{CountsSink, IsFinished, IsFramed, IsFulfilled, IsStatusFor, IsUnasked, KeepsOver};
-ghost use Rattle.dapseq_tool.specs.Headline.{moment, Does, FailsWriting, IsPut};
+ghost use Rattle.dapseq_tool.specs.Asked.{IsNoCommand, IsReadLine, IsRunLine, IsSoundAnswer, IsSoundRequest};
+ghost use Rattle.dapseq_tool.specs.Frame.{CountsSink, IsFramed, IsFulfilled, IsStatusFor, IsUnasked, KeepsOver, RequestIsFinished};
+ghost use Rattle.dapseq_tool.specs.Headline.{bench_moment, DoesWithBench, FailsWriting, IsPut};
 ghost use Rattle.job_source.specs.Source.{AreTaken};
 ghost use Rattle.dapseq_tool.specs.RunEnds.{DoesAfter};
 ghost use Rattle.job_runs.specs.Runs.{access_kind};
-ghost use Rattle.tool_calls.specs.Calls.{fault_text};
+ghost use Rattle.tool_calls.specs.Calls.{source_fault_line};
 
 use crate::answering::{status_of, write_answer, write_head};
 use crate::asking::{Answer, Requested, What, ask};
@@ -59,7 +59,7 @@ fn perform<B: Bench, K: Sink, A: OverBench<B>>(
     bench: B,
     sink: &mut K,
 ) -> Over<B>
-    requires { IsSound what.now }
+    requires { IsSoundRequest what.now }
     ensures does { DoesAfter (access_kind A.Access.journal A.Access.cost A.Access.is_sparing) what.now (seen B.reported B.state bench)
         (result.bench ≡ bench) (K.written sink.old)
         (record { written = K.written sink.new; end = result.status; bench = seen B.reported B.state result.bench }) }
@@ -78,7 +78,7 @@ fn perform<B: Bench, K: Sink, A: OverBench<B>>(
 
 // Reports that the source failed.
 fn read_fault<K: Sink>(sink: &mut K) -> Status
-    ensures text { IsPut (K.written sink.old) (K.written sink.new) fault_text Status.ReadFault result }
+    ensures text { IsPut (K.written sink.old) (K.written sink.new) source_fault_line Status.ReadFault result }
     ensures sink { CountsSink (K.faults sink.old) (K.faults sink.new) result }
     ensures ends { (result ≡ Status.ReadFault) ⊎ (result ≡ Status.WriteFault) }
 {
@@ -95,7 +95,7 @@ fn fulfil<B: Bench, K: Sink, A: OverBench<B>>(
     bench: B,
     sink: &mut K,
 ) -> Over<B>
-    requires { IsSound asked.now.what }
+    requires { IsSoundRequest asked.now.what }
     ensures done { IsFulfilled (access_kind A.Access.journal A.Access.cost A.Access.is_sparing) asked.now (seen B.reported B.state bench)
         (result.bench ≡ bench) (K.written sink.old)
         (record { written = K.written sink.new; end = result.status; bench = seen B.reported B.state result.bench }) }
@@ -129,8 +129,8 @@ fn finish<B: Bench, K: Sink, A: OverBench<B>>(
     bench: B,
     sink: &mut K,
 ) -> Over<B>
-    requires { IfOk asked.now (λ asked. IsSound asked.what) }
-    ensures done { IsFinished (access_kind A.Access.journal A.Access.cost A.Access.is_sparing) asked.now (seen B.reported B.state bench)
+    requires { IfOk asked.now (λ asked. IsSoundRequest asked.what) }
+    ensures done { RequestIsFinished (access_kind A.Access.journal A.Access.cost A.Access.is_sparing) asked.now (seen B.reported B.state bench)
         (result.bench ≡ bench) (K.written sink.old)
         (record { written = K.written sink.new; end = result.status; bench = seen B.reported B.state result.bench }) }
     ensures keeps { KeepsOver (B.identity result.bench ≡ B.identity bench) (K.faults sink.old) (K.faults sink.new)
@@ -153,11 +153,11 @@ pub fn make_call<S: Source, K: Sink, B: Bench, A: OverBench<B>>(
     sink: &mut K,
     bench: B,
 ) -> Over<B>
-    ensures asked { let at = moment S.left S.faults K.written K.faults B.reported B.state in
-        Does (access_kind A.Access.journal A.Access.cost A.Access.is_sparing)
+    ensures asked { let at = bench_moment S.left S.faults K.written K.faults B.reported B.state in
+        DoesWithBench (access_kind A.Access.journal A.Access.cost A.Access.is_sparing)
         (record { words = words.now; old = at source.old sink.old bench; new = at source.new sink.new result.bench; end = result.status })
         (result.bench ≡ bench) }
-    ensures frame { let at = moment S.left S.faults K.written K.faults B.reported B.state in
+    ensures frame { let at = bench_moment S.left S.faults K.written K.faults B.reported B.state in
         IsFramed (record { words = words.now; old = at source.old sink.old bench; new = at source.new sink.new result.bench; end = result.status })
         (source.new ≡ source.old) (result.bench ≡ bench) }
     ensures identity { B.identity result.bench ≡ B.identity bench }
@@ -180,14 +180,14 @@ pub fn dapseq_over<S: Source, K: Sink, B: Bench, A: OverBench<B>>(
     bench: B,
 ) -> Over<B>
     // What the words and the bytes ask for was done.
-    ensures asked { let at = moment S.left S.faults K.written K.faults B.reported B.state in
-        Does (access_kind A.Access.journal A.Access.cost A.Access.is_sparing)
+    ensures asked { let at = bench_moment S.left S.faults K.written K.faults B.reported B.state in
+        DoesWithBench (access_kind A.Access.journal A.Access.cost A.Access.is_sparing)
         (record { words = words.now; old = at source.old sink.old bench; new = at source.new sink.new result.bench; end = result.status })
         (result.bench ≡ bench) }
 
     // The words alone decide on the usage, and whether the source is read: to its end, or one byte too far.
-    ensures usage { result.status ≡ Status.Usage → IsUsage words.now }
-    ensures usage_only { IsUsage words.now → (result.status ≡ Status.Usage) ⊎ (result.status ≡ Status.WriteFault) ⊎ (result.status ≡ Status.OutOfMemory) }
+    ensures usage { result.status ≡ Status.Usage → IsNoCommand words.now }
+    ensures usage_only { IsNoCommand words.now → (result.status ≡ Status.Usage) ⊎ (result.status ≡ Status.WriteFault) ⊎ (result.status ≡ Status.OutOfMemory) }
     ensures unread { (IsReadLine words.now → ⊥) → source.new ≡ source.old }
     ensures taken { IsReadLine words.now → IsQuiet (S.faults source.old) (S.faults source.new) → result.status ≢ Status.OutOfMemory
         → AreTaken (S.left source.old) (S.left source.new) }

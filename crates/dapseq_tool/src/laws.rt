@@ -12,37 +12,37 @@ ghost use Rattle.job_text.specs.Answers.{Describes};
 ghost use Rattle.job_text.specs.declared.job.Job.{Job};
 ghost use Rattle.dapseq_tool.specs.Answers.{answer_text};
 ghost use Rattle.dapseq_tool.specs.Audit.{AsksOfAudit};
-ghost use Rattle.dapseq_tool.specs.Asked.{Asks, IsSameWhat};
+ghost use Rattle.dapseq_tool.specs.Asked.{AsksForRequest, IsSameWhat};
 ghost use Rattle.dapseq_tool.specs.declared.asking.Requested.{Requested};
-ghost use Rattle.dapseq_tool.specs.Headline.{After, Call, Does, IsRunTo, RunEnd};
+ghost use Rattle.dapseq_tool.specs.Headline.{After, BenchCall, DoesWithBench, IsRunTo, RunEnd};
 ghost use Rattle.dapseq_tool.specs.Kept.{HasKept, entry_text, kept_audit, kept_texts};
 ghost use Rattle.dapseq_tool.specs.declared.asking.Answer.TheVariants as Answer;
 ghost use Rattle.dapseq_tool.specs.declared.asking.Run.{Run};
 ghost use Rattle.dapseq_tool.specs.declared.asking.What.TheVariants as What;
 ghost use Rattle.dapseq_tool.specs.declared.status.Status.TheVariants as Status;
 ghost use Rattle.dapseq_tool.specs.Success.{HasCauses, HasGotBadReply, Success};
-ghost use Rattle.dapseq_tool.specs.TwoRuns.{CameToEnd, IsSameTask, LeavesSame};
+ghost use Rattle.dapseq_tool.specs.TwoRuns.{IsSameTask, LeavesSame, RanToEnd};
 ghost use Rattle.job_runs.specs.Runs.{AccessKind};
 ghost use Rattle.dapseq_tool.specs.FollowedRuns.{RunsLay, RunsList};
 
 /// A call that nothing outside disturbed did what was asked for.
 pub fn quiet_calls_succeed()
-    ensures { (access : AccessKind) (call : Call) → Does access call ⊤ → HasCauses call → Success access call }
+    ensures { (access : AccessKind) (call : BenchCall) → DoesWithBench access call ⊤ → HasCauses call → Success access call }
 {}
 
 /// A call that ends with a bad reply received one, and its bench is not observable.
 pub fn bad_replies_are_received()
-    ensures { (access : AccessKind) (call : Call) → Does access call ⊤ → call.end ≡ Status.ReplyBad → HasGotBadReply call }
+    ensures { (access : AccessKind) (call : BenchCall) → DoesWithBench access call ⊤ → call.end ≡ Status.ReplyBad → HasGotBadReply call }
 {}
 
 /// The words and the bytes of the source ask for one thing at most.
 pub fn one_thing()
-    ensures { (words : List (List ℕ)) (bytes : List ℕ) (x y : Requested) → Asks words bytes x → Asks words bytes y → IsSameWhat x.what y.what }
+    ensures { (words : List (List ℕ)) (bytes : List ℕ) (x y : Requested) → AsksForRequest words bytes x → AsksForRequest words bytes y → IsSameWhat x.what y.what }
 {}
 
 /// The words and the bytes of the source ask for something, whichever they are.
 pub fn something_is_asked()
-    ensures { (words : List (List ℕ)) (bytes : List ℕ) → (asked : Requested) × Asks words bytes asked }
+    ensures { (words : List (List ℕ)) (bytes : List ℕ) → (asked : Requested) × AsksForRequest words bytes asked }
 {}
 
 /// The line that is printed of a packet or of a reply is the text of no other entry under the key `trace`.
@@ -69,7 +69,7 @@ pub fn a_kept_trace_is_accepted()
 /// access each has.
 pub fn packet_limits_do_not_matter()
     ensures { (access other : AccessKind) (x y : Run) (before : Option (List ℕ)) (p q : RunEnd) (a b : After) (m n : BenchState)
-        → IsSameTask x y → IsRunTo access x before p a m → IsRunTo other y before q b n → CameToEnd p.ended.ending → CameToEnd q.ended.ending
+        → IsSameTask x y → IsRunTo access x before p a m → IsRunTo other y before q b n → RanToEnd p.ended.ending → RanToEnd q.ended.ending
         → LeavesSame before p q m n }
 {}
 

@@ -1,10 +1,10 @@
 //! A whole call in memory.
 ghost use Rattle.std.specs.Prelude.{◌≡◌, ◌≢◌, IfOk, MatchBool};
 ghost use Rattle.probe_core.specs.Memory.{IsBeforeLoad};
-ghost use Rattle.dapseq_tool.specs.Asked.{Asks, IsRunLine};
-ghost use Rattle.dapseq_tool.specs.Headline.{Call};
+ghost use Rattle.dapseq_tool.specs.Asked.{AsksForRequest, IsRunLine};
+ghost use Rattle.dapseq_tool.specs.Headline.{BenchCall};
 ghost use Rattle.dapseq_tool.specs.InMemory.{IsCallInMemory};
-ghost use Rattle.dapseq_tool.specs.Success.{IsDone};
+ghost use Rattle.dapseq_tool.specs.Success.{RequestIsDone};
 ghost use Rattle.dapseq_tool.specs.declared.asking.Requested.{Requested};
 ghost use Rattle.dapseq_tool.specs.Packed.{packed};
 
@@ -83,8 +83,8 @@ fn is_out_of_room(status: Status) -> bool
 /// the text has no room in the 64 MiB of the sink.
 pub fn dapseq_in_memory(alloc: Global, words: &Words, bytes: &[u8]) -> Result<InMemory, OutOfMemory>
     // What the words and the bytes ask for was done.
-    ensures done { IfOk result (λ end. (call : Call) × IsCallInMemory words.now bytes.now end call
-        × (asked : Requested) × Asks words.now bytes.now asked × IsDone packed call asked.number asked.what) }
+    ensures done { IfOk result (λ end. (call : BenchCall) × IsCallInMemory words.now bytes.now end call
+        × (asked : Requested) × AsksForRequest words.now bytes.now asked × RequestIsDone packed call asked.number asked.what) }
 
     // A run alone loads the bench, and only where its job is not refused.
     ensures unloaded { IfOk result (λ end. (IsRunLine words.now → ⊥) → IsBeforeLoad end.bench) }

@@ -1,9 +1,9 @@
 //! The whole call over the access that packs, as the program makes it, and the same in memory.
 ghost use Rattle.std.specs.Prelude.{◌≡◌, ◌≢◌, ◌⊎◌};
 ghost use Rattle.dap_base.specs.Causes.{IsQuiet, Rose};
-ghost use Rattle.dapseq_tool.specs.Asked.{IsReadLine, IsRunLine, IsUsage};
+ghost use Rattle.dapseq_tool.specs.Asked.{IsNoCommand, IsReadLine, IsRunLine};
 ghost use Rattle.dapseq_tool.specs.Frame.{IsCall};
-ghost use Rattle.dapseq_tool.specs.Headline.{moment, Does, FailsWriting};
+ghost use Rattle.dapseq_tool.specs.Headline.{bench_moment, DoesWithBench, FailsWriting};
 ghost use Rattle.job_source.specs.Source.{AreTaken};
 ghost use Rattle.dapseq_tool.specs.Success.{HasGotBadReply, Success};
 ghost use Rattle.dapseq_tool.specs.Packed.{packed};
@@ -23,7 +23,7 @@ fn call_lent<S: Source, K: Sink, B: Bench>(
     sink: &mut K,
     bench: &mut B,
 ) -> Status
-    ensures { let at = moment S.left S.faults K.written K.faults B.reported B.state in
+    ensures { let at = bench_moment S.left S.faults K.written K.faults B.reported B.state in
         IsCall packed (record { words = words.now; old = at source.old sink.old bench.old; new = at source.new sink.new bench.new; end = result })
         (source.new ≡ source.old) (bench.new ≡ bench.old) }
 {
@@ -59,21 +59,22 @@ pub fn dapseq<S: Source, K: Sink, B: Bench>(
     bench: &mut B,
 ) -> Status
     // What the words and the bytes ask for was done.
-    ensures asked { let at = moment S.left S.faults K.written K.faults B.reported B.state in
-        Does packed (record { words = words.now; old = at source.old sink.old bench.old; new = at source.new sink.new bench.new; end = result }) (bench.new ≡ bench.old) }
+    ensures asked { let at = bench_moment S.left S.faults K.written K.faults B.reported B.state in
+        DoesWithBench packed (record { words = words.now; old = at source.old sink.old bench.old; new = at source.new sink.new bench.new; end = result })
+        (bench.new ≡ bench.old) }
 
     // Where nothing outside failed and the bench is observable, it was done whole.
-    ensures success { let at = moment S.left S.faults K.written K.faults B.reported B.state in
+    ensures success { let at = bench_moment S.left S.faults K.written K.faults B.reported B.state in
         Success packed (record { words = words.now; old = at source.old sink.old bench.old; new = at source.new sink.new bench.new; end = result }) }
 
     // A bad reply is one that was received, and its bench is not observable.
-    ensures bad_reply { let at = moment S.left S.faults K.written K.faults B.reported B.state in
+    ensures bad_reply { let at = bench_moment S.left S.faults K.written K.faults B.reported B.state in
         result ≡ Status.ReplyBad → HasGotBadReply
         (record { words = words.now; old = at source.old sink.old bench.old; new = at source.new sink.new bench.new; end = result }) }
 
     // The words alone decide on the usage, and whether the source is read: to its end, or one byte too far.
-    ensures usage { result ≡ Status.Usage → IsUsage words.now }
-    ensures usage_only { IsUsage words.now → (result ≡ Status.Usage) ⊎ (result ≡ Status.WriteFault) ⊎ (result ≡ Status.OutOfMemory) }
+    ensures usage { result ≡ Status.Usage → IsNoCommand words.now }
+    ensures usage_only { IsNoCommand words.now → (result ≡ Status.Usage) ⊎ (result ≡ Status.WriteFault) ⊎ (result ≡ Status.OutOfMemory) }
     ensures unread { (IsReadLine words.now → ⊥) → source.new ≡ source.old }
     ensures taken { IsReadLine words.now → IsQuiet (S.faults source.old) (S.faults source.new) → result ≢ Status.OutOfMemory
         → AreTaken (S.left source.old) (S.left source.new) }

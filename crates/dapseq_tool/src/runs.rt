@@ -4,7 +4,7 @@ ghost use Rattle.probe_core.specs.Bench.{fresh, seen};
 ghost use Rattle.dapseq_tool.specs.Answers.{close_status, run_status, status_after, text_status};
 ghost use Rattle.dapseq_tool.specs.Asked.{IsSoundRun};
 ghost use Rattle.dapseq_tool.specs.Frame.{IsLoadedFor, KeepsRun};
-ghost use Rattle.dapseq_tool.specs.Headline.{HasRun, RunEnd};
+ghost use Rattle.dapseq_tool.specs.Headline.{HasRunAndReported, RunEnd};
 ghost use Rattle.dapseq_tool.specs.RunEnds.{AskedRun};
 ghost use Rattle.job_runs.specs.Runs.{access_kind};
 ghost use Rattle.dapseq_tool.specs.Purpose.{sequel_by, shows_packets};
@@ -96,7 +96,7 @@ fn run_loaded<B: Bench, K: Sink, A: OverBench<B>>(
     sink: &mut K,
 ) -> Over<B>
     requires { IsLoadedFor run.now (B.reported bench) }
-    ensures run { (r : RunEnd) × HasRun (access_kind A.Access.journal A.Access.cost A.Access.is_sparing) run.now
+    ensures run { (r : RunEnd) × HasRunAndReported (access_kind A.Access.journal A.Access.cost A.Access.is_sparing) run.now
         (B.state bench ≡ Some (fresh run.now.valid.job.bench)) (B.reported bench) (K.written sink.old) r
         (record { written = K.written sink.new; end = result.status; bench = seen B.reported B.state result.bench }) }
     ensures keeps { KeepsRun (B.identity result.bench ≡ B.identity bench) (K.faults sink.old) (K.faults sink.new)

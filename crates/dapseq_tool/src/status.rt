@@ -1,6 +1,6 @@
 //! How a call ends.
 ghost use Rattle.std.specs.Prelude.{◌≡◌};
-ghost use Rattle.dapseq_tool.specs.Answers.{code_of};
+ghost use Rattle.dapseq_tool.specs.Answers.{dapseq_exit_code};
 
 /// How a call of `dapseq` ended.
 #[derive(Clone, Copy, Debug, PartialEq, Eq)]
@@ -29,7 +29,7 @@ pub enum Status {
 impl Status {
     /// The number with which the program ends: 0 to 8, in the order of the variants.
     pub fn code(&self) -> u8
-        ensures { result ≡ code_of self.now }
+        ensures { result ≡ dapseq_exit_code self.now }
     {
         match self {
             Status::Done => 0,

@@ -14,7 +14,7 @@ use Rattle.pack_faults.specs.declared.answer.Found.{Found}
 use Rattle.pack_faults.specs.declared.answer.PackFault.{PackFault}
 use Rattle.pack_faults.specs.declared.answer.PackFaults.{PackFaults}
 use Rattle.sequence_trees.specs.declared.spot.Spot.{Spot}
-use Rattle.fault_lines.specs.FaultText.{name_of}
+use Rattle.fault_lines.specs.FaultText.{name_in_found}
 use Rattle.std.specs.Prelude.{length}
 use Rattle.std.proofs.lemmas.Bool.{or_from}
 use Rattle.fault_json.specs.Parts.{count, counts, list, text_or_null, bytes_or_null}
@@ -73,7 +73,7 @@ set_has_none (Some s) =
 
 what_has_none : (found : Found) (ms : Members) → members_have_float ms ≡ false → members_have_float (with_what found ms) ≡ false
 what_has_none found ms others =
-    no_floats ((codes "kind", string (kind_word found.fault.kind)) ∷ (codes "name", bytes_or_null (name_of found)) ∷ []) ms (refl, (bytes_have_none (name_of found), tt)) others
+    no_floats ((codes "kind", string (kind_word found.fault.kind)) ∷ (codes "name", bytes_or_null (name_in_found found)) ∷ []) ms (refl, (bytes_have_none (name_in_found found), tt)) others
 
 pub step_has_none : (spot : Spot) (ms : Members) → members_have_float ms ≡ false → members_have_float (with_step spot ms) ≡ false
 step_has_none spot ms others =

@@ -12,7 +12,7 @@ use Rattle.pack_faults.specs.declared.request.SetName.{SetName}
 use Rattle.pack_faults.specs.declared.answer.PackFaults.{PackFaults}
 use Rattle.pack_warnings.specs.declared.answer.FoundWarning.{FoundWarning}
 use Rattle.pack_warnings.specs.declared.answer.PackWarning.{PackWarning}
-use Rattle.fault_lines.specs.WarningText.{kind_word, warning_message}
+use Rattle.fault_lines.specs.WarningText.{warning_kind_word, warning_message}
 use Rattle.fault_json.specs.Parts.{count, list, text_or_null}
 use Rattle.fault_json.specs.FaultsJson.{data_if, for_data, with_step, fault_data}
 use Rattle.fault_json.specs.SarifLog.{line_text, all_kinds, rule_data, with_physical, result_data}
@@ -31,7 +31,7 @@ both f g none other (x ∷ xs) ys = or_from (has_float (f x)) (items_have_float 
 
 kind_has_none : (found : FoundWarning) (ms : Members) → members_have_float ms ≡ false → members_have_float (with_kind found ms) ≡ false
 kind_has_none found ms others =
-    no_floats ((codes "kind", string (kind_word found.warning.kind)) ∷ (codes "name", text_or_null found.warning.name) ∷ []) ms (refl, (text_has_none found.warning.name, tt)) others
+    no_floats ((codes "kind", string (warning_kind_word found.warning.kind)) ∷ (codes "name", text_or_null found.warning.name) ∷ []) ms (refl, (text_has_none found.warning.name, tt)) others
 
 warning_place_has_none : (found : FoundWarning) (ms : Members) → members_have_float ms ≡ false → members_have_float (with_warning_place found ms) ≡ false
 warning_place_has_none found ms others =
@@ -61,7 +61,7 @@ warned_line p warnings d r is text =
 -- ---- the log
 
 rule_of_warning : (kind : WarningKind) → has_float (warning_rule kind) ≡ false
-rule_of_warning kind = only (codes "id") (string (kind_word kind)) refl
+rule_of_warning kind = only (codes "id") (string (warning_kind_word kind)) refl
 
 tool_has_none : has_float warned_tool ≡ false
 tool_has_none =
@@ -80,7 +80,7 @@ location_has_none found =
 
 result_of_warning : (sets : List SetName) (w : PackWarning) → has_float (warning_result sets w) ≡ false
 result_of_warning sets w =
-    no_floats ((codes "ruleId", string (kind_word w.found.warning.kind)) ∷ (codes "level", string (codes "warning")) ∷ (codes "message", warning_message_data sets w)
+    no_floats ((codes "ruleId", string (warning_kind_word w.found.warning.kind)) ∷ (codes "level", string (codes "warning")) ∷ (codes "message", warning_message_data sets w)
     ∷ (codes "locations", list (warning_location w.found ∷ [])) ∷ []) no_members
     (refl, (refl, (only (codes "text") (line_text (warning_message sets w)) refl, (one (warning_location w.found) (location_has_none w.found), tt)))) refl
 

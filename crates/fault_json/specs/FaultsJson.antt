@@ -8,7 +8,7 @@ use Rattle.pack_faults.specs.declared.request.SetName.{SetName}
 use Rattle.pack_faults.specs.declared.answer.Found.{Found}
 use Rattle.pack_faults.specs.declared.answer.PackFault.{PackFault}
 use Rattle.pack_faults.specs.declared.answer.PackFaults.{PackFaults}
-use Rattle.fault_lines.specs.FaultText.{name_of}
+use Rattle.fault_lines.specs.FaultText.{name_in_found}
 use Rattle.fault_json.specs.Parts.{count, counts, list, text_or_null, bytes_or_null}
 
 -- a device, and the variant and the processor or null
@@ -26,7 +26,7 @@ for_data sets places = list (map (λ place. data_if (slice_get sets place)) plac
 
 -- the members, with what is wrong and the name that it is about
 abbrev pub with_what : Found → Members → Members
-with_what found ms = put (codes "name") (bytes_or_null (name_of found)) (put (codes "kind") (string (kind_word found.fault.kind)) ms)
+with_what found ms = put (codes "name") (bytes_or_null (name_in_found found)) (put (codes "kind") (string (kind_word found.fault.kind)) ms)
 
 -- the members, with the sequence, or null in the debug variables, the numbers of the steps, and the part of the step
 abbrev pub with_step : Spot → Members → Members

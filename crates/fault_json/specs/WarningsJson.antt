@@ -6,13 +6,13 @@ use Rattle.pack_faults.specs.declared.request.SetName.{SetName}
 use Rattle.pack_faults.specs.declared.answer.PackFaults.{PackFaults}
 use Rattle.pack_warnings.specs.declared.answer.FoundWarning.{FoundWarning}
 use Rattle.pack_warnings.specs.declared.answer.PackWarning.{PackWarning}
-use Rattle.fault_lines.specs.WarningText.{kind_word}
+use Rattle.fault_lines.specs.WarningText.{warning_kind_word}
 use Rattle.fault_json.specs.Parts.{count, list, text_or_null}
 use Rattle.fault_json.specs.FaultsJson.{for_data, with_step, fault_data, with_checked, with_unchecked}
 
 -- the members, with what a warning is of and the name that it is about
 abbrev pub with_kind : FoundWarning → Members → Members
-with_kind found ms = put (codes "name") (text_or_null found.warning.name) (put (codes "kind") (string (kind_word found.warning.kind)) ms)
+with_kind found ms = put (codes "name") (text_or_null found.warning.name) (put (codes "kind") (string (warning_kind_word found.warning.kind)) ms)
 
 -- the members, with line and column, and the text of the line
 abbrev pub with_warning_place : FoundWarning → Members → Members

@@ -10,7 +10,7 @@ use Rattle.pack_faults.specs.declared.request.SetName.{SetName}
 use Rattle.pack_faults.specs.declared.answer.PackFaults.{PackFaults}
 use Rattle.pack_warnings.specs.declared.answer.FoundWarning.{FoundWarning}
 use Rattle.pack_warnings.specs.declared.answer.PackWarning.{PackWarning}
-use Rattle.fault_lines.specs.WarningText.{kind_word, warning_message}
+use Rattle.fault_lines.specs.WarningText.{warning_kind_word, warning_message}
 use Rattle.fault_json.specs.Parts.{list}
 use Rattle.fault_json.specs.SarifLog.{one_member, line_text, all_kinds, rule_data, step_name, with_physical, result_data}
 
@@ -22,7 +22,7 @@ all_warning_kinds = k.AssignedDebugVariable ∷ k.WaitByName ∷ k.UncalledSeque
 
 -- a rule for each kind of warning, named as it
 abbrev pub warning_rule : WarningKind → Data
-warning_rule kind = one_member (codes "id") (string (kind_word kind))
+warning_rule kind = one_member (codes "id") (string (warning_kind_word kind))
 
 -- the rules of faults, and then those of warnings
 abbrev pub all_rules : List Data
@@ -57,7 +57,7 @@ warning_location found =
 
 -- the members, with the rule and the level
 abbrev pub with_warning_rule : FoundWarning → Members → Members
-with_warning_rule found ms = put (codes "level") (string (codes "warning")) (put (codes "ruleId") (string (kind_word found.warning.kind)) ms)
+with_warning_rule found ms = put (codes "level") (string (codes "warning")) (put (codes "ruleId") (string (warning_kind_word found.warning.kind)) ms)
 
 -- what is warned of, where, and in which sets
 abbrev pub warning_message_data : List SetName → PackWarning → Data

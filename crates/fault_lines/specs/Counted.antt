@@ -2,18 +2,18 @@
 use Rattle.std.specs.Prelude.{ℕ, ◌==◌, List, [], ◌++◌, codes, decimal, if◌then◌else◌}
 
 -- so many, in the singular or the plural
-abbrev pub counted : ℕ → List ℕ → List ℕ → List ℕ
-counted n one many = decimal n ++ (if n == 1 then one else many)
+abbrev pub count_words : ℕ → List ℕ → List ℕ → List ℕ
+count_words n one many = decimal n ++ (if n == 1 then one else many)
 
 -- so many sets of which this was not checked; nothing where there is none
 abbrev pub unchecked : List ℕ → ℕ → List ℕ → List ℕ
-unchecked what n how = if n == 0 then [] else what ++ counted n (codes " set") (codes " sets") ++ how
+unchecked what n how = if n == 0 then [] else what ++ count_words n (codes " set") (codes " sets") ++ how
 
 -- the faults, the devices and the sets that were checked
 abbrev pub checked_words : ℕ → ℕ → ℕ → List ℕ
 checked_words faults devices sets =
-    counted faults (codes " fault; ") (codes " faults; ")
-    ++ counted devices (codes " device, ") (codes " devices, ") ++ counted sets (codes " set checked") (codes " sets checked")
+    count_words faults (codes " fault; ") (codes " faults; ")
+    ++ count_words devices (codes " device, ") (codes " devices, ") ++ count_words sets (codes " set checked") (codes " sets checked")
 
 -- the sets whose names were not checked, and those whose calls were not all checked
 abbrev pub unchecked_words : ℕ → ℕ → List ℕ
@@ -26,4 +26,4 @@ counts_line faults devices sets unread unreached = checked_words faults devices 
 -- the line of counts, with the number of warnings
 abbrev pub warned_counts_line : ℕ → ℕ → ℕ → ℕ → ℕ → ℕ → List ℕ
 warned_counts_line faults devices sets unread unreached warnings =
-    checked_words faults devices sets ++ unchecked_words unread unreached ++ codes "; " ++ counted warnings (codes " warning\n") (codes " warnings\n")
+    checked_words faults devices sets ++ unchecked_words unread unreached ++ codes "; " ++ count_words warnings (codes " warning\n") (codes " warnings\n")

@@ -9,7 +9,7 @@ use Rattle.pack_faults.specs.declared.request.SetName.{SetName}
 use Rattle.pack_faults.specs.declared.answer.Found.{Found}
 use Rattle.pack_faults.specs.declared.answer.PackFault.{PackFault}
 use Rattle.pack_faults.specs.declared.answer.PackFaults.{PackFaults}
-use Rattle.fault_lines.specs.Source.{word_at, quoted_at, called_at, place_lines}
+use Rattle.fault_lines.specs.Source.{name_at_column, quoted_at, called_at, place_lines}
 use Rattle.fault_lines.specs.Counted.{counts_line}
 
 -- ---- the name
@@ -17,11 +17,11 @@ use Rattle.fault_lines.specs.Counted.{counts_line}
 -- the name that a fault of this kind is about, which begins at its column of the line
 abbrev pub name_in : FaultKind → List ℕ → ℕ → Option (List ℕ)
 name_in k.Syntax line column = None
-name_in k.UndefinedName line column = Some (word_at line column)
-name_in k.Redeclared line column = Some (word_at line column)
+name_in k.UndefinedName line column = Some (name_at_column line column)
+name_in k.Redeclared line column = Some (name_at_column line column)
 name_in k.UndefinedSequence line column = Some (quoted_at line column)
-name_in k.UndefinedFunction line column = Some (word_at line column)
-name_in k.ArgumentCount line column = Some (word_at line column)
+name_in k.UndefinedFunction line column = Some (name_at_column line column)
+name_in k.ArgumentCount line column = Some (name_at_column line column)
 name_in k.TextExpected line column = None
 name_in k.NumberExpected line column = None
 name_in k.FormatMismatch line column = None
@@ -38,8 +38,8 @@ name_if kind None column = None
 name_if kind (Some line) column = name_in kind line column
 
 -- the name that the fault is about, where it is about one
-abbrev pub name_of : Found → Option (List ℕ)
-name_of found = name_if found.fault.kind found.line found.fault.spot.place.column
+abbrev pub name_in_found : Found → Option (List ℕ)
+name_in_found found = name_if found.fault.kind found.line found.fault.spot.place.column
 
 -- ---- its lines
 
@@ -50,16 +50,16 @@ after_blank (Some name) = codes " " ++ shown name
 
 -- what is wrong, where, and the name that it is about
 abbrev pub first_words : Found → List ℕ
-first_words found = fault_words found.fault.kind found.fault.spot ++ after_blank (name_of found)
+first_words found = fault_words found.fault.kind found.fault.spot ++ after_blank (name_in_found found)
 
 -- the first line of a fault
 abbrev pub first_line : Found → List ℕ
 first_line found = first_words found ++ codes "\n"
 
 -- the line that it stands in and the caret, where there is one
-abbrev pub place_words : Option (List ℕ) → ℕ → List ℕ
-place_words None column = []
-place_words (Some line) column = place_lines line column
+abbrev pub caret_lines : Option (List ℕ) → ℕ → List ℕ
+caret_lines None column = []
+caret_lines (Some line) column = place_lines line column
 
 -- ---- the sets
 
@@ -73,8 +73,8 @@ words_if None = []
 words_if (Some set) = set_words set
 
 -- the set at this place
-abbrev pub set_at : List SetName → ℕ → List ℕ
-set_at sets place = words_if (slice_get sets place)
+abbrev pub set_words_at : List SetName → ℕ → List ℕ
+set_words_at sets place = words_if (slice_get sets place)
 
 -- how many there are more
 abbrev pub more_words : List ℕ → List ℕ
@@ -84,8 +84,8 @@ more_words (place ∷ places) = codes " and " ++ decimal (length (place ∷ plac
 -- the first two of the sets at these places, and how many there are more
 abbrev pub for_words : List SetName → List ℕ → List ℕ
 for_words sets [] = []
-for_words sets (first ∷ []) = set_at sets first
-for_words sets (first ∷ second ∷ more) = set_at sets first ++ codes ", " ++ set_at sets second ++ more_words more
+for_words sets (first ∷ []) = set_words_at sets first
+for_words sets (first ∷ second ∷ more) = set_words_at sets first ++ codes ", " ++ set_words_at sets second ++ more_words more
 
 -- the line that names the sets in which a fault is
 abbrev pub for_line : List SetName → List ℕ → List ℕ
@@ -99,7 +99,7 @@ message_words sets f = first_words f.found ++ codes " for " ++ for_words sets f.
 
 -- the lines of a fault, with the names of these sets
 abbrev pub fault_text : List SetName → PackFault → List ℕ
-fault_text sets f = first_line f.found ++ place_words f.found.line f.found.fault.spot.place.column ++ for_line sets f.sets
+fault_text sets f = first_line f.found ++ caret_lines f.found.line f.found.fault.spot.place.column ++ for_line sets f.sets
 
 -- the line of counts
 abbrev pub last_line : PackFaults → List ℕ

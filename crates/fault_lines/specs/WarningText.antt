@@ -12,14 +12,14 @@ use Rattle.pack_faults.specs.declared.answer.PackFaults.{PackFaults}
 use Rattle.pack_warnings.specs.declared.answer.FoundWarning.{FoundWarning}
 use Rattle.pack_warnings.specs.declared.answer.PackWarning.{PackWarning}
 use Rattle.fault_lines.specs.Counted.{warned_counts_line}
-use Rattle.fault_lines.specs.FaultText.{after_blank, place_words, for_words, for_line, fault_text}
+use Rattle.fault_lines.specs.FaultText.{after_blank, caret_lines, for_words, for_line, fault_text}
 
 -- the name of a kind
-abbrev pub kind_word : WarningKind → List ℕ
-kind_word k.AssignedDebugVariable = codes "AssignedDebugVariable"
-kind_word k.WaitByName = codes "WaitByName"
-kind_word k.UncalledSequence = codes "UncalledSequence"
-kind_word k.LongWait = codes "LongWait"
+abbrev pub warning_kind_word : WarningKind → List ℕ
+warning_kind_word k.AssignedDebugVariable = codes "AssignedDebugVariable"
+warning_kind_word k.WaitByName = codes "WaitByName"
+warning_kind_word k.UncalledSequence = codes "UncalledSequence"
+warning_kind_word k.LongWait = codes "LongWait"
 
 -- ---- where it stands
 
@@ -34,14 +34,14 @@ words_along [] spot = sequence_words spot.sequence
 words_along (n ∷ path) spot = where_words spot.sequence spot.path spot.part ++ check.place_words spot.place
 
 -- where a warning is, by the numbers of its step, if it has one
-abbrev pub spot_words : Spot → List ℕ
-spot_words spot = words_along spot.path spot
+abbrev pub warning_spot_words : Spot → List ℕ
+warning_spot_words spot = words_along spot.path spot
 
 -- ---- its lines
 
 -- what it is of, where, and the name that it is about
 abbrev pub warning_words : FoundWarning → List ℕ
-warning_words found = kind_word found.warning.kind ++ spot_words found.warning.spot ++ after_blank found.warning.name
+warning_words found = warning_kind_word found.warning.kind ++ warning_spot_words found.warning.spot ++ after_blank found.warning.name
 
 -- marked as a warning
 abbrev pub warning_line : FoundWarning → List ℕ
@@ -53,7 +53,7 @@ warning_message sets w = warning_words w.found ++ codes " for " ++ for_words set
 
 -- the lines of a warning, with the names of these sets
 abbrev pub warning_text : List SetName → PackWarning → List ℕ
-warning_text sets w = warning_line w.found ++ place_words w.found.line w.found.warning.spot.place.column ++ for_line sets w.sets
+warning_text sets w = warning_line w.found ++ caret_lines w.found.line w.found.warning.spot.place.column ++ for_line sets w.sets
 
 -- ---- the whole
 

@@ -1,7 +1,7 @@
 //! The last line: how many faults there are, and what was checked.
 ghost use Rattle.std.specs.Prelude.{◌≡◌, ◌++◌, codes, IfOk};
 ghost use Rattle.fault_lines.specs.Counted as lines;
-ghost use Rattle.fault_lines.specs.Counted.{counted, unchecked, checked_words, unchecked_words};
+ghost use Rattle.fault_lines.specs.Counted.{count_words, unchecked, checked_words, unchecked_words};
 
 use dap_base::OutOfMemory;
 use std::alloc::Global;
@@ -9,7 +9,7 @@ use text_lines::Line;
 
 // So many, in the singular or the plural.
 fn with_counted(line: Line, number: u64, one: &str, many: &str) -> Result<Line, OutOfMemory>
-    ensures { IfOk result (λ l. l ≡ line ++ counted number one.now many.now) }
+    ensures { IfOk result (λ l. l ≡ line ++ count_words number one.now many.now) }
 {
     let word = if number == 1 { one } else { many };
     line.decimal(number)?.text(word)

@@ -1,7 +1,7 @@
 //! The lines of a fault.
 ghost use Rattle.std.specs.Prelude.{◌≡◌, ◌++◌, IfOk, slice_get, option_map};
 ghost use Rattle.fault_lines.specs.FaultText as text;
-ghost use Rattle.fault_lines.specs.FaultText.{name_in, name_if, first_words, after_blank, set_words, set_at, more_words, for_words};
+ghost use Rattle.fault_lines.specs.FaultText.{name_in, name_if, first_words, after_blank, set_words, set_words_at, more_words, for_words};
 
 use crate::name::{called_at, quoted_at, word_at};
 use check_lines::with_fault;
@@ -36,7 +36,7 @@ fn name_in(kind: FaultKind, line: &[u8], column: u64) -> Option<&[u8]>
 /// The name that the fault is about, as its line spells it: the variable or function that is used, declared or called,
 /// or the sequence that a text names. `None` where it is about none, or where a call names its sequence in another line.
 pub fn name_of(found: &Found) -> Option<&[u8]>
-    ensures { option_map (λ name. name.now) result ≡ text.name_of found.now }
+    ensures { option_map (λ name. name.now) result ≡ text.name_in_found found.now }
 {
     match &found.line {
         Some(line) => name_in(
@@ -92,7 +92,7 @@ fn with_set(line: Line, set: &SetName) -> Result<Line, OutOfMemory>
 }
 
 fn with_set_at(line: Line, sets: &[SetName], place: usize) -> Result<Line, OutOfMemory>
-    ensures { IfOk result (λ l. l ≡ line ++ set_at sets.now place) }
+    ensures { IfOk result (λ l. l ≡ line ++ set_words_at sets.now place) }
 {
     match sets.get(place) {
         Some(set) => with_set(line, set),

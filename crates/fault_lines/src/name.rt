@@ -1,7 +1,7 @@
 //! The name that begins at a place of a line.
 ghost use Rattle.std.specs.Prelude.{◌≡◌, false, take, drop, option_map};
 ghost use Rattle.fault_lines.specs.Source as source;
-ghost use Rattle.fault_lines.specs.Source.{from_column, is_word, is_blank, word_front, after_word, after_blanks, after_first, after_byte, before_quote};
+ghost use Rattle.fault_lines.specs.Source.{from_column, is_name_byte, is_blank_or_tab, word_front, after_word, after_blanks, after_first, after_byte, text_before_quote};
 
 // What follows in the line from this column on.
 fn from_column(line: &[u8], column: u64) -> &[u8]
@@ -12,13 +12,13 @@ fn from_column(line: &[u8], column: u64) -> &[u8]
 }
 
 fn is_word(byte: u8) -> bool
-    ensures { result ≡ is_word byte }
+    ensures { result ≡ is_name_byte byte }
 {
     byte.is_ascii_alphanumeric() || byte == b'_'
 }
 
 fn is_blank(byte: u8) -> bool
-    ensures { result ≡ is_blank byte }
+    ensures { result ≡ is_blank_or_tab byte }
 {
     byte == b' ' || byte == b'\t'
 }
@@ -50,7 +50,7 @@ fn blanks_len(bytes: &[u8]) -> usize
 
 // How many bytes stand before the quote that ends them.
 fn quoted_len(bytes: &[u8]) -> usize
-    ensures { take result bytes.now ≡ before_quote false bytes.now }
+    ensures { take result bytes.now ≡ text_before_quote false bytes.now }
 {
     let mut escaped = false;
     for (index, byte) in bytes.iter().enumerate() {
@@ -95,7 +95,7 @@ fn after_byte(byte: u8, bytes: &[u8]) -> Option<&[u8]>
 
 /// The name that begins at this column of the line: letters, digits and `_`. Columns count bytes from 1.
 pub fn word_at(line: &[u8], column: u64) -> &[u8]
-    ensures { result.now ≡ source.word_at line.now column }
+    ensures { result.now ≡ source.name_at_column line.now column }
 {
     let bytes = from_column(line, column);
     front(bytes, word_len(bytes))

@@ -3,7 +3,7 @@ ghost use Rattle.std.specs.Prelude.{◌≡◌, ◌++◌, IfOk};
 ghost use Rattle.check_lines.specs.CheckLines.{where_words};
 ghost use Rattle.check_lines.specs.CheckLines as check;
 ghost use Rattle.fault_lines.specs.WarningText as text;
-ghost use Rattle.fault_lines.specs.WarningText.{kind_word, sequence_words, spot_words, warning_words};
+ghost use Rattle.fault_lines.specs.WarningText.{sequence_words, warning_kind_word, warning_spot_words, warning_words};
 
 use crate::lines::{with_sets, with_text};
 use check_lines::part_text;
@@ -17,7 +17,7 @@ use text_lines::Line;
 
 /// The name of a kind of warning.
 pub fn warning_kind_text(kind: WarningKind) -> &'static str
-    ensures { result.now ≡ kind_word kind }
+    ensures { result.now ≡ warning_kind_word kind }
 {
     match kind {
         WarningKind::AssignedDebugVariable => "AssignedDebugVariable",
@@ -62,7 +62,7 @@ fn with_place(line: Line, place: Place) -> Result<Line, OutOfMemory>
 
 // Where it stands.
 fn with_spot(line: Line, spot: &Spot) -> Result<Line, OutOfMemory>
-    ensures { IfOk result (λ l. l ≡ line ++ spot_words spot.now) }
+    ensures { IfOk result (λ l. l ≡ line ++ warning_spot_words spot.now) }
 {
     match spot.path.as_slice() {
         [] => with_sequence(line, &spot.sequence),

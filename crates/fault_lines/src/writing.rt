@@ -19,7 +19,7 @@ pub fn place_text(
     line: &Option<NameText>,
     column: u64,
 ) -> Result<Vec<u8>, OutOfMemory>
-    ensures { IfOk result (λ t. t.items ≡ text.place_words line.now column) }
+    ensures { IfOk result (λ t. t.items ≡ text.caret_lines line.now column) }
 {
     match line {
         Some(line) => place_lines(alloc, line.as_str().as_bytes(), column),

@@ -11,7 +11,7 @@ use Rattle.job_check.specs.declared.answer.Refusal.{Refusal}
 use Rattle.job_check.specs.declared.answer.Refusal.TheVariants as refusals
 use Rattle.job_check.specs.declared.answer.CheckRefusal.{CheckRefusal}
 use Rattle.job_check.specs.declared.answer.CheckRefusal.TheVariants as ends
-use Rattle.faults_tool.specs.Packs.{Answers, Describes, HasPack, IsAnswer, NoPack, pack_in_job}
+use Rattle.faults_tool.specs.Packs.{AnswersPack, DescribesPack, HasPack, IsPackAnswer, NoPack, pack_in_job}
 use Rattle.job_check.specs.Answers.{OnRefusal}
 
 pub job_pack_reads : Reads pack_in_job HasPack
@@ -40,22 +40,22 @@ same_fault a b e = cc
 no_fault : (pack : Pack) (fault : JobFault) → pack_ok pack ≡ pack_err fault → ⊥
 no_fault pack fault e = cc
 
-pub found_in : (bytes : List ℕ) (r : Result Pack CheckRefusal) → Answers bytes r → IfOk r (Describes bytes)
+pub found_in : (bytes : List ℕ) (r : Result Pack CheckRefusal) → AnswersPack bytes r → IfOk r (DescribesPack bytes)
 found_in bytes (Ok pack) given = (given.0, given.1, job_pack_reads.sound given.0 pack given.2)
 found_in bytes (Err end) given = tt
 
-pub refused_in : (bytes : List ℕ) (r : Result Pack CheckRefusal) → Answers bytes r → IfErr r (OnRefusal (NoPack bytes))
+pub refused_in : (bytes : List ℕ) (r : Result Pack CheckRefusal) → AnswersPack bytes r → IfErr r (OnRefusal (NoPack bytes))
 refused_in bytes (Ok pack) given = tt
 refused_in bytes (Err end) given = given
 
 -- bytes have one pack
-pub one_pack : (bytes : List ℕ) (a b : Pack) → Describes bytes a → Describes bytes b → a ≡ b
+pub one_pack : (bytes : List ℕ) (a b : Pack) → DescribesPack bytes a → DescribesPack bytes b → a ≡ b
 one_pack bytes a b here there =
     let same = one_value bytes here.0 there.0 here.1 there.1 in
     same_pack a b (sym (job_pack_reads.complete here.0 a here.2) ∙ ap pack_in_job same ∙ job_pack_reads.complete there.0 b there.2)
 
 -- bytes that have a pack are not refused
-pub no_refusal : (bytes : List ℕ) (pack : Pack) (r : Refusal) → Describes bytes pack → NoPack bytes r → ⊥
+pub no_refusal : (bytes : List ℕ) (pack : Pack) (r : Refusal) → DescribesPack bytes pack → NoPack bytes r → ⊥
 no_refusal bytes pack refusals.BadJson says none = none says.0 says.1
 no_refusal bytes pack (refusals.Job fault) says none =
     let same = one_value bytes says.0 none.0 says.1 none.1 in
@@ -67,7 +67,7 @@ no_refusal bytes pack (refusals.Dbgconf kind at) says none = none
 no_refusal bytes pack (refusals.Image what line) says none = none
 no_refusal bytes pack (refusals.Check kind spot) says none = none
 
-pub only_in : (bytes : List ℕ) (r : Result Pack CheckRefusal) → Answers bytes r → (pack : Pack) → Describes bytes pack → IsAnswer pack r
+pub only_in : (bytes : List ℕ) (r : Result Pack CheckRefusal) → AnswersPack bytes r → (pack : Pack) → DescribesPack bytes pack → IsPackAnswer pack r
 only_in bytes (Ok found) given pack says = one_pack bytes found pack (found_in bytes (Ok found) given) says
 only_in bytes (Err (ends.Refused r)) given pack says = no_refusal bytes pack r says given
 only_in bytes (Err ends.OutOfMemory) given pack says = tt

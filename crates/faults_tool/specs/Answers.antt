@@ -18,30 +18,30 @@ use Rattle.faults_tool.specs.declared.status.Status.{Status}
 use Rattle.faults_tool.specs.declared.status.Status.TheVariants as status
 
 -- the status as the number with which the program ends
-abbrev pub code_of : Status → ℕ
-code_of status.Done = 0
-code_of status.Faulty = 1
-code_of status.Refused = 1
-code_of status.Usage = 2
-code_of status.ReadFault = 5
-code_of status.WriteFault = 6
-code_of status.OutOfMemory = 7
+abbrev pub faults_exit_code : Status → ℕ
+faults_exit_code status.Done = 0
+faults_exit_code status.Faulty = 1
+faults_exit_code status.Refused = 1
+faults_exit_code status.Usage = 2
+faults_exit_code status.ReadFault = 5
+faults_exit_code status.WriteFault = 6
+faults_exit_code status.OutOfMemory = 7
 
 -- ---- what is written
 
 -- the line of words that ask for nothing
-abbrev pub usage_line : List ℕ
-usage_line = codes "usage dapseq_faults [--device NAME] [--variant NAME] [--pname NAME] [--format text|json|sarif] [--warnings] < JOB\n"
+abbrev pub faults_usage_line : List ℕ
+faults_usage_line = codes "usage dapseq_faults [--device NAME] [--variant NAME] [--pname NAME] [--format text|json|sarif] [--warnings] < JOB\n"
 
 -- the line of a processor that no sequence is for
 abbrev pub no_pname_line : List ℕ
 no_pname_line = codes "refused NoPname\n"
 
 -- all faults, in this format
-abbrev pub formatted : Format → PackFaults → List ℕ
-formatted formats.Text faults = faults_text faults
-formatted formats.Json faults = faults_json faults
-formatted formats.Sarif faults = faults_sarif faults
+abbrev pub faults_in_format : Format → PackFaults → List ℕ
+faults_in_format formats.Text faults = faults_text faults
+faults_in_format formats.Json faults = faults_json faults
+faults_in_format formats.Sarif faults = faults_sarif faults
 
 -- all faults and all warnings, in this format
 abbrev pub warned_in : Format → PackFaults → List PackWarning → List ℕ
@@ -50,13 +50,13 @@ warned_in formats.Json faults warnings = warned_json faults warnings
 warned_in formats.Sarif faults warnings = warned_sarif faults warnings
 
 -- the text of an answer
-unfoldable pub answer_text : Answer → List ℕ
-answer_text answers.Usage = usage_line
-answer_text answers.TooLong = too_long_line
-answer_text (answers.Refused refusal) = refusal_line refusal
-answer_text answers.NoPname = no_pname_line
-answer_text (answers.Faults format faults) = formatted format faults
-answer_text (answers.Warned format faults warnings) = warned_in format faults warnings
+unfoldable pub faults_answer_text : Answer → List ℕ
+faults_answer_text answers.Usage = faults_usage_line
+faults_answer_text answers.TooLong = too_long_line
+faults_answer_text (answers.Refused refusal) = refusal_line refusal
+faults_answer_text answers.NoPname = no_pname_line
+faults_answer_text (answers.Faults format faults) = faults_in_format format faults
+faults_answer_text (answers.Warned format faults warnings) = warned_in format faults warnings
 
 -- ---- statuses
 
@@ -66,10 +66,10 @@ list_status [] = status.Done
 list_status (f ∷ fs) = status.Faulty
 
 -- the status where an answer is written; warnings change none
-unfoldable pub answer_status : Answer → Status
-answer_status answers.Usage = status.Usage
-answer_status answers.TooLong = status.Refused
-answer_status (answers.Refused refusal) = status.Refused
-answer_status answers.NoPname = status.Refused
-answer_status (answers.Faults format faults) = list_status faults.faults
-answer_status (answers.Warned format faults warnings) = list_status faults.faults
+unfoldable pub faults_answer_status : Answer → Status
+faults_answer_status answers.Usage = status.Usage
+faults_answer_status answers.TooLong = status.Refused
+faults_answer_status (answers.Refused refusal) = status.Refused
+faults_answer_status answers.NoPname = status.Refused
+faults_answer_status (answers.Faults format faults) = list_status faults.faults
+faults_answer_status (answers.Warned format faults warnings) = list_status faults.faults

@@ -17,30 +17,30 @@ use Rattle.faults_words.specs.Asks as words
 use Rattle.job_source.specs.Source.{limit}
 use Rattle.faults_tool.specs.declared.asking.Answer.{Answer}
 use Rattle.faults_tool.specs.declared.asking.Answer.TheVariants as answers
-use Rattle.faults_tool.specs.Packs.{Describes, NoPack}
+use Rattle.faults_tool.specs.Packs.{DescribesPack, NoPack}
 
 -- ---- the words
 
 -- the words ask for nothing
-abbrev pub IsUsage : List (List ℕ) → Type 0
-IsUsage given = (a : Asked) → words.Asks given a → ⊥
+abbrev pub IsFaultsUsage : List (List ℕ) → Type 0
+IsFaultsUsage given = (a : Asked) → words.WordsAskForFaults given a → ⊥
 
 -- the words ask for something
-abbrev pub IsLine : List (List ℕ) → Type 0
-IsLine given = (a : Asked) × words.Asks given a
+abbrev pub IsFaultsLine : List (List ℕ) → Type 0
+IsFaultsLine given = (a : Asked) × words.WordsAskForFaults given a
 
 -- whose sets they name
-abbrev pub request_of : Asked → Request
-request_of a = record { device = a.device; variant = a.variant; pname = a.pname }
+abbrev pub request_of_words : Asked → Request
+request_of_words a = record { device = a.device; variant = a.variant; pname = a.pname }
 
 -- ---- the bytes
 
 -- the answer where there is no set, unless memory ran out
-abbrev pub of_refusal : PackRefusal → Option Answer
-of_refusal packs.NoDevice = Some (answers.Refused refusals.NoDevice)
-of_refusal packs.NoVariant = Some (answers.Refused refusals.NoVariant)
-of_refusal packs.NoPname = Some answers.NoPname
-of_refusal packs.OutOfMemory = None
+abbrev pub answer_of_pack_refusal : PackRefusal → Option Answer
+answer_of_pack_refusal packs.NoDevice = Some (answers.Refused refusals.NoDevice)
+answer_of_pack_refusal packs.NoVariant = Some (answers.Refused refusals.NoVariant)
+answer_of_pack_refusal packs.NoPname = Some answers.NoPname
+answer_of_pack_refusal packs.OutOfMemory = None
 
 -- the faults of the sets, in this format; with the warnings of the sets, where they are asked for
 pub data IsList (pack : Pack) (r : Request) (format : Format) (warnings : Bool) (faults : PackFaults) (answer : Answer) : Type 0 where
@@ -50,29 +50,29 @@ pub data IsList (pack : Pack) (r : Request) (format : Format) (warnings : Bool) 
 
 -- what is asked for of a pack: why there is no set, or all faults of the sets, in the format that is named, with their warnings or without
 pub data AsksOfPack (pack : Pack) (a : Asked) (answer : Answer) : Type 0 where
-  no_set : (r : PackRefusal) → refusal pack (request_of a) ≡ Some r → of_refusal r ≡ Some answer → AsksOfPack pack a answer
-  sets : (faults : PackFaults) → refusal pack (request_of a) ≡ None → ArePackFaults pack (request_of a) faults
-      → IsList pack (request_of a) a.format a.warnings faults answer → AsksOfPack pack a answer
+  no_set : (r : PackRefusal) → refusal pack (request_of_words a) ≡ Some r → answer_of_pack_refusal r ≡ Some answer → AsksOfPack pack a answer
+  sets : (faults : PackFaults) → refusal pack (request_of_words a) ≡ None → ArePackFaults pack (request_of_words a) faults
+      → IsList pack (request_of_words a) a.format a.warnings faults answer → AsksOfPack pack a answer
 
 -- the same of bytes: why they describe no pack, or what is asked for of the pack
-pub data AsksOfBytes (bytes : List ℕ) (a : Asked) (answer : Answer) : Type 0 where
-  no_pack : (r : Refusal) → NoPack bytes r → answer ≡ answers.Refused r → AsksOfBytes bytes a answer
-  pack : (pack : Pack) → Describes bytes pack → AsksOfPack pack a answer → AsksOfBytes bytes a answer
+pub data AsksOfPackBytes (bytes : List ℕ) (a : Asked) (answer : Answer) : Type 0 where
+  no_pack : (r : Refusal) → NoPack bytes r → answer ≡ answers.Refused r → AsksOfPackBytes bytes a answer
+  pack : (pack : Pack) → DescribesPack bytes pack → AsksOfPack pack a answer → AsksOfPackBytes bytes a answer
 
 -- This is what the words and all the bytes of the source ask for.
-pub data Asks (given : List (List ℕ)) (bytes : List ℕ) (answer : Answer) : Type 0 where
-  usage : IsUsage given → answer ≡ answers.Usage → Asks given bytes answer
-  too_long : IsLine given → limit < length bytes → answer ≡ answers.TooLong → Asks given bytes answer
-  job : (a : Asked) → words.Asks given a → length bytes ≤ limit → AsksOfBytes bytes a answer → Asks given bytes answer
+pub data AsksForFaults (given : List (List ℕ)) (bytes : List ℕ) (answer : Answer) : Type 0 where
+  usage : IsFaultsUsage given → answer ≡ answers.Usage → AsksForFaults given bytes answer
+  too_long : IsFaultsLine given → limit < length bytes → answer ≡ answers.TooLong → AsksForFaults given bytes answer
+  job : (a : Asked) → words.WordsAskForFaults given a → length bytes ≤ limit → AsksOfPackBytes bytes a answer → AsksForFaults given bytes answer
 
 -- ---- valid sets
 
 -- the bytes describe a pack that has sets which the words name, and each of these is valid
 pub record AreAllValid (given : List (List ℕ)) (bytes : List ℕ) : Type 0 where
   pub asked : Asked
-  pub asks : words.Asks given asked
+  pub asks : words.WordsAskForFaults given asked
   pub short : length bytes ≤ limit
   pub pack : Pack
-  pub describes : Describes bytes pack
-  pub some : refusal pack (request_of asked) ≡ None
-  pub valid : AreValid pack (sets_of pack (request_of asked))
+  pub describes : DescribesPack bytes pack
+  pub some : refusal pack (request_of_words asked) ≡ None
+  pub valid : AreValid pack (sets_of pack (request_of_words asked))

@@ -23,8 +23,8 @@ pub record HasPack (d : Data) (p : Pack) : Type 0 where
   pub pack : Has (codes "pack") IsPack d p
 
 -- the bytes are the JSON text of such a value
-abbrev pub Describes : List ℕ → Pack → Type 0
-Describes bytes pack = (d : Data) × IsTextOf bytes d × HasPack d pack
+abbrev pub DescribesPack : List ℕ → Pack → Type 0
+DescribesPack bytes pack = (d : Data) × IsTextOf bytes d × HasPack d pack
 
 -- reading the pack, or the first fault: of the keys, and then of the pack
 unfoldable pub pack_in_job : Data → Result Pack JobFault
@@ -46,12 +46,12 @@ NoPack bytes (refusals.Check kind spot) = ⊥
 -- ---- what is answered to bytes
 
 -- this pack, unless memory ran out
-abbrev pub IsAnswer : Pack → Result Pack CheckRefusal → Type 0
-IsAnswer pack (Ok read) = read ≡ pack
-IsAnswer pack (Err (ends.Refused r)) = ⊥
-IsAnswer pack (Err ends.OutOfMemory) = Unit {0}
+abbrev pub IsPackAnswer : Pack → Result Pack CheckRefusal → Type 0
+IsPackAnswer pack (Ok read) = read ≡ pack
+IsPackAnswer pack (Err (ends.Refused r)) = ⊥
+IsPackAnswer pack (Err ends.OutOfMemory) = Unit {0}
 
 -- it is what reading gives, unless memory ran out
-abbrev pub Answers : List ℕ → Result Pack CheckRefusal → Type 0
-Answers bytes (Ok pack) = (d : Data) × IsTextOf bytes d × (pack_in_job d ≡ Ok pack)
-Answers bytes (Err end) = OnRefusal (NoPack bytes) end
+abbrev pub AnswersPack : List ℕ → Result Pack CheckRefusal → Type 0
+AnswersPack bytes (Ok pack) = (d : Data) × IsTextOf bytes d × (pack_in_job d ≡ Ok pack)
+AnswersPack bytes (Err end) = OnRefusal (NoPack bytes) end

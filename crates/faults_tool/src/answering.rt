@@ -1,7 +1,7 @@
 //! What is written.
 ghost use Rattle.std.specs.Prelude.{◌≡◌};
 ghost use Rattle.text_lines.specs.Puts.{PutsText};
-ghost use Rattle.faults_tool.specs.Answers.{answer_text, answer_status, formatted, warned_in, list_status, no_pname_line, usage_line};
+ghost use Rattle.faults_tool.specs.Answers.{faults_answer_text, faults_answer_status, faults_in_format, warned_in, list_status, no_pname_line, faults_usage_line};
 
 use crate::asking::Answer;
 use crate::status::Status;
@@ -26,9 +26,9 @@ fn list_status(faults: &[PackFault]) -> Status
 }
 
 /// The status where an answer is written.
-#[tactic(auto, unfolding(crate::specs::Answers::answer_status))]
+#[tactic(auto, unfolding(crate::specs::Answers::faults_answer_status))]
 pub fn status_of(answer: &Answer) -> Status
-    ensures { result ≡ answer_status answer.now }
+    ensures { result ≡ faults_answer_status answer.now }
 {
     match answer {
         Answer::Usage => Status::Usage,
@@ -44,7 +44,7 @@ const USAGE: &[u8] =
 
 // Writes the line of words that ask for nothing.
 fn write_usage<K: Sink>(sink: &mut K) -> Result<(), TextError>
-    ensures puts { PutsText usage_line result TextError.Failed K.written K.faults sink.old sink.new }
+    ensures puts { PutsText faults_usage_line result TextError.Failed K.written K.faults sink.old sink.new }
 {
     put_text(USAGE, sink)
 }
@@ -63,7 +63,7 @@ fn write_formatted<K: Sink>(
     faults: &PackFaults,
     sink: &mut K,
 ) -> Result<(), TextError>
-    ensures puts { PutsText (formatted format faults.now) result TextError.Failed K.written K.faults sink.old sink.new }
+    ensures puts { PutsText (faults_in_format format faults.now) result TextError.Failed K.written K.faults sink.old sink.new }
 {
     match format {
         Format::Text => write_faults(alloc, faults, sink),
@@ -90,9 +90,9 @@ fn write_list<K: Sink>(
 }
 
 /// Writes the text of an answer. At an error a part of it was written, from its front.
-#[tactic(auto, unfolding(crate::specs::Answers::answer_text))]
+#[tactic(auto, unfolding(crate::specs::Answers::faults_answer_text))]
 pub fn write_answer<K: Sink>(alloc: Global, answer: &Answer, sink: &mut K) -> Result<(), TextError>
-    ensures puts { PutsText (answer_text answer.now) result TextError.Failed K.written K.faults sink.old sink.new }
+    ensures puts { PutsText (faults_answer_text answer.now) result TextError.Failed K.written K.faults sink.old sink.new }
 {
     match answer {
         Answer::Usage => write_usage(sink),

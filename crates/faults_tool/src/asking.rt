@@ -2,7 +2,7 @@
 ghost use Rattle.std.specs.Prelude.{◌≡◌, ℕ, List, Some, IfOk, OnOk, IsErrOf};
 ghost use Rattle.text_lines.specs.Causes.{NamesFault};
 ghost use Rattle.faults_words.specs.Asks as words_asked;
-ghost use Rattle.faults_tool.specs.Asked.{Asks, AsksOfBytes, AsksOfPack, IsLine, IsList, of_refusal};
+ghost use Rattle.faults_tool.specs.Asked.{AsksForFaults, AsksOfPack, AsksOfPackBytes, IsFaultsLine, IsList, answer_of_pack_refusal};
 ghost use Rattle.job_source.specs.Source.{AreBytesOf, AreTaken};
 ghost use Rattle.tool_calls.specs.Calls.{ReadsJob};
 
@@ -36,7 +36,7 @@ pub enum Answer {
 
 // What is answered where there is no set.
 fn refused_by(refusal: PackRefusal) -> Result<Answer, OutOfMemory>
-    ensures { IfOk result (λ answer. of_refusal refusal ≡ Some answer) }
+    ensures { IfOk result (λ answer. answer_of_pack_refusal refusal ≡ Some answer) }
 {
     match refusal {
         PackRefusal::NoDevice => Ok(Answer::Refused(Refusal::NoDevice)),
@@ -83,7 +83,7 @@ fn ask_of_pack(alloc: Global, asked: Asked, pack: &Pack) -> Result<Answer, OutOf
 
 // What is asked for of the bytes of a job.
 fn ask_of_bytes(alloc: Global, asked: Asked, bytes: &[u8]) -> Result<Answer, OutOfMemory>
-    ensures { IfOk result (AsksOfBytes bytes.now asked) }
+    ensures { IfOk result (AsksOfPackBytes bytes.now asked) }
 {
     match read_pack(alloc, bytes) {
         Ok(pack) => ask_of_pack(alloc, asked, &pack),
@@ -94,8 +94,8 @@ fn ask_of_bytes(alloc: Global, asked: Asked, bytes: &[u8]) -> Result<Answer, Out
 
 // What the source asks for.
 fn ask_of_source<S: Source>(alloc: Global, asked: Asked, source: &mut S) -> Result<Answer, Unasked>
-    ensures asked { (given : List (List ℕ)) → words_asked.Asks given asked
-        → IfOk result (λ answer. (bytes : List ℕ) × AreBytesOf (S.left source.old) bytes × Asks given bytes answer) }
+    ensures asked { (given : List (List ℕ)) → words_asked.WordsAskForFaults given asked
+        → IfOk result (λ answer. (bytes : List ℕ) × AreBytesOf (S.left source.old) bytes × AsksForFaults given bytes answer) }
     ensures reads { ReadsJob result (S.left source.old) (S.left source.new) (S.faults source.old) (S.faults source.new) }
 {
     let bytes = match read_job(alloc, source) {
@@ -112,10 +112,10 @@ fn ask_of_source<S: Source>(alloc: Global, asked: Asked, source: &mut S) -> Resu
 
 /// What the words and the source ask for. Where the words ask for nothing, the source is not read.
 pub fn ask<S: Source>(alloc: Global, words: &Words, source: &mut S) -> Result<Answer, Unasked>
-    ensures asked { IfOk result (λ answer. (bytes : List ℕ) × AreBytesOf (S.left source.old) bytes × Asks words.now bytes answer) }
-    ensures taken { OnOk result (IsLine words.now → AreTaken (S.left source.old) (S.left source.new)) }
-    ensures unread { (IsLine words.now → ⊥) → source.new ≡ source.old }
-    ensures fault { IsErrOf result Unasked.ReadFault → IsLine words.now }
+    ensures asked { IfOk result (λ answer. (bytes : List ℕ) × AreBytesOf (S.left source.old) bytes × AsksForFaults words.now bytes answer) }
+    ensures taken { OnOk result (IsFaultsLine words.now → AreTaken (S.left source.old) (S.left source.new)) }
+    ensures unread { (IsFaultsLine words.now → ⊥) → source.new ≡ source.old }
+    ensures fault { IsErrOf result Unasked.ReadFault → IsFaultsLine words.now }
     ensures source { NamesFault Unasked.ReadFault (S.faults source.old) (S.faults source.new) result }
 {
     match asked_of(alloc, words) {

@@ -5,7 +5,7 @@ ghost use Rattle.json_form.specs.Faults.{Gives};
 ghost use Rattle.json_form.specs.Reading.{only_keys};
 ghost use Rattle.device_tree.specs.declared.pack.Pack.{Pack};
 ghost use Rattle.job_text.specs.Keys.{job_keys};
-ghost use Rattle.faults_tool.specs.Packs.{Answers, Describes, IsAnswer, NoPack, pack_in_job};
+ghost use Rattle.faults_tool.specs.Packs.{AnswersPack, DescribesPack, IsPackAnswer, NoPack, pack_in_job};
 ghost use Rattle.job_check.specs.Answers.{OnRefusal};
 
 use device_tree::{JobFault, Pack, PackReader};
@@ -32,7 +32,7 @@ fn pack_in_value(alloc: Global, value: &Value) -> Result<Pack, JobFault>
 }
 
 fn answer_of(alloc: Global, bytes: &[u8]) -> Result<Pack, CheckRefusal>
-    ensures { Answers bytes.now result }
+    ensures { AnswersPack bytes.now result }
 {
     let value = match Value::from_slice(alloc, bytes) {
         Ok(value) => value,
@@ -55,9 +55,9 @@ fn answer_of(alloc: Global, bytes: &[u8]) -> Result<Pack, CheckRefusal>
 /// its first fault. `OutOfMemory` where memory is refused. The limit on the number of bytes is the caller's.
 pub fn read_pack(alloc: Global, bytes: &[u8]) -> Result<Pack, CheckRefusal>
     // The pack is one that the bytes describe.
-    ensures found { IfOk result (Describes bytes.now) }
+    ensures found { IfOk result (DescribesPack bytes.now) }
     // A pack that the bytes describe is read, unless memory is refused.
-    ensures only { (pack : Pack) → Describes bytes.now pack → IsAnswer pack result }
+    ensures only { (pack : Pack) → DescribesPack bytes.now pack → IsPackAnswer pack result }
     // Which refusal it is, and the first fault.
     ensures refused { IfErr result (OnRefusal (NoPack bytes.now)) }
 {

@@ -1,6 +1,6 @@
 //! How a call ends.
 ghost use Rattle.std.specs.Prelude.{◌≡◌};
-ghost use Rattle.faults_tool.specs.Answers.{code_of};
+ghost use Rattle.faults_tool.specs.Answers.{faults_exit_code};
 
 /// How a call of `dapseq_faults` ended.
 #[derive(Clone, Copy, Debug, PartialEq, Eq)]
@@ -25,7 +25,7 @@ impl Status {
     /// The number with which the program ends: 0, 1 for both `Faulty` and `Refused`, 2, 5, 6 and 7, in the order of the
     /// variants.
     pub fn code(&self) -> u8
-        ensures { result ≡ code_of self.now }
+        ensures { result ≡ faults_exit_code self.now }
     {
         match self {
             Status::Done => 0,

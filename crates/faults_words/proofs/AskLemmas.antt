@@ -3,9 +3,9 @@ use Rattle.std.proofs.Common.{◌≡◌, ◌==◌, ℕ, Bool, List, [], ◌∷�
 use Rattle.faults_words.specs.declared.answer.Asked.{Asked}
 use Rattle.faults_words.specs.declared.format.Format.{Format}
 use Rattle.faults_words.specs.declared.format.Format.TheVariants.{Text, Json, Sarif}
-use Rattle.word_options.specs.Line.{given}
-use Rattle.faults_words.specs.Line.{command_line}
-use Rattle.faults_words.specs.Asks.{IsFormat, Asks, format_text}
+use Rattle.word_options.specs.Line.{given_value}
+use Rattle.faults_words.specs.Line.{faults_command_line}
+use Rattle.faults_words.specs.Asks.{IsFormat, WordsAskForFaults, format_text}
 
 first : List ℕ → ℕ
 first [] = 0
@@ -33,10 +33,10 @@ abbrev made : Option (List ℕ) → Option (List ℕ) → Option (List ℕ) → 
 made device variant pname format warnings = record { device = device; variant = variant; pname = pname; format = format; warnings = warnings }
 
 -- one thing
-pub one_asked : (words : List (List ℕ)) (a b : Asked) → Asks words a → Asks words b → a ≡ b
+pub one_asked : (words : List (List ℕ)) (a b : Asked) → WordsAskForFaults words a → WordsAskForFaults words b → a ≡ b
 one_asked words a b is other =
     ap (λ d. made d a.variant a.pname a.format a.warnings) (is.found.device ∙ sym other.found.device)
     ∙ (ap (λ v. made b.device v a.pname a.format a.warnings) (is.found.variant ∙ sym other.found.variant)
     ∙ (ap (λ p. made b.device b.variant p a.format a.warnings) (is.found.pname ∙ sym other.found.pname)
-    ∙ (ap (λ f. made b.device b.variant b.pname f a.warnings) (same_format (given command_line words (codes "format")) a.format b.format is.found.format other.found.format)
+    ∙ (ap (λ f. made b.device b.variant b.pname f a.warnings) (same_format (given_value faults_command_line words (codes "format")) a.format b.format is.found.format other.found.format)
     ∙ ap (λ w. made b.device b.variant b.pname b.format w) (is.found.warnings ∙ sym other.found.warnings))))

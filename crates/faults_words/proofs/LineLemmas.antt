@@ -4,7 +4,7 @@ use Rattle.clap.specs.Words.{App, is_simple_and_free, new_app, with_rule}
 use Rattle.clap.proofs.OnLiterals.{clap_on_literals}
 use Rattle.word_options.specs.Line.{flag_rule, option_rule}
 use Rattle.word_options.proofs.LineLemmas.{unnamed}
-use Rattle.faults_words.specs.Line.{command_line}
+use Rattle.faults_words.specs.Line.{faults_command_line}
 
 -- the options, one after another
 abbrev pub with_device : App
@@ -19,10 +19,10 @@ with_pname = with_rule with_variant (option_rule (codes "pname"))
 abbrev pub with_format : App
 with_format = with_rule with_pname (option_rule (codes "format"))
 
-pub is_whole : with_rule with_format (flag_rule (codes "warnings")) ≡ command_line
-unfolding command_line
+pub is_whole : with_rule with_format (flag_rule (codes "warnings")) ≡ faults_command_line
+unfolding faults_command_line
 is_whole = refl
 
-pub is_free : is_simple_and_free command_line ≡ true
-unfolding command_line clap_on_literals
+pub is_free : is_simple_and_free faults_command_line ≡ true
+unfolding faults_command_line clap_on_literals
 is_free = refl

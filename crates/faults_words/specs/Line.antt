@@ -4,11 +4,11 @@ use Rattle.clap.specs.Words.{App, Rule}
 use Rattle.word_options.specs.Line.{flag_rule, line_with, option_rule}
 
 -- the arguments of the command line: four options with a value, and the flag `--warnings`
-abbrev pub the_rules : List Rule
-the_rules =
+abbrev pub faults_rules : List Rule
+faults_rules =
     option_rule (codes "device") ∷ option_rule (codes "variant") ∷ option_rule (codes "pname") ∷ option_rule (codes "format")
     ∷ flag_rule (codes "warnings") ∷ []
 
 -- a simple command without subcommands, of which the words begin after the program's name
-unfoldable pub command_line : App
-command_line = line_with (codes "dapseq_faults") the_rules
+unfoldable pub faults_command_line : App
+faults_command_line = line_with (codes "dapseq_faults") faults_rules

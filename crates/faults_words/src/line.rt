@@ -19,7 +19,7 @@ pub const FORMAT: &str = "format";
 pub const WARNINGS: &str = "warnings";
 
 fn command_line<'a>(alloc: Global) -> Result<clap::Command<'a>, AllocError>
-    ensures { IfOk result (λ c. app_of c ≡ spec.command_line) }
+    ensures { IfOk result (λ c. app_of c ≡ spec.faults_command_line) }
 {
     clap::Command::new(alloc, "dapseq_faults")
         .no_binary_name(true)
@@ -32,7 +32,7 @@ fn command_line<'a>(alloc: Global) -> Result<clap::Command<'a>, AllocError>
 
 /// What clap finds in the words. `Usage` where it does not take them.
 pub fn matches_in<'a>(alloc: Global, words: &'a [&str]) -> Result<ArgMatches<'a>, WordsError>
-    ensures { HasMatches spec.command_line (map (λ w. w.now) words.now) result }
+    ensures { HasMatches spec.faults_command_line (map (λ w. w.now) words.now) result }
 {
     let line = command_line(alloc)?;
     matches_by(line, words)

@@ -1,7 +1,7 @@
 //! From the words to what they ask for.
 ghost use Rattle.std.specs.Prelude.{◌≡◌, IfOk, IfErr, MatchResult};
 ghost use Rattle.clap.specs.Words.{first_value, found_of};
-ghost use Rattle.faults_words.specs.Asks.{Asks, IsAskedBy};
+ghost use Rattle.faults_words.specs.Asks.{IsFaultsRequest, WordsAskForFaults};
 ghost use Rattle.word_options.specs.declared.answer.WordsError.TheVariants as errors;
 
 use crate::answer::Asked;
@@ -14,8 +14,8 @@ use word_options::{WordsError, is_set, texts_of, value_of};
 
 // What the values of the options ask for.
 fn asked_by(alloc: Global, matches: &ArgMatches<'_>) -> Result<Asked, WordsError>
-    ensures answer { IfOk result (IsAskedBy (first_value (found_of matches.now))) }
-    ensures usage { IfErr result (λ e. e ≡ errors.Usage → (a : _) → IsAskedBy (first_value (found_of matches.now)) a → ⊥) }
+    ensures answer { IfOk result (IsFaultsRequest (first_value (found_of matches.now))) }
+    ensures usage { IfErr result (λ e. e ≡ errors.Usage → (a : _) → IsFaultsRequest (first_value (found_of matches.now)) a → ⊥) }
 {
     let Some(format) = format_of(matches.get_str(FORMAT)) else {
         return Err(WordsError::Usage);
@@ -38,9 +38,9 @@ fn asked_by(alloc: Global, matches: &ArgMatches<'_>) -> Result<Asked, WordsError
 /// `Usage` exactly where `clap` refuses the words for another cause than memory, which its answers to `--help` and
 /// `-h` are, or where the format is none of these. `OutOfMemory` where memory is refused.
 pub fn asked_of(alloc: Global, words: &Words) -> Result<Asked, WordsError>
-    ensures answer { IfOk result (Asks words.now) }
-    ensures only { (a : _) → Asks words.now a → MatchResult result (λ r. r ≡ a) (λ e. e ≡ errors.OutOfMemory) }
-    ensures usage { IfErr result (λ e. e ≡ errors.Usage → (a : _) → Asks words.now a → ⊥) }
+    ensures answer { IfOk result (WordsAskForFaults words.now) }
+    ensures only { (a : _) → WordsAskForFaults words.now a → MatchResult result (λ r. r ≡ a) (λ e. e ≡ errors.OutOfMemory) }
+    ensures usage { IfErr result (λ e. e ≡ errors.Usage → (a : _) → WordsAskForFaults words.now a → ⊥) }
 {
     let texts = texts_of(alloc, words)?;
     let matches = matches_in(alloc, texts.as_slice())?;

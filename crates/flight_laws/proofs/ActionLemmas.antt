@@ -9,7 +9,7 @@ use Rattle.std.specs.Prelude.{slice_get}
 use Rattle.target_calls.proofs.EntryLemmas.{commands_append, performed_part, registers_append, weight_append}
 use Rattle.access_calls.specs.Numbers.{HasNumbers}
 use Rattle.access_calls.specs.Reported.{AccessView, began}
-use Rattle.access_calls.specs.Standing.{AreTogether, HasBroken, IsOver, IsPart, IsPartOf, IsUnanswered, idle_cycles_of, number_of, pending_of, setting_of}
+use Rattle.access_calls.specs.Standing.{AreTogether, HasBroken, IsPartOfAction, IsPartOfEntry, IsUnanswered, RetryIsOver, idle_cycles_of, pending_of, transfer_number_of, transfer_setting_of}
 use Rattle.access_regs.proofs.Seams.{after_split, passes_both}
 use Rattle.access_regs.specs.Entries.{NoneFault}
 use Rattle.access_regs.specs.Journal.{making}
@@ -108,7 +108,7 @@ module _ (entries made : List Entry) (e : Entry) (rest : List Entry) (n : Option
   alone : (limits : Limits) → AreTogether limits (drop (length made) (take (length made + 1) entries))
   alone limits = inr (ap length (between entries made (e ∷ []) rest on.are))
 
-  pub action_bench : (limits : Limits) → ((work ≡ 0) × Agree (target_of o.probe) (target_of m.probe)) ⊎ IsPart e.action (target_of m.probe) (target_of o.probe) → idle_cycles_of o ≡ idle_cycles_of m
+  pub action_bench : (limits : Limits) → ((work ≡ 0) × Agree (target_of o.probe) (target_of m.probe)) ⊎ IsPartOfAction e.action (target_of m.probe) (target_of o.probe) → idle_cycles_of o ≡ idle_cycles_of m
       → HasBroken limits entries (length made + 1) (length made) (began m0 n) o
   action_bench limits (inl (none, same)) idle = record {
     count = length made;
@@ -138,11 +138,11 @@ module _ (entries made : List Entry) (e : Entry) (rest : List Entry) (n : Option
     idle_cycles = idle ∙ on.idle_cycles;
     target = inr (
       refl,
-      subst (λ (x : Option Entry). IsPartOf x (target_after t0 (take (length made) entries)) (target_of o.probe)) (sym next_is) (subst (λ (s : TargetState). IsPart e.action s (target_of o.probe)) at_front part),
+      subst (λ (x : Option Entry). IsPartOfEntry x (target_after t0 (take (length made) entries)) (target_of o.probe)) (sym next_is) (subst (λ (s : TargetState). IsPartOfAction e.action s (target_of o.probe)) at_front part),
     );
   }
 
-  pub action_wait : (r : Report) (b : AccessView) → Agree (target_of o.probe) (target_of m.probe) → idle_cycles_of o ≡ idle_cycles_of m → ended_retries_of o.probe ≡ ended_retries_of m.probe + 1 → IsOver (setting_of m) (number_of o) → number_of o ≤ number_of m + 2 * work + 1 → pending_of o ≡ false → r.accesses ≡ length made → r.confirmed ≡ length made → HasNumbers entries b.asks.calls b.skipped b.lines r →
+  pub action_wait : (r : Report) (b : AccessView) → Agree (target_of o.probe) (target_of m.probe) → idle_cycles_of o ≡ idle_cycles_of m → ended_retries_of o.probe ≡ ended_retries_of m.probe + 1 → RetryIsOver (transfer_setting_of m) (transfer_number_of o) → transfer_number_of o ≤ transfer_number_of m + 2 * work + 1 → pending_of o ≡ false → r.accesses ≡ length made → r.confirmed ≡ length made → HasNumbers entries b.asks.calls b.skipped b.lines r →
       IsUnanswered entries r b (began m0 n) o
   action_wait r b same idle retries over number pending accesses confirmed numbers = record {
     performed = record {
@@ -156,7 +156,7 @@ module _ (entries made : List Entry) (e : Entry) (rest : List Entry) (n : Option
     numbers = numbers;
     retries = retries ∙ ap (λ k. k + 1) on.retries;
     idle_cycles = idle ∙ on.idle_cycles;
-    over = subst (λ (s : Setting). IsOver s (number_of o)) on.setting over;
+    over = subst (λ (s : Setting). RetryIsOver s (transfer_number_of o)) on.setting over;
     number =
         (let c : commands_in (take r.accesses entries) ≡ commands_in made = (λ j. commands_in (take (accesses j) (on.are j))) ∙ ap commands_in (take-append_seam made (e ∷ rest)) in
         let a = on.number in let w = on.work in omega (arith, c, a, w, number, grown));
@@ -251,7 +251,7 @@ fault_forgiven entries made flying abort rest lead a m0 m o p part on flies bad 
       idle_cycles = does.idle_cycles ∙ flies.idle_cycles ∙ on.idle_cycles;
       number =
           (let x = flies.does.number in let y : one_if (is_wait part.response) ≡ 0 = ap (λ (x : Response). one_if (is_wait x)) bad in let z = on.number in
-          let d : number_of p + 2 * 1 ≤ number_of o + 2 * 1 = does.number in
+          let d : transfer_number_of p + 2 * 1 ≤ transfer_number_of o + 2 * 1 = does.number in
           omega (arith, x, y, z, d, w1, w2, w3, wj, c1, c2, c3, cj, all));
     }
 

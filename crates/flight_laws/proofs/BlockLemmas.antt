@@ -78,8 +78,8 @@ need_block full block needs more first split made flying b m o h grown room = re
 
 pub sparing_keeps : SparingKeeps
 sparing_keeps p t a made more b m is h = record {
-  few = subst (λ (l : List Entry). starting_since b m ≤ 3 + a.asks.needs + registers_in l / bounds.capacity a.bench.limits) (sym is)
-      (few_packets h.sparing.full (bounds.capacity a.bench.limits) a.asks.needs made more b m h.sparing.so);
+  few = subst (λ (l : List Entry). starting_since b m ≤ 3 + a.asks.needs + registers_in l / bounds.flight_capacity a.bench.limits) (sym is)
+      (few_packets h.sparing.full (bounds.flight_capacity a.bench.limits) a.asks.needs made more b m h.sparing.so);
   blocks = λ size ap_ address some next low needs. (let s = h.blocks size ap_ address next low needs in
       few_blocks s.full (bounds.block_words a.bench.limits) a.asks.needs (length a.asks.calls) s.first s.split made more b m s.so
       (subst (λ (l : List Entry). drw_writes_in l ≤ length a.asks.calls) is (writes_are_few p t a.asks.calls)) some needs);

@@ -6,7 +6,7 @@ use Rattle.std.specs.List.{AllByRecursion}
 use Rattle.target_calls.proofs.EntryLemmas.{fault_first, pass_front}
 use Rattle.target_machine.proofs.FreshLemmas.{attempt_sets}
 use Rattle.access_calls.specs.Reported.{began}
-use Rattle.access_calls.specs.Standing.{AreTogether, HasPerformed, IsMade, IsOver, flight_accesses, number_of, pending_of, setting_of}
+use Rattle.access_calls.specs.Standing.{AreTogether, HasPerformed, IsMade, RetryIsOver, flight_accesses, pending_of, transfer_number_of, transfer_setting_of}
 use Rattle.access_regs.proofs.Seams.{after_split, passes_both}
 use Rattle.access_regs.specs.Journal.{making}
 use Rattle.target_calls.specs.Journal.{Entry, Passes, actions_in, first_fault}
@@ -14,7 +14,7 @@ use Rattle.target_calls.specs.Weights.{AreWeighty, commands_in, weight_in}
 use Rattle.flight_laws.proofs.FlightLemmas.{clear_passes, commands_both, flight_length, flight_take, head_makes, makes_after, room_grown, weight_both}
 use Rattle.flight_laws.proofs.UnderWayLemmas.{front_performed}
 use Rattle.batch_packer.specs.Flying.{transfers_of}
-use Rattle.flight_laws.specs.Flights.{AreStrict, BenchFlies, FaultFlies, IsCutAt, IsFaultAt, WaitFlies}
+use Rattle.flight_laws.specs.Flights.{AreStrict, BenchFlies, FaultFlies, IsCutAt, IsStrictFaultAt, WaitFlies}
 use Rattle.flight_laws.specs.UnderWay.{IsUnderWay}
 use Rattle.target_machine.specs.Counts.{one_if}
 use Rattle.dap_transfer.specs.State.{Setting, TransferState, is_wait}
@@ -208,13 +208,13 @@ module _ (entries made flying rest : List Entry) (accesses : List RegAccess) (n 
           ap (λ (x : Action). is_fault (acted before x).outcome) a.is
           ∙ sym (attempt_sets before a.access before_clear) ∙ subst (λ (x : Action). (acted before x).next.sticky ≡ true) a.is set
 
-      fault_at : AreStrict flying → IsFaultAt entries (length made + part.confirmed) t0
+      fault_at : AreStrict flying → IsStrictFaultAt entries (length made + part.confirmed) t0
       unfolding cut_at
       fault_at strict = record { cut = cut_at short; bad = faults; strict = strict_at cut.front cut.entry cut.back (subst AreStrict cut.is strict) }
 
 -- ---- the laws
 
-first_fault_at : (entries : List Entry) (t : TargetState) (k : ℕ) → IsFaultAt entries k t → first_fault t entries ≡ Some (k + 1)
+first_fault_at : (entries : List Entry) (t : TargetState) (k : ℕ) → IsStrictFaultAt entries k t → first_fault t entries ≡ Some (k + 1)
 first_fault_at entries t k f =
     ap (λ (l : List Entry). first_fault t l) f.cut.is
     ∙ fault_first t f.cut.front f.cut.entry f.cut.more f.cut.passes (ap (λ (b : Bool). b && not f.cut.entry.forgiving) f.bad ∙ ap not f.strict)
@@ -224,7 +224,7 @@ pub fault_flies : FaultFlies
 fault_flies entries made flying rest accesses n m0 m o part r b on flies bad strict accesses_is confirmed_is numbers =
     let short : part.confirmed < length accesses = flies.does.made.short (λ good. absurd (let x : ◌≡◌ {A = Response} Good Fault = sym good ∙ bad in cc)) in
     let one : part.performed ≡ part.confirmed + 1 = one_more entries made flying rest accesses n m0 m o part on flies.does bad short in
-    let at : IsFaultAt entries (length made + part.confirmed) (target_of m0.probe) = fault_at entries made flying rest accesses n m0 m o part on flies.does bad short strict in (
+    let at : IsStrictFaultAt entries (length made + part.confirmed) (target_of m0.probe) = fault_at entries made flying rest accesses n m0 m o part on flies.does bad short strict in (
       record {
         performed = subst (λ (k : ℕ). HasPerformed entries k (began m0 n) o) (sym accesses_is) (has_part entries made flying rest accesses n m0 m o part on flies.does);
         first = first_fault_at entries (target_of m0.probe) (length made + part.confirmed) at ∙ (let same : (length made + part.confirmed) + 1 ≡ r.accesses = omega (arith, one, accesses_is) in ap Some same);
@@ -234,7 +234,7 @@ fault_flies entries made flying rest accesses n m0 m o part r b on flies bad str
         retries = flies.does.retries ∙ ap (λ (x : Response). cond (is_wait x) (min (ended_retries_of m.probe + 1) (2 ^ 32 - 1)) (ended_retries_of m.probe)) bad ∙ on.retries;
         idle_cycles = flies.idle_cycles ∙ on.idle_cycles;
       },
-      subst (λ (k : ℕ). IsFaultAt entries k (target_of m0.probe)) (sym confirmed_is) at,
+      subst (λ (k : ℕ). IsStrictFaultAt entries k (target_of m0.probe)) (sym confirmed_is) at,
     )
 
 pub wait_flies : WaitFlies
@@ -255,7 +255,7 @@ wait_flies entries made flying rest accesses n m0 m o part r b on flies wait acc
             flies.does.retries ∙ ap (λ (x : Response). cond (is_wait x) (min (ended_retries_of m.probe + 1) (2 ^ 32 - 1)) (ended_retries_of m.probe)) wait
             ∙ (let f = on.few in let r = on.retries in omega (arith, f, r));
         idle_cycles = flies.idle_cycles ∙ on.idle_cycles;
-        over = subst (λ (s : Setting). IsOver s (number_of o)) on.setting (flies.does.over wait);
+        over = subst (λ (s : Setting). RetryIsOver s (transfer_number_of o)) on.setting (flies.does.over wait);
         number =
             (let w : one_if (is_wait part.response) ≡ 1 = ap (λ (x : Response). one_if (is_wait x)) wait in
             let a = flies.does.number in let x = on.number in let y = work_is entries made flying rest accesses n m0 m o part on flies.does in let z = on.work in

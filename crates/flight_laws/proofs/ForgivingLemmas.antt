@@ -15,7 +15,7 @@ use Rattle.access_regs.specs.Journal.{Step, alone_at, is_early, is_end, large_of
 use Rattle.access_regs.specs.Kept.{Kept}
 use Rattle.access_regs.proofs.Select.{making_append}
 use Rattle.access_regs.proofs.Forgiving.{parts_append}
-use Rattle.flight_laws.specs.Forgiving.{AloneFlight, BeginsWith, after_fault, steps_of_unit}
+use Rattle.flight_laws.specs.Forgiving.{AloneFlight, BeginsWithAccesses, after_fault, steps_of_unit}
 use Rattle.flight_laws.proofs.PushLemmas.{pass_makes}
 
 -- ---- what is issued of actions of which the first pass
@@ -104,7 +104,7 @@ module _ (forgive : Bool) (asked : AccessUnit) (t : TargetState) (k : Kept) (lea
       ∙ parts_append (is_early asked xs) asked xs (abort_if forgive)
       ∙ (λ j. parts_makes (is_early asked xs) asked (lead ++ a ∷ []) j ++ parts_abort forgive asked (lead ++ a ∷ []) j)
 
-  good_steps : is_fault (acted u (Makes a)).outcome ≡ false → BeginsWith (alone_at forgive asked t k).steps asked (lead ++ a ∷ []) rest
+  good_steps : is_fault (acted u (Makes a)).outcome ≡ false → BeginsWithAccesses (alone_at forgive asked t k).steps asked (lead ++ a ∷ []) rest
   good_steps good = by_fault (is_fault (in_order t (call_actions t (large_of k asked) (Access asked))).outcome) refl
     where
       more : List Action
@@ -118,7 +118,7 @@ module _ (forgive : Bool) (asked : AccessUnit) (t : TargetState) (k : Kept) (lea
           steps_are done is ∙ ap (parts_of (is_early asked done) asked) split ∙ parts_append (is_early asked done) asked xs tail
           ∙ ap (λ (l : List Step). l ++ parts_of (is_early asked done) asked tail) (parts_makes (is_early asked done) asked (lead ++ a ∷ []))
 
-      by_fault : (b : Bool) → is_fault (in_order t (call_actions t (large_of k asked) (Access asked))).outcome ≡ b → BeginsWith (alone_at forgive asked t k).steps asked (lead ++ a ∷ []) rest
+      by_fault : (b : Bool) → is_fault (in_order t (call_actions t (large_of k asked) (Access asked))).outcome ≡ b → BeginsWithAccesses (alone_at forgive asked t k).steps asked (lead ++ a ∷ []) rest
       by_fault true e = record {
         more = parts_of (is_early asked ((xs ++ more) ++ abort_if forgive)) asked (more ++ abort_if forgive);
         is = begins ((xs ++ more) ++ abort_if forgive) (more ++ abort_if forgive)

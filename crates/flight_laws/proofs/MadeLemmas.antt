@@ -28,7 +28,7 @@ use Rattle.access_calls.specs.declared.stop.Report.{Report}
 use Rattle.access_calls.specs.declared.stop.StopCause.TheVariants.{Faulted, NoAnswer}
 use Rattle.flight_laws.proofs.CutLemmas.{take_front}
 use Rattle.flight_laws.proofs.StopLemmas.{entry_at, lines_cut}
-use Rattle.flight_laws.specs.Flights.{IsCutAt, IsFaultAt}
+use Rattle.flight_laws.specs.Flights.{IsCutAt, IsStrictFaultAt}
 
 -- ---- entries
 

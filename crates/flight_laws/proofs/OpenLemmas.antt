@@ -22,7 +22,7 @@ use Rattle.access_regs.specs.Stops.{NoneStops, world_at}
 use Rattle.access_regs.proofs.AllCalls.{journal_agrees}
 use Rattle.access_regs.proofs.StopLists.{good_end, live_more, passing_stops}
 use Rattle.access_calls.specs.Reported.{AccessView, began}
-use Rattle.access_calls.specs.Standing.{HasPerformed, IsOpen, StayWithin, grown_since}
+use Rattle.access_calls.specs.Standing.{HasPerformed, StandsOpen, StayWithin, grown_since}
 use Rattle.flight_laws.specs.Flying.{IsFlying}
 use Rattle.flight_laws.proofs.CutLemmas.{has_at}
 use Rattle.flight_laws.proofs.OwnLemmas.{stay_passing}
@@ -122,7 +122,7 @@ module _ (p : Planner) (a : AccessView) (kept : Kept) (accesses : List RegAccess
       let alone_is : (world_after w a.asks.calls).target ≡ alone_after t0 [] a.asks.calls = after_alone t0 [] n a.asks.calls none (subst (λ (l : List Ask). AtLeast (length l) n) (sym all) front_enough) in
       agree_sym _ _ (subst (λ (t : TargetState). Agree t (target_of m.probe)) (sym alone_is) (subst (Agree (alone_after t0 [] a.asks.calls)) target here))
 
-  pub open_stands : IsOpen (issued p t0 a.asks.calls) a (began m0 n) m
+  pub open_stands : StandsOpen (issued p t0 a.asks.calls) a (began m0 n) m
   open_stands = record { issued = is_issued; performed = is_performed; work = is_work; good = is_good; own = is_own; retries = f.on.retries; idle_cycles = f.on.idle_cycles; skipped = is_skipped; settled = is_calm }
 
   came_length : length came ≡ a.came

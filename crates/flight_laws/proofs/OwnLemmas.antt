@@ -17,7 +17,7 @@ use Rattle.access_regs.specs.Journal.{issued}
 use Rattle.access_regs.specs.Stops.{StaysThere, world_at}
 use Rattle.access_regs.specs.declared.planner.Planner.{Planner}
 use Rattle.access_regs.proofs.StopLists.{good_end, stop_goes, wait_stops}
-use Rattle.access_calls.specs.Growing.{IsWithin}
+use Rattle.access_calls.specs.Growing.{IsForFirstCalls}
 use Rattle.access_calls.specs.Standing.{StayWithin}
 use Rattle.flight_laws.specs.Stopping.{BegunStay}
 
@@ -53,7 +53,7 @@ stop_later t large (ask ∷ asks) (suc at) n none within is =
 
 -- an entry before which none gives a fault is issued for the calls up to the first that ends at one
 own_at : (p : Planner) (t : TargetState) (asks : List Ask) (front : List Entry) (e : Entry) (more : List Entry) (n : ℕ) → IsFresh t → AreAskable asks → issued p t asks ≡ front ++ e ∷ more
-    → Passes t front → stop (start_world t None) asks ≡ Some n → IsWithin n e
+    → Passes t front → stop (start_world t None) asks ≡ Some n → IsForFirstCalls n e
 own_at p t asks front e more n fresh ok is passes stops =
     let s : StaysThere 0 t [] asks e = wait_stops p t asks front e more fresh ok is passes in
     let less : s.at < n = stop_later t [] asks s.at n s.none s.within stops in
@@ -69,7 +69,7 @@ all_by_front {A = A} P (x ∷ xs) h = (h [] x xs refl, all_by_front P xs (λ fro
 pub stay_front : (p : Planner) (t : TargetState) (asks : List Ask) (first rest : List Entry) → IsFresh t → AreAskable asks → issued p t asks ≡ first ++ rest
     → ((front : List Entry) (e : Entry) (more : List Entry) → first ≡ front ++ e ∷ more → Passes t front) → StayWithin t asks first
 stay_front p t asks first rest fresh ok is pass = record {
-  so = λ n stops. all_by_front (IsWithin n) first
+  so = λ n stops. all_by_front (IsForFirstCalls n) first
       (λ front e more here. own_at p t asks front e (more ++ rest) n fresh ok (is ∙ ap (λ (l : List Entry). l ++ rest) here ∙ append_assoc front (e ∷ more) rest) (pass front e more here) stops);
 }
 

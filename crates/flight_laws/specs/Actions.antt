@@ -14,7 +14,7 @@ use Rattle.target_calls.specs.Weights.{weight}
 use Rattle.access_regs.specs.Entries.{NoneFault}
 use Rattle.access_calls.specs.Numbers.{HasNumbers}
 use Rattle.access_calls.specs.Reported.{AccessView, began}
-use Rattle.access_calls.specs.Standing.{HasBroken, IsOver, IsPart, IsUnanswered, idle_cycles_of, number_of, pending_of, setting_of}
+use Rattle.access_calls.specs.Standing.{HasBroken, IsPartOfAction, IsUnanswered, RetryIsOver, idle_cycles_of, pending_of, transfer_number_of, transfer_setting_of}
 use Rattle.access_calls.specs.declared.stop.Report.{Report}
 use Rattle.batch_packer.specs.Actions.{DoesAction}
 use Rattle.batch_packer.specs.Flying.{Flies}
@@ -31,7 +31,7 @@ abbrev pub ActionBench : Type 0
 ActionBench = (limits : Limits) (entries made : List Entry) (e : Entry) (rest : List Entry) (n : Option ℕ) (m0 m o : BenchState) (work : ℕ) →
     IsUnderWay entries made [] (e ∷ rest) [] m0 m →
     work_of o.probe ≡ work_of m.probe + work → work < weight (target_of m.probe) e.action →
-    ((work ≡ 0) × Agree (target_of o.probe) (target_of m.probe)) ⊎ IsPart e.action (target_of m.probe) (target_of o.probe) →
+    ((work ≡ 0) × Agree (target_of o.probe) (target_of m.probe)) ⊎ IsPartOfAction e.action (target_of m.probe) (target_of o.probe) →
     idle_cycles_of o ≡ idle_cycles_of m →
     HasBroken limits entries (length made + 1) (length made) (began m0 n) o
 
@@ -40,8 +40,8 @@ abbrev pub ActionWait : Type 0
 ActionWait = (entries made : List Entry) (e : Entry) (rest : List Entry) (n : Option ℕ) (m0 m o : BenchState) (work : ℕ) (r : Report) (b : AccessView) →
     IsUnderWay entries made [] (e ∷ rest) [] m0 m →
     work_of o.probe ≡ work_of m.probe + work → work < weight (target_of m.probe) e.action → Agree (target_of o.probe) (target_of m.probe) →
-    idle_cycles_of o ≡ idle_cycles_of m → ended_retries_of o.probe ≡ ended_retries_of m.probe + 1 → IsOver (setting_of m) (number_of o) →
-    number_of o ≤ number_of m + 2 * work + 1 → pending_of o ≡ false →
+    idle_cycles_of o ≡ idle_cycles_of m → ended_retries_of o.probe ≡ ended_retries_of m.probe + 1 → RetryIsOver (transfer_setting_of m) (transfer_number_of o) →
+    transfer_number_of o ≤ transfer_number_of m + 2 * work + 1 → pending_of o ≡ false →
     r.accesses ≡ length made → r.confirmed ≡ length made → HasNumbers entries b.asks.calls b.skipped b.lines r →
     IsUnanswered entries r b (began m0 n) o
 

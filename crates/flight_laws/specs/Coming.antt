@@ -25,7 +25,7 @@ NoneStopped = (p : Planner) (calls : List Ask) (confirmed count : ℕ) (came : L
     IsSending p calls confirmed count [] [] [] came m0 m → AtLeast (length calls) n → stop (world_from m0 n) calls ≡ None
 
 -- All calls came: the access reports so.
-pub record HasCome (p : Planner) (calls : List Ask) (confirmed : ℕ) (b : AccessView) (kept : Kept) (came : List ℕ) (m0 : BenchState) : Type 0 where
+pub record AllCallsCame (p : Planner) (calls : List Ask) (confirmed : ℕ) (b : AccessView) (kept : Kept) (came : List ℕ) (m0 : BenchState) : Type 0 where
   pub calls_are : b.asks.calls ≡ calls
   pub kept_is : kept_by p (target_of m0.probe) calls ≡ kept
   pub confirmed_is : b.confirmed ≡ confirmed
@@ -37,7 +37,7 @@ pub record HasCome (p : Planner) (calls : List Ask) (confirmed : ℕ) (b : Acces
 -- Then it keeps that, and nothing lies in the flight.
 abbrev pub AllCame : Type 0
 AllCame = (p : Planner) (calls : List Ask) (confirmed count : ℕ) (old came : List ℕ) (m0 m : BenchState) (b : AccessView) (kept : Kept) →
-    IsSending p calls confirmed count [] [] [] old m0 m → HasCome p calls confirmed b kept came m0 → IsFlying p b kept [] came m0 m
+    IsSending p calls confirmed count [] [] [] old m0 m → AllCallsCame p calls confirmed b kept came m0 → IsFlying p b kept [] came m0 m
 
 -- The result of a call that forgives nothing, and does not end because its AP has no large addresses, is given by the last entry
 -- that it issues itself.

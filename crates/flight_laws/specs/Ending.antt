@@ -18,7 +18,18 @@ use Rattle.access_regs.specs.declared.planner.Planner.{Planner}
 use Rattle.access_calls.specs.Left.{IsLeft}
 use Rattle.access_calls.specs.Numbers.{HasNumbers}
 use Rattle.access_calls.specs.Reported.{AccessView, began, world_from}
-use Rattle.access_calls.specs.Standing.{IsOver, IsPart, Stands, StandsAt, WhereObservable, flight_accesses, idle_cycles_of, number_of, pending_of, setting_of}
+use Rattle.access_calls.specs.Standing.{
+  AccessStands,
+  IsPartOfAction,
+  RetryIsOver,
+  StandsAt,
+  WhereObservable,
+  flight_accesses,
+  idle_cycles_of,
+  pending_of,
+  transfer_number_of,
+  transfer_setting_of,
+}
 use Rattle.access_calls.specs.declared.stop.Report.{Report}
 use Rattle.access_calls.specs.declared.stop.Stop.{Stop}
 use Rattle.access_calls.specs.declared.stop.Stop.TheVariants.{BenchFault, Cut}
@@ -46,7 +57,7 @@ pub record IsBegun (p : Planner) (a : AccessView) (kept : Kept) (accesses : List
 -- So it has come as far as the contract of accesses says.
 abbrev pub BegunStands : Type 0
 BegunStands = (p : Planner) (a : AccessView) (kept : Kept) (accesses : List RegAccess) (came : List ℕ) (m0 : BenchState) (n : Option ℕ) →
-    IsBegun p a kept accesses came m0 → IsLeft a n → Stands (issued p) a (began m0 n)
+    IsBegun p a kept accesses came m0 → IsLeft a n → AccessStands (issued p) a (began m0 n)
 
 -- The results that came are those of the first calls in each world that is left, also after an end.
 abbrev pub BegunCame : Type 0
@@ -96,8 +107,8 @@ abbrev pub PollEnds : Type 0
 PollEnds = (p : Planner) (confirmed count : ℕ) (e : Entry) (rest : List Entry) (came : List ℕ) (m0 m o : BenchState) (work : ℕ) (r : Report) (b : AccessView) →
     IsSending p b.asks.calls confirmed count [] (e ∷ rest) [] came m0 m →
     work_of o.probe ≡ work_of m.probe + work → work < weight (target_of m.probe) e.action → Agree (target_of o.probe) (target_of m.probe) →
-    idle_cycles_of o ≡ idle_cycles_of m → ended_retries_of o.probe ≡ ended_retries_of m.probe + 1 → IsOver (setting_of m) (number_of o) →
-    number_of o ≤ number_of m + 2 * work + 1 → pending_of o ≡ false →
+    idle_cycles_of o ≡ idle_cycles_of m → ended_retries_of o.probe ≡ ended_retries_of m.probe + 1 → RetryIsOver (transfer_setting_of m) (transfer_number_of o) →
+    transfer_number_of o ≤ transfer_number_of m + 2 * work + 1 → pending_of o ≡ false →
     r.cause ≡ NoAnswer → r.accesses ≡ confirmed → r.confirmed ≡ confirmed → IsCutOff p r b m0 → EndsCut p r b count came m0 o
 
 -- ---- a bench that failed
@@ -121,6 +132,6 @@ abbrev pub ActionFails : Type 0
 ActionFails = (p : Planner) (confirmed count : ℕ) (e : Entry) (rest : List Entry) (came : List ℕ) (m0 m o : BenchState) (work : ℕ) (b : AccessView) →
     IsSending p b.asks.calls confirmed count [] (e ∷ rest) [] came m0 m →
     work_of o.probe ≡ work_of m.probe + work → work < weight (target_of m.probe) e.action →
-    ((work ≡ 0) × Agree (target_of o.probe) (target_of m.probe)) ⊎ IsPart e.action (target_of m.probe) (target_of o.probe) →
+    ((work ≡ 0) × Agree (target_of o.probe) (target_of m.probe)) ⊎ IsPartOfAction e.action (target_of m.probe) (target_of o.probe) →
     idle_cycles_of o ≡ idle_cycles_of m →
     IsBenchEnd (confirmed + 1) confirmed count b → IsEnded p (BenchFault (confirmed + 1) confirmed) b came m0 o

@@ -43,7 +43,7 @@ pub record IsCutAt (entries : List Entry) (k : ℕ) (t : TargetState) : Type 0 w
   pub passes : Passes t front
 
 -- It gives a fault that its unit does not forgive.
-pub record IsFaultAt (entries : List Entry) (k : ℕ) (t : TargetState) : Type 0 where
+pub record IsStrictFaultAt (entries : List Entry) (k : ℕ) (t : TargetState) : Type 0 where
   pub cut : IsCutAt entries k t
   pub bad : is_fault (acted (target_after t cut.front) cut.entry.action).outcome ≡ true
   pub strict : cut.entry.forgiving ≡ false
@@ -53,7 +53,7 @@ abbrev pub FaultFlies : Type 0
 FaultFlies = (entries made flying rest : List Entry) (accesses : List RegAccess) (n : Option ℕ) (m0 m o : BenchState) (part : Part) (r : Report) (b : AccessView) →
     IsUnderWay entries made flying rest accesses m0 m → Flies accesses part m o → part.response ≡ Fault → AreStrict flying →
     r.accesses ≡ length made + part.performed → r.confirmed ≡ length made + part.confirmed → HasNumbers entries b.asks.calls b.skipped b.lines r →
-    IsFaulted entries r b (began m0 n) o × IsFaultAt entries r.confirmed (target_of m0.probe)
+    IsFaulted entries r b (began m0 n) o × IsStrictFaultAt entries r.confirmed (target_of m0.probe)
 
 -- So does one in which a retry ended.
 abbrev pub WaitFlies : Type 0

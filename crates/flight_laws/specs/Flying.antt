@@ -13,7 +13,7 @@ use Rattle.access_regs.specs.Journal.{issued}
 use Rattle.access_regs.specs.Kept.{Kept}
 use Rattle.access_regs.specs.declared.planner.Planner.{Planner}
 use Rattle.access_calls.specs.Reported.{AccessView, began, world_from}
-use Rattle.access_calls.specs.Standing.{IsOpen}
+use Rattle.access_calls.specs.Standing.{StandsOpen}
 use Rattle.flight_laws.specs.Flights.{AreStrict}
 use Rattle.flight_laws.specs.UnderWay.{IsUnderWay}
 
@@ -47,7 +47,7 @@ pub record IsFlying (p : Planner) (a : AccessView) (kept : Kept) (accesses : Lis
 abbrev pub OpenStands : Type 0
 OpenStands = (p : Planner) (a : AccessView) (kept : Kept) (accesses : List RegAccess) (came : List ℕ) (n : Option ℕ) (m0 m : BenchState) →
     IsFlying p a kept accesses came m0 m → AtLeast a.came n →
-    IsOpen (issued p (target_of m0.probe) a.asks.calls) a (began m0 n) m
+    StandsOpen (issued p (target_of m0.probe) a.asks.calls) a (began m0 n) m
 
 -- The results that came are those of the first calls in each world that is left, whatever comes after them.
 abbrev pub CameStands : Type 0

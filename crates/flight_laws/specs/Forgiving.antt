@@ -20,7 +20,7 @@ abbrev pub abort_after : AccessUnit → List RegAccess → Step
 abort_after asked accesses = record { part = Skips (is_early asked (making accesses)); action = Commands forgives }
 
 -- these accesses come first among the steps, and nothing follows them where the unit has no more actions
-pub record BeginsWith (steps : List Step) (asked : AccessUnit) (accesses : List RegAccess) (rest : List Action) : Type 0 where
+pub record BeginsWithAccesses (steps : List Step) (asked : AccessUnit) (accesses : List RegAccess) (rest : List Action) : Type 0 where
   pub more : List Step
   pub is : steps ≡ steps_of_unit asked accesses ++ more
   pub end : rest ≡ [] → more ≡ []
@@ -38,4 +38,4 @@ AloneFlight = (forgive : Bool) (asked : AccessUnit) (t : TargetState) (k : Kept)
     call_actions t (large_of k asked) (Access asked) ≡ making (lead ++ a ∷ []) ++ rest → NoneFault t lead →
     (is_fault (acted (after t (making lead)) (Makes a)).outcome ≡ true →
     (alone_at forgive asked t k).steps ≡ steps_of_unit asked (lead ++ a ∷ []) ++ after_fault forgive asked (lead ++ a ∷ []))
-    × (is_fault (acted (after t (making lead)) (Makes a)).outcome ≡ false → BeginsWith (alone_at forgive asked t k).steps asked (lead ++ a ∷ []) rest)
+    × (is_fault (acted (after t (making lead)) (Makes a)).outcome ≡ false → BeginsWithAccesses (alone_at forgive asked t k).steps asked (lead ++ a ∷ []) rest)

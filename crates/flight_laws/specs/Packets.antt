@@ -110,7 +110,7 @@ pub record SomeBlockwise (block needs : ℕ) (made : List Entry) (b : Beginning)
 
 -- The starting packets of an access are few by its flights; and so they are for writes, where all its calls are such writes.
 pub record IsSparingAccess (a : AccessView) (made : List Entry) (b : Beginning) (m : BenchState) : Type 0 where
-  pub sparing : SomeSparing (bounds.capacity a.bench.limits) a.asks.needs made b m
+  pub sparing : SomeSparing (bounds.flight_capacity a.bench.limits) a.asks.needs made b m
   pub blocks : (size ap address : ℕ) → bounds.AreNextWrites (address / 1024) size ap address a.asks.calls → address < 2 ^ 32 → a.asks.needs ≤ 2 →
       SomeBlockwise (bounds.block_words a.bench.limits) a.asks.needs made b m
 

@@ -12,12 +12,12 @@ use Rattle.access_calls.specs.Growing.{IsAfter}
 use Rattle.access_calls.specs.Numbers.{HasNumbers}
 use Rattle.access_calls.specs.Standing.{StayWithin}
 use Rattle.access_calls.specs.declared.stop.Report.{Report}
-use Rattle.flight_laws.specs.Flights.{IsCutAt, IsFaultAt}
+use Rattle.flight_laws.specs.Flights.{IsCutAt, IsStrictFaultAt}
 
 -- At a fault the calls stop right after those that have their lines before it.
 abbrev pub StopsAtFault : Type 0
 StopsAtFault = (p : Planner) (t : TargetState) (asks : List Ask) (r : Report) (skipped lines : ℕ) (n : Option ℕ) → IsFresh t → AreAskable asks →
-    IsFaultAt (issued p t asks) r.confirmed t → HasNumbers (issued p t asks) asks skipped lines r → AtLeast lines n →
+    IsStrictFaultAt (issued p t asks) r.confirmed t → HasNumbers (issued p t asks) asks skipped lines r → AtLeast lines n →
     stop (start_world t n) asks ≡ Some (lines + 1)
 
 -- Let a retry end, and just so many calls be answered as have their lines before it. Then the calls stop right after these. Or all of them have

@@ -7,7 +7,7 @@ use Rattle.target_calls.specs.Journal.{Entry, Passes, actions_in, target_after}
 use Rattle.target_calls.specs.Weights.{AreWeighty, commands_in, weight_in}
 use Rattle.access_regs.specs.Journal.{making}
 use Rattle.access_calls.specs.Reported.{began}
-use Rattle.access_calls.specs.Standing.{HasPerformed, idle_cycles_of, number_of, setting_of}
+use Rattle.access_calls.specs.Standing.{HasPerformed, idle_cycles_of, transfer_number_of, transfer_setting_of}
 
 -- Of these entries the first were made and are confirmed, the next lie in a flight as these accesses, and the rest is still to be pushed. None
 -- of those made gives a fault that its unit does not forgive. The target is the one after them, with STICKYERR clear, and the work has grown by
@@ -24,9 +24,9 @@ pub record IsUnderWay (entries made flying rest : List Entry) (accesses : List R
   pub room : work_of m.probe + length flying < 2 ^ 64
   pub retries : ended_retries_of m.probe ≡ ended_retries_of m0.probe
   pub few : ended_retries_of m0.probe + 1 < 2 ^ 32
-  pub setting : setting_of m ≡ setting_of m0
+  pub setting : transfer_setting_of m ≡ transfer_setting_of m0
   pub idle_cycles : idle_cycles_of m ≡ idle_cycles_of m0
-  pub number : number_of m + 2 * commands_in made ≤ number_of m0 + 2 * weight_in (target_of m0.probe) made
+  pub number : transfer_number_of m + 2 * commands_in made ≤ transfer_number_of m0 + 2 * weight_in (target_of m0.probe) made
 
 -- Where the work has grown by what the first entries weigh, and the target is the one after them, exactly they were performed.
 abbrev pub FrontPerformed : Type 0

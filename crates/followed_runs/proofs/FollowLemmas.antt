@@ -20,8 +20,8 @@ use Rattle.sequels.specs.Limits as limits
 use Rattle.sequels.specs.Limits.{CutShort, GoesOnFrom, SameWithin, limited}
 use Rattle.sequels.specs.Sequel.{Comes, Sequel, comes}
 use Rattle.sequels.proofs.LimitLemmas.{from_on, limit_comes}
-use Rattle.followed_runs.specs.Followed.{followed, followed_at, joined, stopped_by}
-use Rattle.followed_runs.specs.Laws.{IsCutShort, IsLimited}
+use Rattle.followed_runs.specs.Followed.{followed, followed_at, joined_outcome, stopped_by}
+use Rattle.followed_runs.specs.Laws.{OutcomeIsCutShort, OutcomeIsLimited}
 
 -- ---- as many calls as are answered
 
@@ -63,16 +63,16 @@ grows_by : (old : Option (List ℕ)) (part : List ℕ) → Grows old (option_map
 grows_by old part = record { part = part; same = refl }
 
 -- a run that is cut short is so with what follows it
-cut_followed : {C : Type 0} (s : Sequel C) (m : ℕ) (w wm : World) (whole short : Outcome) → laws.IsCutShort m whole short → IsCutShort m (followed (Some s) w whole) (followed (Some s) wm short)
-cut_followed {C = C} s m w wm whole short h = subst (λ (e : Ending). IsCutShort m (followed_at w s whole whole.ending) (followed_at wm s short e)) (sym h.ending) (by_whole whole.ending)
+cut_followed : {C : Type 0} (s : Sequel C) (m : ℕ) (w wm : World) (whole short : Outcome) → laws.IsCutShort m whole short → OutcomeIsCutShort m (followed (Some s) w whole) (followed (Some s) wm short)
+cut_followed {C = C} s m w wm whole short h = subst (λ (e : Ending). OutcomeIsCutShort m (followed_at w s whole whole.ending) (followed_at wm s short e)) (sym h.ending) (by_whole whole.ending)
   where
     from : GoesOnFrom short.calls whole.calls
     from = record { more = h.more; so = inl h.calls }
 
-    alone : IsCutShort m whole short
+    alone : OutcomeIsCutShort m whole short
     alone = record { ending = h.ending; units = h.units; calls = from; lines = h.lines }
 
-    by_whole : (e : Ending) → IsCutShort m (followed_at w s whole e) short
+    by_whole : (e : Ending) → OutcomeIsCutShort m (followed_at w s whole e) short
     by_whole runs.Done =
         let c : Comes C = comes (world_after w whole.calls) s in
         record {
@@ -122,7 +122,7 @@ module _ {C : Type 0} (s : Sequel C) (m : ℕ) (t : TargetState) (o : Outcome) (
   few_ends : (c : Comes C) → length c.calls ≤ k → end_of c (Some k) ≡ end_of c None
   few_ends c le = ap (λ (b : Bool). cond (is_some c.end) runs.Done (cond b runs.Unanswered (stopped_by None c.calls))) (le-ltb k (length c.calls) le)
 
-  same_parts : (c : Comes C) → length c.calls ≤ k → joined wm o c ≡ joined w o c
+  same_parts : (c : Comes C) → length c.calls ≤ k → joined_outcome wm o c ≡ joined_outcome w o c
   same_parts c le =
       let all : length (front ++ c.calls) ≤ m = (let n = count c in omega (arith, n, le, few)) in
       ap (λ (x : World). parts c (end_of c x.answered) (skips wm (front ++ c.calls)) (world_after wm (front ++ c.calls)).target) there
@@ -136,10 +136,10 @@ module _ {C : Type 0} (s : Sequel C) (m : ℕ) (t : TargetState) (o : Outcome) (
       ∙ ap (λ (x : Option C). cond (is_some x) runs.Done (stopped_by (Some k) c.calls)) end_is
       ∙ ap (λ (b : Bool). cond b runs.Unanswered (stopped_by None c.calls)) (lt-ltb k (length c.calls) (omega (arith, long)))
 
-  by_limit : (c cm : Comes C) → limits.IsLimited k c cm → IsLimited m (joined w o c) (joined wm o cm)
+  by_limit : (c cm : Comes C) → limits.IsLimited k c cm → OutcomeIsLimited m (joined_outcome w o c) (joined_outcome wm o cm)
   by_limit c cm (inl h) = inl (record {
     units = (let n = count c in let le = h.few in omega (arith, n, le, few));
-    same = ap (joined wm o) h.same ∙ same_parts c h.few;
+    same = ap (joined_outcome wm o) h.same ∙ same_parts c h.few;
   })
   by_limit c cm (inr h) = inr (record {
     ending = short_end cm h.none h.count;
@@ -148,21 +148,21 @@ module _ {C : Type 0} (s : Sequel C) (m : ℕ) (t : TargetState) (o : Outcome) (
     lines = grows_more o.written cm.written c.written h.further h.written;
   })
 
-  pub done_followed : IsLimited m (joined w o (comes u s)) (joined wm o (comes (world_after wm o.calls) s))
-  done_followed = subst (λ (x : World). IsLimited m (joined w o (comes u s)) (joined wm o (comes x s))) (sym there) (by_limit (comes u s) (comes (limited u k) s) (limit_comes u k s free))
+  pub done_followed : OutcomeIsLimited m (joined_outcome w o (comes u s)) (joined_outcome wm o (comes (world_after wm o.calls) s))
+  done_followed = subst (λ (x : World). OutcomeIsLimited m (joined_outcome w o (comes u s)) (joined_outcome wm o (comes x s))) (sym there) (by_limit (comes u s) (comes (limited u k) s) (limit_comes u k s free))
 
 pub limits_followed : {C : Type 0} (s : Option (Sequel C)) (m : ℕ) (p : Program) (t : TargetState) (written : Option (List ℕ))
-    → IsLimited m (followed s (start_world t None) (outcome p t written)) (followed s (start_world t (Some m)) (outcome_within m p t written))
+    → OutcomeIsLimited m (followed s (start_world t None) (outcome p t written)) (followed s (start_world t (Some m)) (outcome_within m p t written))
 limits_followed None m p t written = by_run (limit_cuts m p t written)
   where
-    by_run : laws.IsWhole m (outcome p t written) (outcome_within m p t written) ⊎ laws.IsCutShort m (outcome p t written) (outcome_within m p t written) → IsLimited m (outcome p t written) (outcome_within m p t written)
+    by_run : laws.IsWhole m (outcome p t written) (outcome_within m p t written) ⊎ laws.IsCutShort m (outcome p t written) (outcome_within m p t written) → OutcomeIsLimited m (outcome p t written) (outcome_within m p t written)
     by_run (inl h) = inl (record { units = h.units; same = h.same })
     by_run (inr h) = inr (record { ending = h.ending; units = h.units; calls = record { more = h.more; so = inl h.calls }; lines = h.lines })
 limits_followed (Some s) m p t written = by_run (limit_cuts m p t written)
   where
     by_run : laws.IsWhole m (outcome p t written) (outcome_within m p t written) ⊎ laws.IsCutShort m (outcome p t written) (outcome_within m p t written)
-        → IsLimited m (followed (Some s) (start_world t None) (outcome p t written)) (followed (Some s) (start_world t (Some m)) (outcome_within m p t written))
-    by_run (inl h) = subst (λ (x : Outcome). IsLimited m (followed (Some s) (start_world t None) o) (followed (Some s) wm x)) (sym h.same) (by_end o.ending refl)
+        → OutcomeIsLimited m (followed (Some s) (start_world t None) (outcome p t written)) (followed (Some s) (start_world t (Some m)) (outcome_within m p t written))
+    by_run (inl h) = subst (λ (x : Outcome). OutcomeIsLimited m (followed (Some s) (start_world t None) o) (followed (Some s) wm x)) (sym h.same) (by_end o.ending refl)
       where
         w : World
         w = start_world t None
@@ -173,14 +173,14 @@ limits_followed (Some s) m p t written = by_run (limit_cuts m p t written)
         o : Outcome
         o = outcome p t written
 
-        alone : (e : Ending) → o.ending ≡ e → followed_at w s o e ≡ o → followed_at wm s o e ≡ o → IsLimited m (followed_at w s o o.ending) (followed_at wm s o o.ending)
+        alone : (e : Ending) → o.ending ≡ e → followed_at w s o e ≡ o → followed_at wm s o e ≡ o → OutcomeIsLimited m (followed_at w s o o.ending) (followed_at wm s o o.ending)
         alone e is a b = inl (record {
           units = subst (λ (x : Outcome). units_of x ≤ m) (sym (ap (followed_at w s o) is ∙ a)) h.units;
           same = ap (followed_at wm s o) is ∙ b ∙ sym (ap (followed_at w s o) is ∙ a);
         })
 
-        by_end : (e : Ending) → o.ending ≡ e → IsLimited m (followed_at w s o o.ending) (followed_at wm s o o.ending)
-        by_end runs.Done is = subst (λ (e : Ending). IsLimited m (followed_at w s o e) (followed_at wm s o e)) (sym is)
+        by_end : (e : Ending) → o.ending ≡ e → OutcomeIsLimited m (followed_at w s o o.ending) (followed_at wm s o o.ending)
+        by_end runs.Done is = subst (λ (e : Ending). OutcomeIsLimited m (followed_at w s o e) (followed_at wm s o e)) (sym is)
             (done_followed s m t o (subst (λ (e : Ending). laws.StopBy w e o.calls) is (are_made w p written).made.ending) h.units)
         by_end (runs.Halted cause) is = alone (runs.Halted cause) is refl refl
         by_end (runs.Faulted call) is = alone (runs.Faulted call) is refl refl

@@ -16,7 +16,7 @@ use Rattle.sequence_rules.specs.Runs.{Ending, Outcome, meaning, outcome_of}
 use Rattle.sequence_rules.proofs.Made.{are_made}
 use Rattle.sequels.specs.Sequel.{Comes, Sequel, comes}
 use Rattle.sequels.proofs.SequelLemmas.{stops_by_end}
-use Rattle.followed_runs.specs.Followed.{faulted_last, followed, followed_at, joined, stopped_by}
+use Rattle.followed_runs.specs.Followed.{faulted_last, followed, followed_at, joined_outcome, stopped_by}
 use Rattle.followed_runs.specs.Laws.{FollowedRunsAreMade}
 
 -- some calls, by those before the last one
@@ -105,7 +105,7 @@ module _ {C : Type 0} (w : World) (s : Sequel C) (o : Outcome) (none : stop w o.
   here : world_after w (settled_last o.calls) ≡ world_after w o.calls
   here = after_marked w o.calls
 
-  ending_at : (c : Comes C) → MatchOption c.end (stop (world_after w o.calls) c.calls ≡ Some (length c.calls)) (λ x. stop (world_after w o.calls) c.calls ≡ None) → StopBy w (joined w o c).ending (joined w o c).calls
+  ending_at : (c : Comes C) → MatchOption c.end (stop (world_after w o.calls) c.calls ≡ Some (length c.calls)) (λ x. stop (world_after w o.calls) c.calls ≡ None) → StopBy w (joined_outcome w o c).ending (joined_outcome w o c).calls
   ending_at c h = by_end c.end h
     where
       by_end : (end : Option C) → MatchOption end (stop (world_after w o.calls) c.calls ≡ Some (length c.calls)) (λ x. stop (world_after w o.calls) c.calls ≡ None)
@@ -115,7 +115,7 @@ module _ {C : Type 0} (w : World) (s : Sequel C) (o : Outcome) (none : stop w o.
       by_end (Some x) goes = append_stop w (settled_last o.calls) c.calls front_goes
           ∙ ap (λ (x : World). later_by (length (settled_last o.calls)) (stop x c.calls)) here ∙ ap (later_by (length (settled_last o.calls))) goes
 
-  pub joined_made : IsMadeIn w (joined w o (comes (world_after w o.calls) s))
+  pub joined_made : IsMadeIn w (joined_outcome w o (comes (world_after w o.calls) s))
   joined_made = record { target = refl; skipped = refl; ending = ending_at (comes (world_after w o.calls) s) (stops_by_end (world_after w o.calls) s).so }
 
 made_with : {C : Type 0} (s : Option (Sequel C)) (w : World) (o : Outcome) → IsMadeIn w o → IsMadeIn w (followed s w o)

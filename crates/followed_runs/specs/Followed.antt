@@ -16,8 +16,8 @@ pub record Task : Type 0 where
   pub sequel : Option (Sequel Close)
 
 -- a program that nothing follows
-abbrev pub alone : Program → Task
-alone p = record { program = p; sequel = None }
+abbrev pub task_alone : Program → Task
+task_alone p = record { program = p; sequel = None }
 
 -- the last of the calls met a fault
 abbrev pub faulted_last : List Ask → Ending
@@ -31,8 +31,8 @@ stopped_by None calls = faulted_last calls
 stopped_by (Some n) calls = if nat_lt n (length calls) then runs.Unanswered else faulted_last calls
 
 -- A run that was done goes on with what a sequel comes to, once its last call is settled. Where the sequel has an end, the run is done.
-abbrev pub joined : {C : Type 0} → World → Outcome → Comes C → Outcome
-joined w o c = record {
+abbrev pub joined_outcome : {C : Type 0} → World → Outcome → Comes C → Outcome
+joined_outcome w o c = record {
   ending = if is_some c.end then runs.Done else stopped_by (world_after w o.calls).answered c.calls;
   variables = if is_some c.end then o.variables else [];
   calls = settled_last o.calls ++ c.calls;
@@ -43,7 +43,7 @@ joined w o c = record {
 
 -- only a run that was done goes on
 abbrev pub followed_at : {C : Type 0} → World → Sequel C → Outcome → Ending → Outcome
-followed_at w s o runs.Done = joined w o (comes (world_after w o.calls) s)
+followed_at w s o runs.Done = joined_outcome w o (comes (world_after w o.calls) s)
 followed_at w s o (runs.Halted cause) = o
 followed_at w s o (runs.Faulted call) = o
 followed_at w s o runs.Unanswered = o
@@ -55,16 +55,16 @@ followed None w o = o
 followed (Some s) w o = followed_at w s o o.ending
 
 -- What a task comes to in a world, after what was written before.
-abbrev pub outcome_in : World → Task → Option (List ℕ) → Outcome
-outcome_in w k written = followed k.sequel w (outcome_of (meaning w k.program written))
+abbrev pub outcome_in_world : World → Task → Option (List ℕ) → Outcome
+outcome_in_world w k written = followed k.sequel w (outcome_of (meaning w k.program written))
 
 -- What a task comes to on a target, where all units are answered.
 abbrev pub task_outcome : Task → TargetState → Option (List ℕ) → Outcome
-task_outcome k t written = outcome_in (start_world t None) k written
+task_outcome k t written = outcome_in_world (start_world t None) k written
 
 -- The same where only so many units are answered.
 abbrev pub task_within : ℕ → Task → TargetState → Option (List ℕ) → Outcome
-task_within m k t written = outcome_in (start_world t (Some m)) k written
+task_within m k t written = outcome_in_world (start_world t (Some m)) k written
 
 -- ---- how what follows came to its end
 
@@ -82,13 +82,13 @@ closed_at w s o runs.Unanswered = Nothing
 closed_at w s o runs.Lost = Nothing
 
 -- How what follows a run came to its end: `Nothing` where nothing follows, where the run was not done, and where the calls of what follows stop.
-abbrev pub closed : Option (Sequel Close) → World → Outcome → Close
-closed None w o = Nothing
-closed (Some s) w o = closed_at w s o o.ending
+abbrev pub close_after_run : Option (Sequel Close) → World → Outcome → Close
+close_after_run None w o = Nothing
+close_after_run (Some s) w o = closed_at w s o o.ending
 
 -- How what follows the program of a task comes to its end in a world, after what was written before.
 abbrev pub close_in : World → Task → Option (List ℕ) → Close
-close_in w k written = closed k.sequel w (outcome_of (meaning w k.program written))
+close_in w k written = close_after_run k.sequel w (outcome_of (meaning w k.program written))
 
 -- The same on a target, where all units are answered.
 abbrev pub task_close : Task → TargetState → Option (List ℕ) → Close

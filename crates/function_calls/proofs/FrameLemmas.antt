@@ -20,9 +20,9 @@ use Rattle.sequence_rules.specs.Shared.{bindings_of}
 use Rattle.function_calls.specs.declared.end.End.{End}
 use Rattle.function_calls.specs.declared.end.End.TheVariants as end
 use Rattle.function_calls.specs.declared.held.Held.{Held}
-use Rattle.function_calls.specs.Ends.{Counted, EndIs, HasSinkCause, MeansLate, NoWriteFault}
-use Rattle.function_calls.specs.Frame.{EndsCall, EndsUse, EndsWriting, IsReady, LateMeaning, RunsCall, RunsUse, RunsWriting, UsesValues}
-use Rattle.function_calls.specs.Held.{seen, state_of}
+use Rattle.function_calls.specs.Ends.{CallEndIs, CallHasSinkCause, CountsAskedUnits, MeansLate, NoWriteFault}
+use Rattle.function_calls.specs.Frame.{EndsCall, EndsUse, EndsWriting, IsReadyToCall, LateMeaning, RunsCall, RunsUse, RunsWriting, UsesValues}
+use Rattle.function_calls.specs.Held.{late_state_of, late_state_seen}
 use Rattle.function_calls.specs.Lines.{WritesLines}
 use Rattle.function_calls.proofs.Leaves.{After, ends_on, quiet_cause}
 use Rattle.function_calls.proofs.WholeLines.{lines_kept}
@@ -35,13 +35,13 @@ O A = Out Value Late A
 
 -- ---- an end that is handed on ends so
 
-end_passed : (T U : Type 0) (e : End) (at : Option Stop) → EndIs {A = T} (Err e) at → EndIs {A = U} (Err e) at
+end_passed : (T U : Type 0) (e : End) (at : Option Stop) → CallEndIs {A = T} (Err e) at → CallEndIs {A = U} (Err e) at
 end_passed T U (end.Halted cause) at h = h
 end_passed T U end.Stopped at h = h
 end_passed T U end.OutOfMemory at h = h
 end_passed T U end.WriteFault at h = h
 
-count_passed : (T U : Type 0) (e : End) (units : ℕ) (calls : List Ask) → Counted {A = T} (Err e) units calls → Counted {A = U} (Err e) units calls
+count_passed : (T U : Type 0) (e : End) (units : ℕ) (calls : List Ask) → CountsAskedUnits {A = T} (Err e) units calls → CountsAskedUnits {A = U} (Err e) units calls
 count_passed T U (end.Halted cause) units calls h = h
 count_passed T U end.Stopped units calls h = h
 count_passed T U end.OutOfMemory units calls h = h
@@ -53,7 +53,7 @@ quiet_passed T U end.Stopped h = h
 quiet_passed T U end.OutOfMemory h = h
 quiet_passed T U end.WriteFault h = h
 
-cause_passed : (T U : Type 0) (e : End) (before now : ℕ) → HasSinkCause {A = T} (Err e) before now → HasSinkCause {A = U} (Err e) before now
+cause_passed : (T U : Type 0) (e : End) (before now : ℕ) → CallHasSinkCause {A = T} (Err e) before now → CallHasSinkCause {A = U} (Err e) before now
 cause_passed T U (end.Halted cause) before now h = h
 cause_passed T U end.Stopped before now h = h
 cause_passed T U end.OutOfMemory before now h = h
@@ -86,7 +86,7 @@ ends_passed {T = T} {U = U} {written = written} {faults = faults} {units = units
 -- ---- one after the other
 
 -- after a call that answers, another may be made
-pub ready_after : {T K : Type 0} {written : K → Option (List ℕ)} {faults : K → ℕ} {x : T} {units : ℕ} {a : AccessView} {old new : K} → EndsWriting written faults (Ok x) units a old new → IsReady units a
+pub ready_after : {T K : Type 0} {written : K → Option (List ℕ)} {faults : K → ℕ} {x : T} {units : ℕ} {a : AccessView} {old new : K} → EndsWriting written faults (Ok x) units a old new → IsReadyToCall units a
 ready_after ends = record { no_end = ends.end; counted = ends.counted }
 
 -- a call after one that answers ends both
@@ -97,7 +97,7 @@ ends_after {faults = faults} {result = result} {t = t} one two = record {
   counted = two.counted;
   knows = λ known k. two.knows known (one.knows known k);
   lines = λ before h. two.lines before (one.lines before h);
-  cause = subst (λ n. HasSinkCause result n (faults t)) one.cause two.cause;
+  cause = subst (λ n. CallHasSinkCause result n (faults t)) one.cause two.cause;
 }
 
 -- another answer ends the same, and so it does after a change that counts no unit
@@ -113,7 +113,7 @@ pub use_same : {T U : Type 0} {x : T} {a b : AccessView} (y : U) → EndsUse (Ok
 use_same y one = record { end = one.end; calls = one.calls; cause = tt }
 
 -- a use asks nothing
-counted_use : {T : Type 0} (result : Result T End) (units : ℕ) (old new : List Ask) → units ≡ length old → new ≡ old → Counted result units new
+counted_use : {T : Type 0} (result : Result T End) (units : ℕ) (old new : List Ask) → units ≡ length old → new ≡ old → CountsAskedUnits result units new
 counted_use (Ok x) units old new h same = h ∙ ap length (sym same)
 counted_use (Err (end.Halted cause)) units old new h same = h ∙ ap length (sym same)
 counted_use (Err end.Stopped) units old new h same = tt
@@ -134,7 +134,7 @@ module _ {A : Type 0} {p : LateMeaning A} {T : Type 0} {cost : Costs} {begun : T
   }
 
   -- a use is a call
-  pub call_by_use : {held : Held} {old new : T} {result : Result A End} → IsReady held.units (reported old) → RunsUse p cost begun reported identity held old new result → RunsCall p cost begun reported identity held old held new result
+  pub call_by_use : {held : Held} {old new : T} {result : Result A End} → IsReadyToCall held.units (reported old) → RunsUse p cost begun reported identity held old new result → RunsCall p cost begun reported identity held old held new result
   call_by_use {held = held} {old = old} {new = new} {result = result} ready runs = record {
     gives = runs.gives;
     keeps = runs.keeps;
@@ -146,7 +146,7 @@ module _ {A : Type 0} {p : LateMeaning A} {T : Type 0} {cost : Costs} {begun : T
       → RunsWriting p cost begun reported identity written faults before old first now new last result → RunsWriting q cost begun reported identity written faults before old first now new last result
   writing_as {written = written} {before = before} {now = now} {old = old} {new = new} {first = first} {last = last} {result = result} same runs = record {
     gives = λ m answered known b l knows. let w = world_from m answered in
-        subst (λ o. MeansLate w (reported new) result (seen known now (reported new).asks (written last)) o) (same w (seen known before (reported old).asks (written first))) (runs.gives m answered known b l knows);
+        subst (λ o. MeansLate w (reported new) result (late_state_seen known now (reported new).asks (written last)) o) (same w (late_state_seen known before (reported old).asks (written first))) (runs.gives m answered known b l knows);
     keeps = runs.keeps;
     ends = runs.ends;
   }
@@ -167,8 +167,8 @@ module _ {A : Type 0} {p : LateMeaning A} {T : Type 0} {cost : Costs} {begun : T
   }
 
   -- what is held is changed, and nothing is asked
-  pub call_changes : {before now : Held} {a : T} {x : A} → IsReady before.units (reported a) → now.units ≡ before.units
-      → ((w : World) (asks : Asks) (written : Option (List ℕ)) → p (late cost w) (state_of before asks written) ≡ Ok (x, state_of now asks written))
+  pub call_changes : {before now : Held} {a : T} {x : A} → IsReadyToCall before.units (reported a) → now.units ≡ before.units
+      → ((w : World) (asks : Asks) (written : Option (List ℕ)) → p (late cost w) (late_state_of before asks written) ≡ Ok (x, late_state_of now asks written))
       → RunsCall p cost begun reported identity before a now a (Ok x)
   call_changes {a = a} ready units is = record {
     gives = λ m answered written b l. is (world_from m answered) (reported a).asks written;
@@ -177,8 +177,8 @@ module _ {A : Type 0} {p : LateMeaning A} {T : Type 0} {cost : Costs} {begun : T
   }
 
   -- it is changed, and then the run halts
-  pub call_halts : {before now : Held} {a : T} {cause : HaltCause} → IsReady before.units (reported a) → now.units ≡ before.units
-      → ((w : World) (asks : Asks) (written : Option (List ℕ)) → p (late cost w) (state_of before asks written) ≡ Err (machine.Halted cause, state_of now asks written))
+  pub call_halts : {before now : Held} {a : T} {cause : HaltCause} → IsReadyToCall before.units (reported a) → now.units ≡ before.units
+      → ((w : World) (asks : Asks) (written : Option (List ℕ)) → p (late cost w) (late_state_of before asks written) ≡ Err (machine.Halted cause, late_state_of now asks written))
       → RunsCall p cost begun reported identity before a now a (Err (end.Halted cause))
   call_halts {a = a} ready units is = record {
     gives = λ m answered written b l. is (world_from m answered) (reported a).asks written;
@@ -187,8 +187,8 @@ module _ {A : Type 0} {p : LateMeaning A} {T : Type 0} {cost : Costs} {begun : T
   }
 
   -- memory is refused, before what the meaning does
-  pub call_refused : {before now : Held} {a : T} → IsReady before.units (reported a)
-      → ((w : World) (asks : Asks) (written : Option (List ℕ)) → Later w (state_of now asks written).rest (end_state (p (late cost w) (state_of before asks written))).rest)
+  pub call_refused : {before now : Held} {a : T} → IsReadyToCall before.units (reported a)
+      → ((w : World) (asks : Asks) (written : Option (List ℕ)) → Later w (late_state_of now asks written).rest (end_state (p (late cost w) (late_state_of before asks written))).rest)
       → RunsCall p cost begun reported identity before a now a (Err end.OutOfMemory)
   call_refused {a = a} ready is = record {
     gives = λ m answered written b l. is (world_from m answered) (reported a).asks written;
@@ -197,9 +197,9 @@ module _ {A : Type 0} {p : LateMeaning A} {T : Type 0} {cost : Costs} {begun : T
   }
 
   -- nothing is done
-  pub call_same : {held : Held} {a : T} {x : A} → IsReady held.units (reported a) → ((w : World) (s : S) → p (late cost w) s ≡ Ok (x, s)) → RunsCall p cost begun reported identity held a held a (Ok x)
+  pub call_same : {held : Held} {a : T} {x : A} → IsReadyToCall held.units (reported a) → ((w : World) (s : S) → p (late cost w) s ≡ Ok (x, s)) → RunsCall p cost begun reported identity held a held a (Ok x)
   call_same {held = held} {a = a} ready is = record {
-    gives = λ m answered written b l. is (world_from m answered) (state_of held (reported a).asks written);
+    gives = λ m answered written b l. is (world_from m answered) (late_state_of held (reported a).asks written);
     keeps = keeps_same begun reported identity a;
     ends = record { end = ready.no_end; counted = ready.counted; cause = tt };
   }

@@ -16,7 +16,7 @@ use Rattle.target_calls.specs.NeedPoints.{Asks, Costs}
 use Rattle.target_calls.specs.World.{World, results, stop, small_now}
 use Rattle.target_calls.proofs.NeedLemmas.{used_calls, asked_calls}
 use Rattle.access_calls.specs.Answers.{AtCut, IsEnd, NoMemory, StopsCalls, UnchangedByMemory, calls_after}
-use Rattle.access_calls.specs.GoesOn.{GoesOn}
+use Rattle.access_calls.specs.GoesOn.{AccessGoesOn}
 use Rattle.access_calls.specs.Left.{IsLeft}
 use Rattle.access_calls.specs.Reported.{AccessView}
 use Rattle.access_calls.specs.declared.stop.Report.{Report}
@@ -34,9 +34,9 @@ use Rattle.sequence_rules.proofs.Made.{no_cost}
 use Rattle.sequence_rules.proofs.LateLemmas.{later_on, later_same, later_still, steady_late, grows_same}
 use Rattle.function_calls.specs.declared.end.End.{End}
 use Rattle.function_calls.specs.declared.end.End.TheVariants as end
-use Rattle.function_calls.specs.Ends.{AtEnd, EndsLate, HasEnded, HasSinkCause, IsStopAt, MeansLate, NoWriteFault, answer_by, StopsHere}
+use Rattle.function_calls.specs.Ends.{AtEnd, EndsLate, HasEnded, CallHasSinkCause, IsStopAt, MeansLate, NoWriteFault, answer_by, StopsHere}
 use Rattle.function_calls.specs.Frame.{EndsCall, EndsUse}
-use Rattle.function_calls.specs.Stops.{end_by}
+use Rattle.function_calls.specs.Stops.{end_at_stop}
 
 abbrev S : Type 0
 S = State Value Late
@@ -47,7 +47,7 @@ pub record After {B : Type 0} (w : World) (s : S) (out : Out Value Late B) : Typ
 
 -- ---- ends
 
-pub left_on : (a b : AccessView) → GoesOn a b → (answered : Option ℕ) → IsLeft b answered → IsLeft a answered
+pub left_on : (a b : AccessView) → AccessGoesOn a b → (answered : Option ℕ) → IsLeft b answered → IsLeft a answered
 left_on a b h answered l = h.left answered l
 
 -- where the access answers its end, it has ended
@@ -64,49 +64,49 @@ at_end ReplyBad end P is memory h = subst (λ (e : Option Stop). AtEnd e P) (sym
 at_end OutOfMemory end P is memory h = absurd memory
 
 -- a use at which the access stopped
-use_by : (T : Type 0) (st : Stop) (a b : AccessView) → IsEnd b.end st → NoMemory st → b.asks.calls ≡ a.asks.calls → EndsUse {T = T} (Err (end_by st)) a b
+use_by : (T : Type 0) (st : Stop) (a b : AccessView) → IsEnd b.end st → NoMemory st → b.asks.calls ≡ a.asks.calls → EndsUse {T = T} (Err (end_at_stop st)) a b
 use_by T (Cut r) a b is memory calls = record { end = has_ended (Cut r) b.end is memory; calls = calls; cause = tt }
 use_by T (BenchFault issued confirmed) a b is memory calls = record { end = has_ended (BenchFault issued confirmed) b.end is memory; calls = calls; cause = tt }
 use_by T ReplyBad a b is memory calls = record { end = has_ended ReplyBad b.end is memory; calls = calls; cause = tt }
 use_by T OutOfMemory a b is memory calls = absurd memory
 
-pub use_stopped : {T : Type 0} (st : Stop) (e : End) (a b : AccessView) → e ≡ end_by st → IsEnd b.end st → NoMemory st → b.asks.calls ≡ a.asks.calls → EndsUse {T = T} (Err e) a b
+pub use_stopped : {T : Type 0} (st : Stop) (e : End) (a b : AccessView) → e ≡ end_at_stop st → IsEnd b.end st → NoMemory st → b.asks.calls ≡ a.asks.calls → EndsUse {T = T} (Err e) a b
 use_stopped {T = T} st e a b by is memory calls = subst (λ (x : End). EndsUse {T = T} (Err x) a b) (sym by) (use_by T st a b is memory calls)
 
 -- a call at which the access stopped, or memory was refused
-call_by : (T : Type 0) (st : Stop) (units : ℕ) (a b : AccessView) → a.end ≡ None → IsEnd b.end st → UnchangedByMemory a b st → EndsCall {T = T} (Err (end_by st)) units b
+call_by : (T : Type 0) (st : Stop) (units : ℕ) (a b : AccessView) → a.end ≡ None → IsEnd b.end st → UnchangedByMemory a b st → EndsCall {T = T} (Err (end_at_stop st)) units b
 call_by T (Cut r) units a b none is same = record { end = has_ended (Cut r) b.end is tt; counted = tt; cause = tt }
 call_by T (BenchFault issued confirmed) units a b none is same = record { end = has_ended (BenchFault issued confirmed) b.end is tt; counted = tt; cause = tt }
 call_by T ReplyBad units a b none is same = record { end = has_ended ReplyBad b.end is tt; counted = tt; cause = tt }
 call_by T OutOfMemory units a b none is same = record { end = ap (λ (t : AccessView). t.end) same ∙ none; counted = tt; cause = tt }
 
-pub call_stopped : {T : Type 0} (st : Stop) (e : End) (units : ℕ) (a b : AccessView) → e ≡ end_by st → a.end ≡ None → IsEnd b.end st → UnchangedByMemory a b st → EndsCall {T = T} (Err e) units b
+pub call_stopped : {T : Type 0} (st : Stop) (e : End) (units : ℕ) (a b : AccessView) → e ≡ end_at_stop st → a.end ≡ None → IsEnd b.end st → UnchangedByMemory a b st → EndsCall {T = T} (Err e) units b
 call_stopped {T = T} st e units a b by none is same = subst (λ (x : End). EndsCall {T = T} (Err x) units b) (sym by) (call_by T st units a b none is same)
 
 -- where the access stops in the middle of this
 stop_by : {A : Type 0} (w : World) (b : AccessView) (now : S) (out : Out Value Late A) (st : Stop) → IsEnd b.end st → Later w now.rest (end_state out).rest → AtCut st (λ r. stop w now.rest.asks.calls ≡ Some (b.lines + 1))
-    → EndsLate w b (end_by st) now out
+    → EndsLate w b (end_at_stop st) now out
 stop_by w b now out (Cut r) is later first = record { later = later; first = record { so = at_end (Cut r) b.end (λ q. stop w now.rest.asks.calls ≡ Some (b.lines + 1)) is tt first } }
 stop_by w b now out (BenchFault issued confirmed) is later first = record { later = later; first = record { so = at_end (BenchFault issued confirmed) b.end (λ q. stop w now.rest.asks.calls ≡ Some (b.lines + 1)) is tt tt } }
 stop_by w b now out ReplyBad is later first = record { later = later; first = record { so = at_end ReplyBad b.end (λ q. stop w now.rest.asks.calls ≡ Some (b.lines + 1)) is tt tt } }
 stop_by w b now out OutOfMemory is later first = later
 
-stops_by : {A : Type 0} (w : World) (b : AccessView) (now : S) (out : Out Value Late A) (st : Stop) (e : End) → e ≡ end_by st → IsEnd b.end st → Later w now.rest (end_state out).rest
+stops_by : {A : Type 0} (w : World) (b : AccessView) (now : S) (out : Out Value Late A) (st : Stop) (e : End) → e ≡ end_at_stop st → IsEnd b.end st → Later w now.rest (end_state out).rest
     → AtCut st (λ r. stop w now.rest.asks.calls ≡ Some (b.lines + 1)) → EndsLate w b e now out
 stops_by w b now out st e by is later first = subst (λ (x : End). EndsLate w b x now out) (sym by) (stop_by w b now out st is later first)
 
 -- where the access stops before it has made all
-flush_by : (w : World) (calls : List Ask) (b : AccessView) (st : Stop) → IsEnd b.end st → NoMemory st → StopsCalls w calls b.lines st → IsStopAt w calls b (end_by st)
+flush_by : (w : World) (calls : List Ask) (b : AccessView) (st : Stop) → IsEnd b.end st → NoMemory st → StopsCalls w calls b.lines st → IsStopAt w calls b (end_at_stop st)
 flush_by w calls b (Cut r) is memory stops = record { so = at_end (Cut r) b.end (λ q. stop w calls ≡ Some (b.lines + 1)) is tt stops.so }
 flush_by w calls b (BenchFault issued confirmed) is memory stops = record { so = at_end (BenchFault issued confirmed) b.end (λ q. stop w calls ≡ Some (b.lines + 1)) is tt tt }
 flush_by w calls b ReplyBad is memory stops = record { so = at_end ReplyBad b.end (λ q. stop w calls ≡ Some (b.lines + 1)) is tt tt }
 flush_by w calls b OutOfMemory is memory stops = absurd memory
 
-pub flush_stopped : (w : World) (calls : List Ask) (b : AccessView) (st : Stop) (e : End) → e ≡ end_by st → IsEnd b.end st → NoMemory st → StopsCalls w calls b.lines st → IsStopAt w calls b e
+pub flush_stopped : (w : World) (calls : List Ask) (b : AccessView) (st : Stop) (e : End) → e ≡ end_at_stop st → IsEnd b.end st → NoMemory st → StopsCalls w calls b.lines st → IsStopAt w calls b e
 flush_stopped w calls b st e by is memory stops = subst (λ (x : End). IsStopAt w calls b x) (sym by) (flush_by w calls b st is memory stops)
 
 -- a call without a sink
-pub quiet_cause : {A : Type 0} (result : Result A End) (n : ℕ) → NoWriteFault result → HasSinkCause result n n
+pub quiet_cause : {A : Type 0} (result : Result A End) (n : ℕ) → NoWriteFault result → CallHasSinkCause result n n
 quiet_cause (Ok x) n h = refl
 quiet_cause (Err (end.Halted cause)) n h = refl
 quiet_cause (Err end.Stopped) n h = refl
@@ -124,7 +124,7 @@ unfolding use_now late
 used_rest cost w v s = refl
 
 -- a value whose look-up stops
-pub ends_use : (cost : Costs) (w : World) (slot : Slot) (s : S) (b : AccessView) (st : Stop) (e : End) → e ≡ end_by st → IsEnd b.end st → b.asks.calls ≡ s.rest.asks.calls → StopsCalls w s.rest.asks.calls b.lines st
+pub ends_use : (cost : Costs) (w : World) (slot : Slot) (s : S) (b : AccessView) (st : Stop) (e : End) → e ≡ end_at_stop st → IsEnd b.end st → b.asks.calls ≡ s.rest.asks.calls → StopsCalls w s.rest.asks.calls b.lines st
     → EndsLate w b e (with_rest s (late_of b.asks s.rest.written)) (use_now (late cost w) (Pending slot) s)
 ends_use cost w slot s b st e by is calls stops =
     stops_by w b (with_rest s (late_of b.asks s.rest.written)) (use_now (late cost w) (Pending slot) s) st e by is
@@ -166,7 +166,7 @@ stops_at T w a b ask ReplyBad none calls stops = (inr (all_asked a b ask none ca
 stops_at T w a b ask OutOfMemory none calls stops = (inl calls, tt)
 
 -- what was asked then comes first in what the meaning asks
-left_asked : {A : Type 0} (cost : Costs) (w : World) (ask : Ask) (s : S) (b : AccessView) (st : Stop) (e : End) (out : Out Value Late A) → e ≡ end_by st → IsEnd b.end st
+left_asked : {A : Type 0} (cost : Costs) (w : World) (ask : Ask) (s : S) (b : AccessView) (st : Stop) (e : End) (out : Out Value Late A) → e ≡ end_at_stop st → IsEnd b.end st
     → (end_state out).rest ≡ late_of (asks_with cost w ask s.rest.asks) s.rest.written → StopsAt w s.rest.asks.calls ask b.lines b.asks.calls st → EndsLate w b e (with_rest s (late_of b.asks s.rest.written)) out
 unfolding StopsAt
 left_asked cost w ask s b st e out by end is (inl same, first) =
@@ -177,7 +177,7 @@ left_asked cost w ask s b st e out by end is (inl same, first) =
 left_asked cost w ask s b st e out by end is (inr more, first) =
     stops_by w b (with_rest s (late_of b.asks s.rest.written)) out st e by end (rw is (later_still cost w _ _ (asked_calls (cost w.target s.rest.asks.calls ask) ask s.rest.asks ∙ sym more) refl)) first
 
-pub ends_ask : (cost : Costs) (w : World) (u : AccessUnit) (forgive : Bool) (s : S) (a b : AccessView) (st : Stop) (e : End) → e ≡ end_by st → IsEnd b.end st → s.rest.asks ≡ a.asks → nat_lt s.units 1000000 ≡ true → a.end ≡ None
+pub ends_ask : (cost : Costs) (w : World) (u : AccessUnit) (forgive : Bool) (s : S) (a b : AccessView) (st : Stop) (e : End) → e ≡ end_at_stop st → IsEnd b.end st → s.rest.asks ≡ a.asks → nat_lt s.units 1000000 ≡ true → a.end ≡ None
     → b.asks.calls ≡ calls_after {T = Asked} a (unit_ask u forgive) (Err st) → StopsCalls w (a.asks.calls ++ unit_ask u forgive ∷ []) b.lines st
     → EndsLate w b e (with_rest s (late_of b.asks s.rest.written)) (ask (late cost w) u forgive s)
 ends_ask cost w u forgive s a b st e by is same some none calls stops =
@@ -195,7 +195,7 @@ command_rest : (cost : Costs) (w : World) (c : ProbeCall) (s : S) → nat_lt s.u
 unfolding command numbered late
 command_rest cost w c s some = rw some refl
 
-pub ends_command : (cost : Costs) (w : World) (c : ProbeCall) (s : S) (a b : AccessView) (st : Stop) (e : End) → e ≡ end_by st → IsEnd b.end st → s.rest.asks ≡ a.asks → nat_lt s.units 1000000 ≡ true → a.end ≡ None
+pub ends_command : (cost : Costs) (w : World) (c : ProbeCall) (s : S) (a b : AccessView) (st : Stop) (e : End) → e ≡ end_at_stop st → IsEnd b.end st → s.rest.asks ≡ a.asks → nat_lt s.units 1000000 ≡ true → a.end ≡ None
     → b.asks.calls ≡ calls_after {T = ℕ} a (probe_ask c) (Err st) → StopsCalls w (a.asks.calls ++ probe_ask c ∷ []) b.lines st
     → EndsLate w b e (with_rest s (late_of b.asks s.rest.written)) (command (late cost w) c s)
 ends_command cost w c s a b st e by is same some none calls stops =

@@ -37,7 +37,7 @@ pub record StopsHere (w : World) (calls : List Ask) (a : AccessView) : Type 0 wh
 
 -- The access ended, and so the code left the meaning in its middle. What was asked and written comes first in what the meaning asks and writes.
 -- At a cut the calls stop right after those whose lines come before it.
-pub record Left {A : Type 0} (w : World) (a : AccessView) (now : State Value Late) (out : Out Value Late A) : Type 0 where
+pub record LeftMeaning {A : Type 0} (w : World) (a : AccessView) (now : State Value Late) (out : Out Value Late A) : Type 0 where
   pub later : Later w now.rest (end_state out).rest
   pub first : StopsHere w now.rest.asks.calls a
 
@@ -45,7 +45,7 @@ pub record Left {A : Type 0} (w : World) (a : AccessView) (now : State Value Lat
 -- middle.
 abbrev pub EndsLate : {A : Type 0} → World → AccessView → End → State Value Late → Out Value Late A → Type 0
 EndsLate w a (end.Halted cause) now out = out ≡ Err (machine.Halted cause, now)
-EndsLate w a end.Stopped now out = Left w a now out
+EndsLate w a end.Stopped now out = LeftMeaning w a now out
 EndsLate w a end.OutOfMemory now out = Later w now.rest (end_state out).rest
 EndsLate w a end.WriteFault now out = Later w now.rest (end_state out).rest
 
@@ -64,28 +64,28 @@ abbrev pub as_port : Port → meaning.Port
 as_port port = record { ap = port.ap; forgive = port.forgive; dp = port.dp }
 
 -- the access has ended where it stopped, and else it goes on
-abbrev pub EndIs : {A : Type 0} → Result A End → Option Stop → Type 0
-EndIs (Ok x) end = end ≡ None
-EndIs (Err (end.Halted cause)) end = end ≡ None
-EndIs (Err end.Stopped) end = HasEnded end
-EndIs (Err end.OutOfMemory) end = end ≡ None
-EndIs (Err end.WriteFault) end = end ≡ None
+abbrev pub CallEndIs : {A : Type 0} → Result A End → Option Stop → Type 0
+CallEndIs (Ok x) end = end ≡ None
+CallEndIs (Err (end.Halted cause)) end = end ≡ None
+CallEndIs (Err end.Stopped) end = HasEnded end
+CallEndIs (Err end.OutOfMemory) end = end ≡ None
+CallEndIs (Err end.WriteFault) end = end ≡ None
 
 -- one call was asked for each unit that is counted; nothing is said where the access stopped or memory was refused
-abbrev pub Counted : {A : Type 0} → Result A End → ℕ → List Ask → Type 0
-Counted (Ok x) units calls = units ≡ length calls
-Counted (Err (end.Halted cause)) units calls = units ≡ length calls
-Counted (Err end.Stopped) units calls = Unit {0}
-Counted (Err end.OutOfMemory) units calls = Unit {0}
-Counted (Err end.WriteFault) units calls = units ≡ length calls
+abbrev pub CountsAskedUnits : {A : Type 0} → Result A End → ℕ → List Ask → Type 0
+CountsAskedUnits (Ok x) units calls = units ≡ length calls
+CountsAskedUnits (Err (end.Halted cause)) units calls = units ≡ length calls
+CountsAskedUnits (Err end.Stopped) units calls = Unit {0}
+CountsAskedUnits (Err end.OutOfMemory) units calls = Unit {0}
+CountsAskedUnits (Err end.WriteFault) units calls = units ≡ length calls
 
 -- the sink's count of faults rose where the answer says that the sink failed, and else it is the same
-abbrev pub HasSinkCause : {A : Type 0} → Result A End → ℕ → ℕ → Type 0
-HasSinkCause (Ok x) before now = now ≡ before
-HasSinkCause (Err (end.Halted cause)) before now = now ≡ before
-HasSinkCause (Err end.Stopped) before now = now ≡ before
-HasSinkCause (Err end.OutOfMemory) before now = now ≡ before
-HasSinkCause (Err end.WriteFault) before now = Rose before now
+abbrev pub CallHasSinkCause : {A : Type 0} → Result A End → ℕ → ℕ → Type 0
+CallHasSinkCause (Ok x) before now = now ≡ before
+CallHasSinkCause (Err (end.Halted cause)) before now = now ≡ before
+CallHasSinkCause (Err end.Stopped) before now = now ≡ before
+CallHasSinkCause (Err end.OutOfMemory) before now = now ≡ before
+CallHasSinkCause (Err end.WriteFault) before now = Rose before now
 
 -- a step is counted, or the run halts, as in the meaning
 abbrev pub CountsStep : Result (Unit {0}) HaltCause → State Value Late → Out Value Late (Unit {0}) → Type 0

@@ -16,9 +16,9 @@ state_with globals locals units lines steps asks written =
     record { globals = globals; locals = locals; units = units; lines = lines; steps = steps; rest = late_of asks written }
 
 -- the state of a run that holds this, of which this was asked and written
-abbrev pub state_of : Held → Asks → Option (List ℕ) → State Value Late
-state_of held asks written = state_with (bindings_of held.globals.variables) (locals_of held.locals) held.units held.lines held.steps asks written
+abbrev pub late_state_of : Held → Asks → Option (List ℕ) → State Value Late
+late_state_of held asks written = state_with (bindings_of held.globals.variables) (locals_of held.locals) held.units held.lines held.steps asks written
 
 -- the same, with what was written where it is asked for
-abbrev pub seen : Bool → Held → Asks → Option (List ℕ) → State Value Late
-seen known held asks written = state_of held asks (known_part known written)
+abbrev pub late_state_seen : Bool → Held → Asks → Option (List ℕ) → State Value Late
+late_state_seen known held asks written = late_state_of held asks (known_part known written)

@@ -5,14 +5,14 @@ use Rattle.function_calls.specs.declared.end.End.{End}
 use Rattle.function_calls.specs.declared.end.End.TheVariants as end
 
 -- A text of whole lines: it is empty, or a line feed ends it.
-pub data AreLines (text : List ℕ) : Type 0 where
-  empty : text ≡ [] → AreLines text
-  ended : (front : List ℕ) → text ≡ front ++ codes "\n" → AreLines text
+pub data AreWholeLines (text : List ℕ) : Type 0 where
+  empty : text ≡ [] → AreWholeLines text
+  ended : (front : List ℕ) → text ≡ front ++ codes "\n" → AreWholeLines text
 
 -- What was written is whole lines, where it is known what a sink holds.
 pub record AppendsLines (old new : Option (List ℕ)) : Type 0 where
   pub text : List ℕ
-  pub whole : AreLines text
+  pub whole : AreWholeLines text
   pub appends : Appends old new text
 
 -- Only where the sink failed a part of a line may be written.

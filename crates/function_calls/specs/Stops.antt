@@ -5,8 +5,8 @@ use Rattle.function_calls.specs.declared.end.End.{End}
 use Rattle.function_calls.specs.declared.end.End.TheVariants as end
 
 -- the access stopped, or memory was refused
-abbrev pub end_by : Stop → End
-end_by (stop.Cut r) = end.Stopped
-end_by (stop.BenchFault issued confirmed) = end.Stopped
-end_by stop.ReplyBad = end.Stopped
-end_by stop.OutOfMemory = end.OutOfMemory
+abbrev pub end_at_stop : Stop → End
+end_at_stop (stop.Cut r) = end.Stopped
+end_at_stop (stop.BenchFault issued confirmed) = end.Stopped
+end_at_stop stop.ReplyBad = end.Stopped
+end_at_stop stop.OutOfMemory = end.OutOfMemory

@@ -2,7 +2,7 @@
 ghost use Rattle.target_machine.specs.Sound.{IsSound, IsSoundProbe};
 ghost use Rattle.sequence_rules.specs.Calls as c;
 ghost use Rattle.sequence_rules.specs.Late.{late};
-ghost use Rattle.function_calls.specs.Frame.{IsReady, RunsCall};
+ghost use Rattle.function_calls.specs.Frame.{IsReadyToCall, RunsCall};
 
 use crate::end::End;
 use crate::held::Held;
@@ -21,7 +21,7 @@ pub fn ask<A: Access>(
     access: &mut A,
 ) -> Result<Value, End>
     requires sound { IsSound unit }
-    requires ready { IsReady held.old.units (A.reported access.old) }
+    requires ready { IsReadyToCall held.old.units (A.reported access.old) }
     ensures { RunsCall (λ m. c.ask m unit forgive) A.cost A.begun A.reported A.identity held.old access.old held.new access.new result }
 {
     if held.units >= MOST_UNITS {
@@ -50,7 +50,7 @@ pub(crate) fn ask_for_result<A: Access>(
     access: &mut A,
 ) -> Result<Value, End>
     requires sound { IsSound unit }
-    requires ready { IsReady held.old.units (A.reported access.old) }
+    requires ready { IsReadyToCall held.old.units (A.reported access.old) }
     ensures { RunsCall (λ m s. c.if_read m read (c.ask m unit forgive s)) A.cost A.begun A.reported A.identity held.old access.old held.new access.new result }
 {
     let value = ask(unit, forgive, held, access)?;
@@ -65,7 +65,7 @@ pub(crate) fn command<A: Access>(
     access: &mut A,
 ) -> Result<Value, End>
     requires sound { IsSoundProbe call }
-    requires ready { IsReady held.old.units (A.reported access.old) }
+    requires ready { IsReadyToCall held.old.units (A.reported access.old) }
     ensures { RunsCall (λ m. c.command m call) A.cost A.begun A.reported A.identity held.old access.old held.new access.new result }
 {
     if held.units >= MOST_UNITS {
@@ -88,7 +88,7 @@ pub(crate) fn command_without_result<A: Access>(
     access: &mut A,
 ) -> Result<Value, End>
     requires sound { IsSoundProbe call }
-    requires ready { IsReady held.old.units (A.reported access.old) }
+    requires ready { IsReadyToCall held.old.units (A.reported access.old) }
     ensures { RunsCall (λ m s. c.zero_of m (c.command m call s)) A.cost A.begun A.reported A.identity held.old access.old held.new access.new result }
 {
     command(call, held, access)?;

@@ -19,9 +19,9 @@ pub enum End {
 
 /// How a run ends at this answer of its access.
 impl From<Stop> for End {
-    ghost use Rattle.function_calls.specs.Stops.{end_by};
+    ghost use Rattle.function_calls.specs.Stops.{end_at_stop};
 
-    ghost from_gives = { λ stop end. end ≡ end_by stop };
+    ghost from_gives = { λ stop end. end ≡ end_at_stop stop };
 
     fn from(stop: Stop) -> End {
         match stop {

@@ -11,7 +11,7 @@ ghost use Rattle.sequence_rules.specs.Shared.{bindings_of};
 ghost use Rattle.sequence_rules.specs.Steps as m;
 ghost use Rattle.sequence_rules.specs.Variables.{bound, set_in, set_visible, visible};
 ghost use Rattle.function_calls.specs.Ends.{CountsStep};
-ghost use Rattle.function_calls.specs.Held.{state_of};
+ghost use Rattle.function_calls.specs.Held.{late_state_of};
 
 use dap_base::{NameText, OutOfMemory};
 use sequence_rules::{Globals, Locals, MOST_STEPS, SharedVariables};
@@ -38,7 +38,7 @@ pub struct Held {
 impl Held {
     /// What a run starts with: these variables, and nothing else.
     pub fn new(alloc: Global, globals: Globals<Value>) -> Held
-        ensures state { (asks : Asks) (written : Option (List ℕ)) → state_of result asks written
+        ensures state { (asks : Asks) (written : Option (List ℕ)) → late_state_of result asks written
             ≡ record { globals = bindings_of globals; locals = []; units = 0; lines = 0; steps = 0; rest = late_of asks written } }
         ensures units { result.units ≡ 0 }
     {
@@ -65,7 +65,7 @@ impl Held {
     /// Gives a visible variable a value.
     pub fn store(&mut self, name: &str, value: Value)
         ensures state { (asks : Asks) (written : Option (List ℕ))
-            → state_of self.new asks written ≡ set_visible name.now value (state_of self.old asks written) }
+            → late_state_of self.new asks written ≡ set_visible name.now value (late_state_of self.old asks written) }
         ensures units { self.new.units ≡ self.old.units }
     {
         if !self.locals.set(name, value) {
@@ -81,8 +81,9 @@ impl Held {
         value: Value,
     ) -> Result<(), OutOfMemory>
         ensures state { (asks : Asks) (written : Option (List ℕ))
-            → OnOk result (state_of self.new asks written ≡ with_locals (state_of self.old asks written) (locals_of self.old.locals ++ bound name.now value ∷ [])) }
-        ensures same { (asks : Asks) (written : Option (List ℕ)) → OnErr result (state_of self.new asks written ≡ state_of self.old asks written) }
+            → OnOk result
+            (late_state_of self.new asks written ≡ with_locals (late_state_of self.old asks written) (locals_of self.old.locals ++ bound name.now value ∷ [])) }
+        ensures same { (asks : Asks) (written : Option (List ℕ)) → OnErr result (late_state_of self.new asks written ≡ late_state_of self.old asks written) }
         ensures units { self.new.units ≡ self.old.units }
     {
         self.locals.add(alloc, name.as_str(), value)
@@ -99,7 +100,7 @@ impl Held {
     pub fn take_locals(&mut self, alloc: Global) -> Locals<Value>
         ensures taken { locals_of result ≡ locals_of self.old.locals }
         ensures none { (asks : Asks) (written : Option (List ℕ))
-            → state_of self.new asks written ≡ with_locals (state_of self.old asks written) [] }
+            → late_state_of self.new asks written ≡ with_locals (late_state_of self.old asks written) [] }
         ensures units { self.new.units ≡ self.old.units }
     {
         mem::replace(&mut self.locals, Locals::new(alloc))
@@ -108,7 +109,7 @@ impl Held {
     /// Drops the variables of the running sequence after the first `len`.
     pub fn cut_back(&mut self, len: usize)
         ensures state { (asks : Asks) (written : Option (List ℕ))
-            → state_of self.new asks written ≡ with_locals (state_of self.old asks written) (take len (locals_of self.old.locals)) }
+            → late_state_of self.new asks written ≡ with_locals (late_state_of self.old asks written) (take len (locals_of self.old.locals)) }
         ensures units { self.new.units ≡ self.old.units }
     {
         self.locals.truncate(len);
@@ -116,8 +117,8 @@ impl Held {
 
     // Gives the caller its `__dp` again.
     fn set_dp(&mut self, value: Value)
-        ensures state { (asks : Asks) (written : Option (List ℕ)) → state_of self.new asks written
-            ≡ with_variables (state_of self.old asks written) (set_in (bindings_of self.old.globals.variables) (codes "__dp") value) (locals_of self.old.locals) }
+        ensures state { (asks : Asks) (written : Option (List ℕ)) → late_state_of self.new asks written
+            ≡ with_variables (late_state_of self.old asks written) (set_in (bindings_of self.old.globals.variables) (codes "__dp") value) (locals_of self.old.locals) }
         ensures units { self.new.units ≡ self.old.units }
     {
         self.globals.set_dp(value);
@@ -125,8 +126,8 @@ impl Held {
 
     // Gives the caller its `__ap` again.
     fn set_ap(&mut self, value: Value)
-        ensures state { (asks : Asks) (written : Option (List ℕ)) → state_of self.new asks written
-            ≡ with_variables (state_of self.old asks written) (set_in (bindings_of self.old.globals.variables) (codes "__ap") value) (locals_of self.old.locals) }
+        ensures state { (asks : Asks) (written : Option (List ℕ)) → late_state_of self.new asks written
+            ≡ with_variables (late_state_of self.old asks written) (set_in (bindings_of self.old.globals.variables) (codes "__ap") value) (locals_of self.old.locals) }
         ensures units { self.new.units ≡ self.old.units }
     {
         self.globals.set_ap(value);
@@ -134,8 +135,8 @@ impl Held {
 
     // Gives the caller its `__errorcontrol` again.
     fn set_control(&mut self, value: Value)
-        ensures state { (asks : Asks) (written : Option (List ℕ)) → state_of self.new asks written
-            ≡ with_variables (state_of self.old asks written) (set_in (bindings_of self.old.globals.variables) (codes "__errorcontrol") value) (locals_of self.old.locals) }
+        ensures state { (asks : Asks) (written : Option (List ℕ)) → late_state_of self.new asks written
+            ≡ with_variables (late_state_of self.old asks written) (set_in (bindings_of self.old.globals.variables) (codes "__errorcontrol") value) (locals_of self.old.locals) }
         ensures units { self.new.units ≡ self.old.units }
     {
         self.globals.set_control(value);
@@ -143,7 +144,7 @@ impl Held {
 
     fn set_locals(&mut self, locals: Locals<Value>)
         ensures state { (asks : Asks) (written : Option (List ℕ))
-            → state_of self.new asks written ≡ with_locals (state_of self.old asks written) (locals_of locals) }
+            → late_state_of self.new asks written ≡ with_locals (late_state_of self.old asks written) (locals_of locals) }
         ensures units { self.new.units ≡ self.old.units }
     {
         self.locals = locals;
@@ -151,8 +152,8 @@ impl Held {
 
     /// Returns from a called sequence: gives the caller its `__dp`, `__ap` and `__errorcontrol`, and its own variables.
     pub fn give_back(&mut self, dp: Value, ap: Value, control: Value, locals: Locals<Value>)
-        ensures state { (asks : Asks) (written : Option (List ℕ)) → state_of self.new asks written
-            ≡ with_variables (state_of self.old asks written)
+        ensures state { (asks : Asks) (written : Option (List ℕ)) → late_state_of self.new asks written
+            ≡ with_variables (late_state_of self.old asks written)
             (set_in (set_in (set_in (bindings_of self.old.globals.variables) (codes "__dp") dp) (codes "__ap") ap) (codes "__errorcontrol") control) (locals_of locals) }
         ensures units { self.new.units ≡ self.old.units }
     {
@@ -166,7 +167,7 @@ impl Held {
     #[tactic(auto, unfolding(sequence_rules::specs::Steps::counted))]
     pub fn count_step(&mut self) -> Result<(), HaltCause>
         ensures gives { (cost : Costs) (w : World) (asks : Asks) (written : Option (List ℕ))
-            → CountsStep result (state_of self.new asks written) (m.counted (late cost w) (state_of self.old asks written)) }
+            → CountsStep result (late_state_of self.new asks written) (m.counted (late cost w) (late_state_of self.old asks written)) }
         ensures units { self.new.units ≡ self.old.units }
     {
         if self.steps >= MOST_STEPS {

@@ -3,8 +3,8 @@ ghost use Rattle.std.specs.Prelude.{◌≡◌, ℕ, List, IfOk, drop, slice_inde
 ghost use Rattle.sequence_rules.specs.Calls as c;
 ghost use Rattle.sequence_rules.specs.Lines.{message_line};
 ghost use Rattle.function_calls.specs.Kinds.{line_done};
-ghost use Rattle.function_calls.specs.Lines.{AreLines};
-ghost use Rattle.function_calls.specs.Frame.{IsReady, RunsWriting};
+ghost use Rattle.function_calls.specs.Lines.{AreWholeLines};
+ghost use Rattle.function_calls.specs.Frame.{IsReadyToCall, RunsWriting};
 
 use crate::end::End;
 use crate::held::Held;
@@ -28,8 +28,8 @@ fn write_line<A: Access, K: Sink>(
     access: &mut A,
     sink: &mut K,
 ) -> Result<Value, End>
-    requires ready { IsReady held.old.units (A.reported access.old) }
-    requires whole { IfOk line AreLines }
+    requires ready { IsReadyToCall held.old.units (A.reported access.old) }
+    requires whole { IfOk line AreWholeLines }
     ensures { (text : List ℕ) → IfOk line (λ l. l ≡ text) → RunsWriting (λ m. c.line_result m text value)
         A.cost A.begun A.reported A.identity K.written K.faults held.old access.old sink.old held.new access.new sink.new result }
 {
@@ -71,7 +71,7 @@ pub(crate) fn write_line_of<A: Access, K: Sink>(
     access: &mut A,
     sink: &mut K,
 ) -> Result<Value, End>
-    requires ready { IsReady held.old.units (A.reported access.old) }
+    requires ready { IsReadyToCall held.old.units (A.reported access.old) }
     ensures { RunsWriting (λ m. line_done m kind text.now numbers.now)
         A.cost A.begun A.reported A.identity K.written K.faults held.old access.old sink.old held.new access.new sink.new result }
 {

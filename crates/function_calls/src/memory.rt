@@ -2,7 +2,7 @@
 ghost use Rattle.std.specs.Prelude.{◌≡◌, ◌⊎◌, ◌+◌, ◌*◌, ◌%◌, ◌^◌, None};
 ghost use Rattle.sequence_rules.specs.Calls as c;
 ghost use Rattle.function_calls.specs.Ends.{as_port};
-ghost use Rattle.function_calls.specs.Frame.{IsReady, RunsCall, RunsUse};
+ghost use Rattle.function_calls.specs.Frame.{IsReadyToCall, RunsCall, RunsUse};
 
 use crate::asking::{ask, ask_for_result};
 use crate::end::End;
@@ -45,7 +45,7 @@ fn ask_second_half<A: Access>(
     access: &mut A,
 ) -> Result<Value, End>
     requires aligned { address % 8 ≡ 0 }
-    requires ready { IsReady held.old.units (A.reported access.old) }
+    requires ready { IsReadyToCall held.old.units (A.reported access.old) }
     ensures { RunsCall (λ m. c.second_half m read (record { ap = ap; forgive = forgive; dp = 0 }) address value low)
         A.cost A.begun A.reported A.identity held.old access.old held.new access.new result }
 {
@@ -70,7 +70,7 @@ fn ask_two_units<A: Access>(
     access: &mut A,
 ) -> Result<Value, End>
     requires aligned { address % 8 ≡ 0 }
-    requires ready { IsReady held.old.units (A.reported access.old) }
+    requires ready { IsReadyToCall held.old.units (A.reported access.old) }
     ensures { RunsCall (λ m. c.two_units m read (record { ap = ap; forgive = forgive; dp = 0 }) address value)
         A.cost A.begun A.reported A.identity held.old access.old held.new access.new result }
 {
@@ -91,7 +91,7 @@ fn access_memory_at<A: Access>(
     access: &mut A,
 ) -> Result<Value, End>
     requires sized { (size ≡ 1) ⊎ ((size ≡ 2) ⊎ ((size ≡ 4) ⊎ (size ≡ 8))) }
-    requires ready { IsReady held.old.units (A.reported access.old) }
+    requires ready { IsReadyToCall held.old.units (A.reported access.old) }
     ensures { RunsCall (λ m. c.memory_at m size read address value (as_port port)) A.cost A.begun A.reported A.identity held.old access.old held.new access.new result }
 {
     let ap = match memory_port(size, address, port.ap, port.dp) {
@@ -116,7 +116,7 @@ pub(crate) fn access_memory<A: Access>(
     access: &mut A,
 ) -> Result<Value, End>
     requires sized { (size ≡ 1) ⊎ ((size ≡ 2) ⊎ ((size ≡ 4) ⊎ (size ≡ 8))) }
-    requires ready { IsReady held.old.units (A.reported access.old) }
+    requires ready { IsReadyToCall held.old.units (A.reported access.old) }
     ensures { RunsCall (λ m. c.memory m size read address value) A.cost A.begun A.reported A.identity held.old access.old held.new access.new result }
 {
     let port = use_port(held, access)?;

@@ -2,7 +2,7 @@
 ghost use Rattle.std.specs.Prelude.{◌≡◌, None, slice_index};
 ghost use Rattle.sequence_rules.specs.Calls as c;
 ghost use Rattle.function_calls.specs.Kinds.{IsSized, kind_done, probe_done, written_value};
-ghost use Rattle.function_calls.specs.Frame.{IsReady, RunsCall, RunsWriting};
+ghost use Rattle.function_calls.specs.Frame.{IsReadyToCall, RunsCall, RunsWriting};
 
 use crate::end::End;
 use crate::held::Held;
@@ -42,7 +42,7 @@ fn command_probe<A: Access>(
     held: &mut Held,
     access: &mut A,
 ) -> Result<Value, End>
-    requires ready { IsReady held.old.units (A.reported access.old) }
+    requires ready { IsReadyToCall held.old.units (A.reported access.old) }
     ensures { RunsCall (λ m. probe_done m kind numbers.now) A.cost A.begun A.reported A.identity held.old access.old held.new access.new result }
 {
     let first = number_at(numbers, 0);
@@ -73,7 +73,7 @@ fn make_call_of<A: Access, K: Sink>(
     sink: &mut K,
 ) -> Result<Value, End>
     requires sized { IsSized kind }
-    requires ready { IsReady held.old.units (A.reported access.old) }
+    requires ready { IsReadyToCall held.old.units (A.reported access.old) }
     ensures { RunsWriting (λ m. kind_done m kind text.now numbers.now)
         A.cost A.begun A.reported A.identity K.written K.faults held.old access.old sink.old held.new access.new sink.new result }
 {
@@ -108,7 +108,7 @@ pub fn make_call<A: Access, K: Sink>(
     access: &mut A,
     sink: &mut K,
 ) -> Result<Value, End>
-    requires ready { IsReady held.old.units (A.reported access.old) }
+    requires ready { IsReadyToCall held.old.units (A.reported access.old) }
     ensures { RunsWriting (λ m. c.function_result m function text.now numbers.now)
         A.cost A.begun A.reported A.identity K.written K.faults held.old access.old sink.old held.new access.new sink.new result }
 {

@@ -1,6 +1,6 @@
 //! Calls that are commands of the probe.
 ghost use Rattle.sequence_rules.specs.Calls as c;
-ghost use Rattle.function_calls.specs.Frame.{IsReady, RunsCall};
+ghost use Rattle.function_calls.specs.Frame.{IsReadyToCall, RunsCall};
 
 use crate::asking::{command, command_without_result};
 use crate::end::End;
@@ -14,7 +14,7 @@ use target_machine::{HaltCause, ProbeCall};
 // `DAP_WriteABORT`, on debug port 0 alone.
 #[tactic(auto, unfolding(sequence_rules::specs::Calls::abort_at, sequence_rules::specs::Calls::zero_of))]
 fn abort_at<A: Access>(value: u64, dp: u64, held: &mut Held, access: &mut A) -> Result<Value, End>
-    requires ready { IsReady held.old.units (A.reported access.old) }
+    requires ready { IsReadyToCall held.old.units (A.reported access.old) }
     ensures { RunsCall (λ m s. c.zero_of m (c.abort_at m value dp s)) A.cost A.begun A.reported A.identity held.old access.old held.new access.new result }
 {
     if dp != 0 {
@@ -27,7 +27,7 @@ fn abort_at<A: Access>(value: u64, dp: u64, held: &mut Held, access: &mut A) -> 
 // `DAP_WriteABORT`.
 #[tactic(auto, unfolding(sequence_rules::specs::Calls::abort, sequence_rules::specs::Calls::zero_of), using(crate::proofs::Leaves::goes_on))]
 pub(crate) fn abort<A: Access>(value: u64, held: &mut Held, access: &mut A) -> Result<Value, End>
-    requires ready { IsReady held.old.units (A.reported access.old) }
+    requires ready { IsReadyToCall held.old.units (A.reported access.old) }
     ensures { RunsCall (λ m s. c.zero_of m (c.abort m value s)) A.cost A.begun A.reported A.identity held.old access.old held.new access.new result }
 {
     let dp = use_debug_port(held, access)?;
@@ -37,7 +37,7 @@ pub(crate) fn abort<A: Access>(value: u64, held: &mut Held, access: &mut A) -> R
 // `DAP_Delay`, of at most 60,000,000 microseconds.
 #[tactic(auto, unfolding(sequence_rules::specs::Calls::delay, sequence_rules::specs::Calls::zero_of))]
 pub(crate) fn delay<A: Access>(micros: u64, held: &mut Held, access: &mut A) -> Result<Value, End>
-    requires ready { IsReady held.old.units (A.reported access.old) }
+    requires ready { IsReadyToCall held.old.units (A.reported access.old) }
     ensures { RunsCall (λ m s. c.zero_of m (c.delay m micros s)) A.cost A.begun A.reported A.identity held.old access.old held.new access.new result }
 {
     if micros > 60_000_000 {
@@ -53,7 +53,7 @@ pub(crate) fn set_clock<A: Access>(
     held: &mut Held,
     access: &mut A,
 ) -> Result<Value, End>
-    requires ready { IsReady held.old.units (A.reported access.old) }
+    requires ready { IsReadyToCall held.old.units (A.reported access.old) }
     ensures { RunsCall (λ m s. c.zero_of m (c.clock m hertz s)) A.cost A.begun A.reported A.identity held.old access.old held.new access.new result }
 {
     if hertz == 0 || hertz > 0xFFFF_FFFF {
@@ -71,7 +71,7 @@ pub(crate) fn set_pins<A: Access>(
     held: &mut Held,
     access: &mut A,
 ) -> Result<Value, End>
-    requires ready { IsReady held.old.units (A.reported access.old) }
+    requires ready { IsReadyToCall held.old.units (A.reported access.old) }
     ensures { RunsCall (λ m. c.pins m output select wait) A.cost A.begun A.reported A.identity held.old access.old held.new access.new result }
 {
     match pins_command(output, select, wait) {
@@ -88,7 +88,7 @@ pub(crate) fn send_bits<A: Access>(
     held: &mut Held,
     access: &mut A,
 ) -> Result<Value, End>
-    requires ready { IsReady held.old.units (A.reported access.old) }
+    requires ready { IsReadyToCall held.old.units (A.reported access.old) }
     ensures { RunsCall (λ m s. c.zero_of m (c.line_bits m count bits s)) A.cost A.begun A.reported A.identity held.old access.old held.new access.new result }
 {
     if count == 0 || count > 64 {

@@ -1,7 +1,7 @@
 //! Calls that access registers.
 ghost use Rattle.sequence_rules.specs.Calls as c;
 ghost use Rattle.function_calls.specs.Ends.{as_port};
-ghost use Rattle.function_calls.specs.Frame.{IsReady, RunsCall};
+ghost use Rattle.function_calls.specs.Frame.{IsReadyToCall, RunsCall};
 
 use crate::asking::ask_for_result;
 use crate::end::End;
@@ -21,7 +21,7 @@ fn access_ap_at<A: Access>(
     held: &mut Held,
     access: &mut A,
 ) -> Result<Value, End>
-    requires ready { IsReady held.old.units (A.reported access.old) }
+    requires ready { IsReadyToCall held.old.units (A.reported access.old) }
     ensures { RunsCall (λ m. c.ap_at m read addr value (as_port port)) A.cost A.begun A.reported A.identity held.old access.old held.new access.new result }
 {
     match ap_unit(read, addr, value, port.ap, port.dp) {
@@ -39,7 +39,7 @@ pub(crate) fn access_ap<A: Access>(
     held: &mut Held,
     access: &mut A,
 ) -> Result<Value, End>
-    requires ready { IsReady held.old.units (A.reported access.old) }
+    requires ready { IsReadyToCall held.old.units (A.reported access.old) }
     ensures { RunsCall (λ m. c.ap_register m read addr value) A.cost A.begun A.reported A.identity held.old access.old held.new access.new result }
 {
     let port = use_port(held, access)?;
@@ -56,7 +56,7 @@ fn access_dp_at<A: Access>(
     held: &mut Held,
     access: &mut A,
 ) -> Result<Value, End>
-    requires ready { IsReady held.old.units (A.reported access.old) }
+    requires ready { IsReadyToCall held.old.units (A.reported access.old) }
     ensures { RunsCall (λ m. c.dp_at m read addr value dp) A.cost A.begun A.reported A.identity held.old access.old held.new access.new result }
 {
     match dp_unit(read, addr, value, dp) {
@@ -74,7 +74,7 @@ pub(crate) fn access_dp<A: Access>(
     held: &mut Held,
     access: &mut A,
 ) -> Result<Value, End>
-    requires ready { IsReady held.old.units (A.reported access.old) }
+    requires ready { IsReadyToCall held.old.units (A.reported access.old) }
     ensures { RunsCall (λ m. c.dp_register m read addr value) A.cost A.begun A.reported A.identity held.old access.old held.new access.new result }
 {
     let dp = use_debug_port(held, access)?;

@@ -5,7 +5,7 @@ ghost use Rattle.target_calls.specs.NeedPoints.{needed};
 ghost use Rattle.target_calls.specs.World.{stop};
 ghost use Rattle.access_calls.specs.Left.{IsLeft};
 ghost use Rattle.access_calls.specs.Reported.{world_from};
-ghost use Rattle.access_calls.specs.Keeps.{Keeps};
+ghost use Rattle.access_calls.specs.Keeps.{KeepsAccess};
 ghost use Rattle.sequence_rules.specs.Calls as c;
 ghost use Rattle.sequence_rules.specs.Late.{late};
 ghost use Rattle.sequence_rules.specs.Values as v;
@@ -73,7 +73,7 @@ pub(crate) fn confirm<A: Access>(access: &mut A) -> Result<(), End>
         → OnOk result (stop (world_from m answered) (A.reported access.old).asks.calls ≡ None) }
     ensures stops { (m : BenchState) (answered : Option ℕ) → A.begun access.old m → IsLeft (A.reported access.new) answered
         → IfErr result (IsStopAt (world_from m answered) (A.reported access.old).asks.calls (A.reported access.new)) }
-    ensures keeps { Keeps A.begun A.reported A.identity access.old access.new }
+    ensures keeps { KeepsAccess A.begun A.reported A.identity access.old access.new }
     ensures ends { EndsUse result (A.reported access.old) (A.reported access.new) }
 {
     match access.flush() {

@@ -8,8 +8,8 @@ use Rattle.target_machine.proofs.Maps.{got_inserted}
 use Rattle.target_machine.specs.Attempt.{lanes}
 use Rattle.target_machine.specs.Memory.{Cell, Memory, merged, moved_on, shown_value, with_values}
 use Rattle.target_machine.specs.Plain.{from_lanes, to_lanes}
-use Rattle.image_load.specs.Laid.{IsRising, MayLoad, laid, with_byte}
-use Rattle.image_load.specs.Pieces.{IsPiece, byte_at, byte_piece, is_word, pieces, word_piece}
+use Rattle.image_load.specs.Laid.{HasRisingAddresses, MayLoad, laid, with_byte}
+use Rattle.image_load.specs.Pieces.{IsPiece, are_word_addresses, byte_from_bit, byte_piece, pieces, word_piece}
 use Rattle.image_load.specs.declared.piece.Piece.{Piece}
 use Rattle.image_load.proofs.CellLemmas.{WordParts, byte_at_word, got_it, no_word, put, some_same, with_put, word_parts, word_put}
 use Rattle.image_load.proofs.LaneLemmas.{other_lane, replaced, same_lane, shown_byte, shown_word}
@@ -67,7 +67,7 @@ pub record IsThere (m : Memory) (b : ℕ × ℕ) : Type 0 where
   pub value : ℕ
   pub read_only : Bool
   pub there : map.get m (b.0 / 4 * 4) ≡ Some (one_value value read_only)
-  pub is : byte_at value (8 * (b.0 % 4)) ≡ b.1
+  pub is : byte_from_bit value (8 * (b.0 % 4)) ≡ b.1
 
 lane_lt : (n : ℕ) → n % 4 < 4
 lane_lt n = omega arith
@@ -114,7 +114,7 @@ keep_there m b d h fits above = by_word (map.get m (d.0 / 4 * 4)) refl
               value = value;
               read_only = c.read_only;
               there = got_inserted m at new (b.0 / 4 * 4) ∙ ap (λ (y : Bool). cond y (Some new) (map.get m (b.0 / 4 * 4))) same;
-              is = other_lane (shown_value c) d.1 (d.0 % 4) (b.0 % 4) fits (lane_lt d.0) (lane_lt b.0) apart ∙ ap (λ (v : ℕ). byte_at v (8 * (b.0 % 4))) shown ∙ h.is;
+              is = other_lane (shown_value c) d.1 (d.0 % 4) (b.0 % 4) fits (lane_lt d.0) (lane_lt b.0) apart ∙ ap (λ (v : ℕ). byte_from_bit v (8 * (b.0 % 4))) shown ∙ h.is;
             }
         by_key false other = record {
           value = h.value;
@@ -128,7 +128,7 @@ keep_all [] m n b h above may = h
 keep_all (d ∷ image) m n b h above may = keep_all image (with_byte m d) n b (keep_there m b d h may.0.byte above.0) above.1 may.1
 
 -- after an image was laid all its bytes are there
-pub laid_there : (image : Bytes) (m : Memory) → IsRising image → AllByRecursion (MayLoad m) image → AllByRecursion (IsThere (laid m image)) image
+pub laid_there : (image : Bytes) (m : Memory) → HasRisingAddresses image → AllByRecursion (MayLoad m) image → AllByRecursion (IsThere (laid m image)) image
 laid_there [] m rising may = tt
 laid_there (b ∷ image) m rising may =
     (keep_all image (with_byte m b) m b (put_there m b may.0) rising.0 may.1, laid_there image (with_byte m b) rising.1 (may_keep_all m b image may.1))
@@ -173,25 +173,25 @@ word_shows m a b c d w ha hb hc hd =
           ap (λ (x : ℕ). bit_and ha.value ((2 ^ (8 * 4) - 1) * 2 ^ (8 * x)) / 2 ^ (8 * (a.0 % 4)) % 2 ^ (8 * 4)) none
           ∙ ap (λ (x : ℕ). bit_and ha.value ((2 ^ (8 * 4) - 1) * 2 ^ (8 * 0)) / 2 ^ (8 * x) % 2 ^ (8 * 4)) aligned
           ∙ shown_word ha.value a.1 b.1 c.1 d.1
-          (ap (λ (x : ℕ). byte_at ha.value (8 * x)) (sym aligned) ∙ ha.is)
+          (ap (λ (x : ℕ). byte_from_bit ha.value (8 * x)) (sym aligned) ∙ ha.is)
           (other hb kb 1 lb) (other hc kc 2 lc) (other hd kd 3 ld);
     }
   where
     -- another byte of the same word
-    other : {e : ℕ × ℕ} (h : IsThere m e) → e.0 / 4 * 4 ≡ a.0 / 4 * 4 → (r : ℕ) → e.0 % 4 ≡ r → byte_at ha.value (8 * r) ≡ e.1
+    other : {e : ℕ × ℕ} (h : IsThere m e) → e.0 / 4 * 4 ≡ a.0 / 4 * 4 → (r : ℕ) → e.0 % 4 ≡ r → byte_from_bit ha.value (8 * r) ≡ e.1
     other {e} h key r lane =
         let one : one_value ha.value ha.read_only ≡ one_value h.value h.read_only =
         some_same m (a.0 / 4 * 4) (one_value ha.value ha.read_only) (one_value h.value h.read_only) ha.there (ap (map.get m) (sym key) ∙ h.there) in
-        ap (λ (x : ℕ). byte_at x (8 * r)) (ap shown_value one) ∙ ap (λ (x : ℕ). byte_at h.value (8 * x)) (sym lane) ∙ h.is
+        ap (λ (x : ℕ). byte_from_bit x (8 * r)) (ap shown_value one) ∙ ap (λ (x : ℕ). byte_from_bit h.value (8 * x)) (sym lane) ∙ h.is
 
 pub pieces_show : (image : Bytes) (m : Memory) → AllByRecursion (IsThere m) image → AllByRecursion (Shows m) (pieces image)
 pieces_show [] m h = tt
 pieces_show (a ∷ []) m h = (byte_shows m a h.0, tt)
 pieces_show (a ∷ b ∷ []) m h = (byte_shows m a h.0, (byte_shows m b h.1.0, tt))
 pieces_show (a ∷ b ∷ c ∷ []) m h = (byte_shows m a h.0, (byte_shows m b h.1.0, (byte_shows m c h.1.1.0, tt)))
-pieces_show (a ∷ b ∷ c ∷ d ∷ rest) m h = by_word (is_word a.0 b.0 c.0 d.0) refl (pieces_show rest m h.1.1.1.1) (pieces_show (b ∷ c ∷ d ∷ rest) m h.1)
+pieces_show (a ∷ b ∷ c ∷ d ∷ rest) m h = by_word (are_word_addresses a.0 b.0 c.0 d.0) refl (pieces_show rest m h.1.1.1.1) (pieces_show (b ∷ c ∷ d ∷ rest) m h.1)
   where
-    by_word : (t : Bool) → is_word a.0 b.0 c.0 d.0 ≡ t → AllByRecursion (Shows m) (pieces rest) → AllByRecursion (Shows m) (pieces (b ∷ c ∷ d ∷ rest))
+    by_word : (t : Bool) → are_word_addresses a.0 b.0 c.0 d.0 ≡ t → AllByRecursion (Shows m) (pieces rest) → AllByRecursion (Shows m) (pieces (b ∷ c ∷ d ∷ rest))
         → AllByRecursion (Shows m) (cond t (word_piece a.0 a.1 b.1 c.1 d.1 ∷ pieces rest) (byte_piece a ∷ pieces (b ∷ c ∷ d ∷ rest)))
     by_word true e after on = (word_shows m a b c d (word_parts a.0 b.0 c.0 d.0 e) h.0 h.1.0 h.1.1.0 h.1.1.1.0, after)
     by_word false e after on = (byte_shows m a h.0, on)
@@ -227,9 +227,9 @@ pieces_may [] m h = tt
 pieces_may (a ∷ []) m h = (byte_may m a h.0, tt)
 pieces_may (a ∷ b ∷ []) m h = (byte_may m a h.0, (byte_may m b h.1.0, tt))
 pieces_may (a ∷ b ∷ c ∷ []) m h = (byte_may m a h.0, (byte_may m b h.1.0, (byte_may m c h.1.1.0, tt)))
-pieces_may (a ∷ b ∷ c ∷ d ∷ rest) m h = by_word (is_word a.0 b.0 c.0 d.0) refl (pieces_may rest m h.1.1.1.1) (pieces_may (b ∷ c ∷ d ∷ rest) m h.1)
+pieces_may (a ∷ b ∷ c ∷ d ∷ rest) m h = by_word (are_word_addresses a.0 b.0 c.0 d.0) refl (pieces_may rest m h.1.1.1.1) (pieces_may (b ∷ c ∷ d ∷ rest) m h.1)
   where
-    by_word : (t : Bool) → is_word a.0 b.0 c.0 d.0 ≡ t → AllByRecursion (MayPut m) (pieces rest) → AllByRecursion (MayPut m) (pieces (b ∷ c ∷ d ∷ rest))
+    by_word : (t : Bool) → are_word_addresses a.0 b.0 c.0 d.0 ≡ t → AllByRecursion (MayPut m) (pieces rest) → AllByRecursion (MayPut m) (pieces (b ∷ c ∷ d ∷ rest))
         → AllByRecursion (MayPut m) (cond t (word_piece a.0 a.1 b.1 c.1 d.1 ∷ pieces rest) (byte_piece a ∷ pieces (b ∷ c ∷ d ∷ rest)))
     by_word true e after on = (word_may m a b c d (word_parts a.0 b.0 c.0 d.0 e) h.0 h.1.0.byte h.1.1.0.byte h.1.1.1.0.byte, after)
     by_word false e after on = (byte_may m a h.0, on)

@@ -9,7 +9,7 @@ use Rattle.target_machine.specs.Attempt.{lanes}
 use Rattle.target_machine.specs.Memory.{Cell, Memory, merged, shown_value, with_values}
 use Rattle.target_machine.specs.Plain.{to_lanes}
 use Rattle.image_load.specs.Laid.{laid, with_byte, word_with}
-use Rattle.image_load.specs.Pieces.{byte_piece, is_word, pieces, word_piece}
+use Rattle.image_load.specs.Pieces.{are_word_addresses, byte_piece, pieces, word_piece}
 use Rattle.image_load.specs.declared.piece.Piece.{Piece}
 use Rattle.image_load.proofs.LaneLemmas.{four_lanes, replaced, whole_word}
 
@@ -144,7 +144,7 @@ pub record WordParts (a b c d : ℕ) : Type 0 where
   pub third : c ≡ a + 2
   pub fourth : d ≡ a + 3
 
-pub word_parts : (a b c d : ℕ) → is_word a b c d ≡ true → WordParts a b c d
+pub word_parts : (a b c d : ℕ) → are_word_addresses a b c d ≡ true → WordParts a b c d
 word_parts a b c d e = by_first (eqb (a % 4) 0) refl e
   where
     by_fourth : (x : Bool) → a % 4 ≡ 0 → b ≡ a + 1 → c ≡ a + 2 → eqb d (a + 3) ≡ x → x ≡ true → WordParts a b c d
@@ -172,9 +172,9 @@ laid_by_pieces (a ∷ b ∷ c ∷ []) m h =
     ap (λ (x : Memory). put (put x (byte_piece b)) (byte_piece c)) (with_put m a)
     ∙ ap (λ (x : Memory). put x (byte_piece c)) (with_put (with_byte m a) b)
     ∙ with_put (with_byte (with_byte m a) b) c
-laid_by_pieces (a ∷ b ∷ c ∷ d ∷ rest) m h = by_word (is_word a.0 b.0 c.0 d.0) refl (laid_by_pieces rest (with_byte (with_byte (with_byte (with_byte m a) b) c) d) h.1.1.1.1) (laid_by_pieces (b ∷ c ∷ d ∷ rest) (with_byte m a) h.1)
+laid_by_pieces (a ∷ b ∷ c ∷ d ∷ rest) m h = by_word (are_word_addresses a.0 b.0 c.0 d.0) refl (laid_by_pieces rest (with_byte (with_byte (with_byte (with_byte m a) b) c) d) h.1.1.1.1) (laid_by_pieces (b ∷ c ∷ d ∷ rest) (with_byte m a) h.1)
   where
-    by_word : (t : Bool) → is_word a.0 b.0 c.0 d.0 ≡ t → fold put (with_byte (with_byte (with_byte (with_byte m a) b) c) d) (pieces rest) ≡ laid (with_byte (with_byte (with_byte (with_byte m a) b) c) d) rest
+    by_word : (t : Bool) → are_word_addresses a.0 b.0 c.0 d.0 ≡ t → fold put (with_byte (with_byte (with_byte (with_byte m a) b) c) d) (pieces rest) ≡ laid (with_byte (with_byte (with_byte (with_byte m a) b) c) d) rest
         → fold put (with_byte m a) (pieces (b ∷ c ∷ d ∷ rest)) ≡ laid (with_byte m a) (b ∷ c ∷ d ∷ rest)
         → fold put m (cond t (word_piece a.0 a.1 b.1 c.1 d.1 ∷ pieces rest) (byte_piece a ∷ pieces (b ∷ c ∷ d ∷ rest))) ≡ laid m (a ∷ b ∷ c ∷ d ∷ rest)
     by_word true e after on =

@@ -1,25 +1,25 @@
 -- The first difference of what was read back, byte by byte and piece by piece.
 use Rattle.std.proofs.Common.{◌≡◌, ◌∙◌, ℕ, zero, suc, ◌+◌, ◌-◌, ◌<◌, ◌≤◌, Bool, cond, List, [], ◌∷◌, length, drop, drop-cons, get_or, Option, None, Some, refl, sym, ap, arith, eq-eqb, ne_eqb}
-use Rattle.image_load.specs.Pieces.{byte_at, difference, first_difference, first_of}
+use Rattle.image_load.specs.Pieces.{byte_from_bit, difference, first_difference, first_of}
 use Rattle.image_load.specs.declared.piece.Difference.{Difference}
 use Rattle.image_load.specs.declared.piece.Piece.{Piece}
 
 -- ---- bytes
 
-pub same_byte : (n bit address w f : ℕ) → byte_at w bit ≡ byte_at f bit → difference (suc n) bit address w f ≡ difference n (bit + 8) (address + 1) w f
-same_byte n bit address w f same = ap (λ (b : Bool). cond b (difference n (bit + 8) (address + 1) w f) (Some (record { address = address; wanted = byte_at w bit; found = byte_at f bit }))) (eq-eqb (byte_at w bit) (byte_at f bit) same)
+pub same_byte : (n bit address w f : ℕ) → byte_from_bit w bit ≡ byte_from_bit f bit → difference (suc n) bit address w f ≡ difference n (bit + 8) (address + 1) w f
+same_byte n bit address w f same = ap (λ (b : Bool). cond b (difference n (bit + 8) (address + 1) w f) (Some (record { address = address; wanted = byte_from_bit w bit; found = byte_from_bit f bit }))) (eq-eqb (byte_from_bit w bit) (byte_from_bit f bit) same)
 
-pub other_byte : (n bit address w f : ℕ) → (byte_at w bit ≡ byte_at f bit → ⊥) → difference (suc n) bit address w f ≡ Some (record { address = address; wanted = byte_at w bit; found = byte_at f bit })
-other_byte n bit address w f differs = ap (λ (b : Bool). cond b (difference n (bit + 8) (address + 1) w f) (Some (record { address = address; wanted = byte_at w bit; found = byte_at f bit }))) (ne_eqb (byte_at w bit) (byte_at f bit) differs)
+pub other_byte : (n bit address w f : ℕ) → (byte_from_bit w bit ≡ byte_from_bit f bit → ⊥) → difference (suc n) bit address w f ≡ Some (record { address = address; wanted = byte_from_bit w bit; found = byte_from_bit f bit })
+other_byte n bit address w f differs = ap (λ (b : Bool). cond b (difference n (bit + 8) (address + 1) w f) (Some (record { address = address; wanted = byte_from_bit w bit; found = byte_from_bit f bit }))) (ne_eqb (byte_from_bit w bit) (byte_from_bit f bit) differs)
 
 -- one byte further
-pub next_byte : (size i bit address w f : ℕ) → i < size → byte_at w bit ≡ byte_at f bit → difference (size - i) bit (address + i) w f ≡ difference (size - (i + 1)) (bit + 8) (address + (i + 1)) w f
+pub next_byte : (size i bit address w f : ℕ) → i < size → byte_from_bit w bit ≡ byte_from_bit f bit → difference (size - i) bit (address + i) w f ≡ difference (size - (i + 1)) (bit + 8) (address + (i + 1)) w f
 next_byte size i bit address w f less same =
     let count : size - i ≡ suc (size - (i + 1)) = omega (arith, less) in
     let next : address + i + 1 ≡ address + (i + 1) = omega arith in
     ap (λ (n : ℕ). difference n bit (address + i) w f) count ∙ same_byte (size - (i + 1)) bit (address + i) w f same ∙ ap (λ (a : ℕ). difference (size - (i + 1)) (bit + 8) a w f) next
 
-pub differs_here : (size i bit address w f : ℕ) → i < size → (byte_at w bit ≡ byte_at f bit → ⊥) → difference (size - i) bit (address + i) w f ≡ Some (record { address = address + i; wanted = byte_at w bit; found = byte_at f bit })
+pub differs_here : (size i bit address w f : ℕ) → i < size → (byte_from_bit w bit ≡ byte_from_bit f bit → ⊥) → difference (size - i) bit (address + i) w f ≡ Some (record { address = address + i; wanted = byte_from_bit w bit; found = byte_from_bit f bit })
 differs_here size i bit address w f less differs =
     let count : size - i ≡ suc (size - (i + 1)) = omega (arith, less) in
     ap (λ (n : ℕ). difference n bit (address + i) w f) count ∙ other_byte (size - (i + 1)) bit (address + i) w f differs

@@ -13,7 +13,7 @@ use Rattle.access_calls.specs.declared.stop.Stop.{Stop}
 use Rattle.access_calls.specs.declared.stop.Stop.TheVariants.{Cut, BenchFault, ReplyBad, OutOfMemory}
 use Rattle.access_calls.specs.declared.stop.StopCause.{StopCause}
 use Rattle.access_calls.specs.declared.stop.StopCause.TheVariants.{Faulted, NoAnswer}
-use Rattle.image_load.specs.Loading.{IsCutAt, read_back}
+use Rattle.image_load.specs.Loading.{StopsAtCut, read_back}
 use Rattle.image_load.specs.Pieces.{asked_all, first_difference, load_calls}
 use Rattle.image_load.specs.declared.piece.Difference.{Difference}
 use Rattle.image_load.specs.declared.piece.Piece.{Piece}
@@ -75,10 +75,10 @@ pub stop_none : (w : World) (mid now : List Ask) → now ≡ settled_last mid �
 stop_none w mid now is none = ap (stop w) is ∙ stop_marked w mid ∙ none
 
 -- a cut while the calls are asked
-pub cut_asking : (w : World) (calls old new : List Ask) (lines : ℕ) (s : Stop) → AtCut s (λ r. stop w new ≡ Some (lines + 1)) → AtCut s (λ r. IsCutAt r.cause w calls old new lines)
+pub cut_asking : (w : World) (calls old new : List Ask) (lines : ℕ) (s : Stop) → AtCut s (λ r. stop w new ≡ Some (lines + 1)) → AtCut s (λ r. StopsAtCut r.cause w calls old new lines)
 cut_asking w calls old new lines (Cut r) h = by_cause r.cause
   where
-    by_cause : (cause : StopCause) → IsCutAt cause w calls old new lines
+    by_cause : (cause : StopCause) → StopsAtCut cause w calls old new lines
     by_cause Faulted = h
     by_cause NoAnswer = inl h
 cut_asking w calls old new lines (BenchFault issued confirmed) h = tt
@@ -87,13 +87,13 @@ cut_asking w calls old new lines OutOfMemory h = tt
 
 -- a cut while all of them are settled
 pub cut_settling : (w : World) (calls old mid new : List Ask) (lines : ℕ) (s : Stop) → mid ≡ old ++ calls → new ≡ settled_last mid
-    → AtCut s (λ r. StopsOrSettles r.cause w mid lines) → AtCut s (λ r. IsCutAt r.cause w calls old new lines)
+    → AtCut s (λ r. StopsOrSettles r.cause w mid lines) → AtCut s (λ r. StopsAtCut r.cause w calls old new lines)
 cut_settling w calls old mid new lines (Cut r) mid_is is h = by_cause r.cause h
   where
     marked : stop w new ≡ stop w mid
     marked = ap (stop w) is ∙ stop_marked w mid
 
-    by_cause : (cause : StopCause) → StopsOrSettles cause w mid lines → IsCutAt cause w calls old new lines
+    by_cause : (cause : StopCause) → StopsOrSettles cause w mid lines → StopsAtCut cause w calls old new lines
     by_cause Faulted k = marked ∙ k
     by_cause NoAnswer (inl k) = inl (marked ∙ k)
     by_cause NoAnswer (inr k) = inr (record { asked = is ∙ ap settled_last mid_is; goes = marked ∙ k.0; count = k.1 ∙ sym (ap length is ∙ length_marked mid) })

@@ -4,7 +4,7 @@ use Rattle.std.proofs.lemmas.Nat.{and_assoc, and_block, and_comm, and_mask, and_
 use Rattle.std.specs.Int.{w32, bit_not}
 use Rattle.std.specs.Int.Bits.{and_zero_r}
 use Rattle.target_machine.specs.Memory.{merged}
-use Rattle.image_load.specs.Pieces.{byte_at}
+use Rattle.image_load.specs.Pieces.{byte_from_bit}
 use Rattle.target_calls.proofs.NeedLemmas.{none_last}
 
 -- ---- sums
@@ -90,30 +90,30 @@ by_lane P a b c d (suc (suc (suc zero))) lt = d
 by_lane P a b c d (suc (suc (suc (suc r)))) lt = absurd (omega (arith, lt))
 
 -- the byte that was replaced
-pub same_lane : (n b r : ℕ) → b < 256 → r < 4 → byte_at (replaced n b r) (8 * r) ≡ b
+pub same_lane : (n b r : ℕ) → b < 256 → r < 4 → byte_from_bit (replaced n b r) (8 * r) ≡ b
 same_lane n b r lt within =
-    by_lane (λ s. byte_at (replaced n b s) (8 * s) ≡ b)
-    (ap (λ (x : ℕ). byte_at x 0) (with_0 n b lt) ∙ omega (arith, lt))
-    (ap (λ (x : ℕ). byte_at x 8) (with_1 n b lt) ∙ omega (arith, lt))
-    (ap (λ (x : ℕ). byte_at x 16) (with_2 n b lt) ∙ omega (arith, lt))
-    (ap (λ (x : ℕ). byte_at x 24) (with_3 n b lt) ∙ omega (arith, lt))
+    by_lane (λ s. byte_from_bit (replaced n b s) (8 * s) ≡ b)
+    (ap (λ (x : ℕ). byte_from_bit x 0) (with_0 n b lt) ∙ omega (arith, lt))
+    (ap (λ (x : ℕ). byte_from_bit x 8) (with_1 n b lt) ∙ omega (arith, lt))
+    (ap (λ (x : ℕ). byte_from_bit x 16) (with_2 n b lt) ∙ omega (arith, lt))
+    (ap (λ (x : ℕ). byte_from_bit x 24) (with_3 n b lt) ∙ omega (arith, lt))
     r within
 
 differ : {A : Type 0} (n : ℕ) → (n ≢ n) → A
 differ n ne = absurd (ne refl)
 
 -- the others stay
-pub other_lane : (n b r s : ℕ) → b < 256 → r < 4 → s < 4 → r ≢ s → byte_at (replaced n b r) (8 * s) ≡ byte_at n (8 * s)
+pub other_lane : (n b r s : ℕ) → b < 256 → r < 4 → s < 4 → r ≢ s → byte_from_bit (replaced n b r) (8 * s) ≡ byte_from_bit n (8 * s)
 other_lane n b r s lt r_lt s_lt ne =
-    by_lane (λ r. r ≢ s → byte_at (replaced n b r) (8 * s) ≡ byte_at n (8 * s))
-    (λ ne. by_lane (λ s. 0 ≢ s → byte_at (replaced n b 0) (8 * s) ≡ byte_at n (8 * s)) (differ 0)
-    (λ e. ap (λ (x : ℕ). byte_at x 8) (with_0 n b lt) ∙ omega (arith, lt)) (λ e. ap (λ (x : ℕ). byte_at x 16) (with_0 n b lt) ∙ omega (arith, lt)) (λ e. ap (λ (x : ℕ). byte_at x 24) (with_0 n b lt) ∙ omega (arith, lt)) s s_lt ne)
-    (λ ne. by_lane (λ s. 1 ≢ s → byte_at (replaced n b 1) (8 * s) ≡ byte_at n (8 * s)) (λ e. ap (λ (x : ℕ). byte_at x 0) (with_1 n b lt) ∙ omega (arith, lt)) (differ 1)
-    (λ e. ap (λ (x : ℕ). byte_at x 16) (with_1 n b lt) ∙ omega (arith, lt)) (λ e. ap (λ (x : ℕ). byte_at x 24) (with_1 n b lt) ∙ omega (arith, lt)) s s_lt ne)
-    (λ ne. by_lane (λ s. 2 ≢ s → byte_at (replaced n b 2) (8 * s) ≡ byte_at n (8 * s)) (λ e. ap (λ (x : ℕ). byte_at x 0) (with_2 n b lt) ∙ omega (arith, lt)) (λ e. ap (λ (x : ℕ). byte_at x 8) (with_2 n b lt) ∙ omega (arith, lt))
-    (differ 2) (λ e. ap (λ (x : ℕ). byte_at x 24) (with_2 n b lt) ∙ omega (arith, lt)) s s_lt ne)
-    (λ ne. by_lane (λ s. 3 ≢ s → byte_at (replaced n b 3) (8 * s) ≡ byte_at n (8 * s)) (λ e. ap (λ (x : ℕ). byte_at x 0) (with_3 n b lt) ∙ omega (arith, lt)) (λ e. ap (λ (x : ℕ). byte_at x 8) (with_3 n b lt) ∙ omega (arith, lt))
-    (λ e. ap (λ (x : ℕ). byte_at x 16) (with_3 n b lt) ∙ omega (arith, lt)) (differ 3) s s_lt ne)
+    by_lane (λ r. r ≢ s → byte_from_bit (replaced n b r) (8 * s) ≡ byte_from_bit n (8 * s))
+    (λ ne. by_lane (λ s. 0 ≢ s → byte_from_bit (replaced n b 0) (8 * s) ≡ byte_from_bit n (8 * s)) (differ 0)
+    (λ e. ap (λ (x : ℕ). byte_from_bit x 8) (with_0 n b lt) ∙ omega (arith, lt)) (λ e. ap (λ (x : ℕ). byte_from_bit x 16) (with_0 n b lt) ∙ omega (arith, lt)) (λ e. ap (λ (x : ℕ). byte_from_bit x 24) (with_0 n b lt) ∙ omega (arith, lt)) s s_lt ne)
+    (λ ne. by_lane (λ s. 1 ≢ s → byte_from_bit (replaced n b 1) (8 * s) ≡ byte_from_bit n (8 * s)) (λ e. ap (λ (x : ℕ). byte_from_bit x 0) (with_1 n b lt) ∙ omega (arith, lt)) (differ 1)
+    (λ e. ap (λ (x : ℕ). byte_from_bit x 16) (with_1 n b lt) ∙ omega (arith, lt)) (λ e. ap (λ (x : ℕ). byte_from_bit x 24) (with_1 n b lt) ∙ omega (arith, lt)) s s_lt ne)
+    (λ ne. by_lane (λ s. 2 ≢ s → byte_from_bit (replaced n b 2) (8 * s) ≡ byte_from_bit n (8 * s)) (λ e. ap (λ (x : ℕ). byte_from_bit x 0) (with_2 n b lt) ∙ omega (arith, lt)) (λ e. ap (λ (x : ℕ). byte_from_bit x 8) (with_2 n b lt) ∙ omega (arith, lt))
+    (differ 2) (λ e. ap (λ (x : ℕ). byte_from_bit x 24) (with_2 n b lt) ∙ omega (arith, lt)) s s_lt ne)
+    (λ ne. by_lane (λ s. 3 ≢ s → byte_from_bit (replaced n b 3) (8 * s) ≡ byte_from_bit n (8 * s)) (λ e. ap (λ (x : ℕ). byte_from_bit x 0) (with_3 n b lt) ∙ omega (arith, lt)) (λ e. ap (λ (x : ℕ). byte_from_bit x 8) (with_3 n b lt) ∙ omega (arith, lt))
+    (λ e. ap (λ (x : ℕ). byte_from_bit x 16) (with_3 n b lt) ∙ omega (arith, lt)) (differ 3) s s_lt ne)
     r r_lt ne
 
 -- ---- a word
@@ -139,7 +139,7 @@ whole_word n v lt =
 -- ---- reads
 
 -- one byte that a read shows
-pub shown_byte : (v r : ℕ) → bit_and v ((2 ^ (8 * 1) - 1) * 2 ^ (8 * r)) / 2 ^ (8 * r) % 2 ^ (8 * 1) ≡ byte_at v (8 * r)
+pub shown_byte : (v r : ℕ) → bit_and v ((2 ^ (8 * 1) - 1) * 2 ^ (8 * r)) / 2 ^ (8 * r) % 2 ^ (8 * 1) ≡ byte_from_bit v (8 * r)
 shown_byte v r =
     ap (λ (x : ℕ). x % 2 ^ 8) (and_shr v (255 * 2 ^ (8 * r)) (8 * r) ∙ ap (bit_and (v / 2 ^ (8 * r))) (shl-shr 255 (8 * r)) ∙ and_mask (v / 2 ^ (8 * r)) 8)
     ∙ twice (v / 2 ^ (8 * r))
@@ -148,7 +148,7 @@ shown_byte v r =
     twice n = omega arith
 
 -- a word that a read shows, by its bytes
-pub shown_word : (v a b c d : ℕ) → byte_at v 0 ≡ a → byte_at v 8 ≡ b → byte_at v 16 ≡ c → byte_at v 24 ≡ d
+pub shown_word : (v a b c d : ℕ) → byte_from_bit v 0 ≡ a → byte_from_bit v 8 ≡ b → byte_from_bit v 16 ≡ c → byte_from_bit v 24 ≡ d
     → bit_and v ((2 ^ (8 * 4) - 1) * 2 ^ (8 * 0)) / 2 ^ (8 * 0) % 2 ^ (8 * 4) ≡ a + b * 2 ^ 8 + c * 2 ^ 16 + d * 2 ^ 24
 shown_word v a b c d ea eb ec ed =
     let low : bit_and v 0xFFFF_FFFF ≡ v % 2 ^ 32 = and_mask v 32 in

@@ -12,9 +12,9 @@ use Rattle.access_calls.specs.declared.stop.StopCause.{StopCause}
 use Rattle.access_calls.specs.declared.stop.StopCause.TheVariants.{Faulted, NoAnswer}
 use Rattle.sequels.specs.declared.close.Close.{Close}
 use Rattle.sequels.specs.declared.close.Close.TheVariants as close
-use Rattle.image_load.specs.Loading.{AskedPart, IsCutAt}
-use Rattle.image_load.specs.LoadSequel.{close_by, close_of}
-use Rattle.image_load.specs.Meets.{GivesAll, IsFrontOf, IsLoad, MeetsCut, MeetsSequel, StopsAt}
+use Rattle.image_load.specs.Loading.{AskedPart, StopsAtCut}
+use Rattle.image_load.specs.LoadSequel.{close_by, load_close}
+use Rattle.image_load.specs.Meets.{GivesAll, IsFrontOf, IsLoad, LoadStopsAt, MeetsCut, MeetsSequel}
 use Rattle.image_load.specs.Pieces.{load_calls, pieces}
 use Rattle.image_load.specs.declared.ends.LoadEnd.{LoadEnd}
 use Rattle.image_load.specs.declared.ends.LoadEnd.TheVariants as e
@@ -52,24 +52,24 @@ module _ (w : World) (ap' : ℕ) (image : Bytes) (old : List Ask) (whole : stop 
   goes : stop w (old ++ calls) ≡ None → stop u calls ≡ None
   goes h = none_later (length old) (stop u calls) (sym (append_stop w old calls whole) ∙ h)
 
-  gives : stop w (old ++ calls) ≡ None → GivesAll w ap' image old (close_of image (results u calls))
+  gives : stop w (old ++ calls) ≡ None → GivesAll w ap' image old (load_close image (results u calls))
   gives h = λ written.
       record {
         more = calls;
         lines = [];
         calls = refl;
         written = Appends-nil written;
-        ends = record { is = comes_whole u calls (close_of image) (goes h); goes = goes h };
+        ends = record { is = comes_whole u calls (load_close image) (goes h); goes = goes h };
       }
 
-  gives_as : (x : Close) → stop w (old ++ calls) ≡ None → close_of image (results u calls) ≡ x → GivesAll w ap' image old x
+  gives_as : (x : Close) → stop w (old ++ calls) ≡ None → load_close image (results u calls) ≡ x → GivesAll w ap' image old x
   gives_as x h same = subst (λ (c : Close). GivesAll w ap' image old c) same (gives h)
 
   marked_goes : (new : List Ask) → new ≡ settled_last (old ++ calls) → stop w new ≡ None → stop w (old ++ calls) ≡ None
   marked_goes new is none = sym (stop_marked w (old ++ calls)) ∙ ap (stop w) (sym is) ∙ none
 
   -- where one of them stops
-  stops : (lines : ℕ) → stop w (old ++ calls) ≡ Some (lines + 1) → StopsAt w ap' image old lines
+  stops : (lines : ℕ) → stop w (old ++ calls) ≡ Some (lines + 1) → LoadStopsAt w ap' image old lines
   stops lines h =
       let at = some_later (length old) (lines + 1) (stop u calls) (sym (append_stop w old calls whole) ∙ h) in
       record {
@@ -78,7 +78,7 @@ module _ (w : World) (ap' : ℕ) (image : Bytes) (old : List Ask) (whole : stop 
           lines = [];
           calls = ap (λ (n : ℕ). take n (old ++ calls)) (sym at.1.1) ∙ take_past old calls at.0;
           written = Appends-nil written;
-          is = comes_stopped u calls (close_of image) at.0 at.1.0;
+          is = comes_stopped u calls (load_close image) at.0 at.1.0;
         };
         within = count_within w (old ++ calls) (lines + 1) h;
       }
@@ -90,11 +90,11 @@ module _ (w : World) (ap' : ℕ) (image : Bytes) (old : List Ask) (whole : stop 
       ∙ stop_stays w (old ++ p.part) p.rest k (ap (stop w) (sym p.asked) ∙ h)
   stops_all new k (inr is) h = sym (stop_marked w (old ++ calls)) ∙ ap (stop w) (sym is) ∙ h
 
-  cut : (cause : StopCause) (new : List Ask) (lines : ℕ) → AskedPart calls old new ⊎ (new ≡ settled_last (old ++ calls)) → IsCutAt cause w calls old new lines → MeetsCut cause w ap' image old lines
+  cut : (cause : StopCause) (new : List Ask) (lines : ℕ) → AskedPart calls old new ⊎ (new ≡ settled_last (old ++ calls)) → StopsAtCut cause w calls old new lines → MeetsCut cause w ap' image old lines
   cut Faulted new lines asked h = stops lines (stops_all new (lines + 1) asked h)
   cut NoAnswer new lines asked (inl h) = inl (stops lines (stops_all new (lines + 1) asked h))
   cut NoAnswer new lines asked (inr h) = inr (record {
-    end = close_of image (results u calls);
+    end = load_close image (results u calls);
     gives = gives (marked_goes new h.asked h.goes);
     count = h.count ∙ ap length h.asked ∙ length_marked (old ++ calls);
   })
@@ -103,8 +103,8 @@ module _ (w : World) (ap' : ℕ) (image : Bytes) (old : List Ask) (whole : stop 
   front = by_stop (stop u calls) refl
     where
       by_stop : (at : Option ℕ) → stop u calls ≡ at → IsFrontOf w ap' image old
-      by_stop None h = (let is = comes_whole u calls (close_of image) h in record { rest = []; calls = rw is (sym (append-nil calls)); written = rw is refl })
-      by_stop (Some k) h = (let is = comes_stopped u calls (close_of image) k h in record { rest = drop k calls; calls = rw is (take_drop k calls); written = rw is refl })
+      by_stop None h = (let is = comes_whole u calls (load_close image) h in record { rest = []; calls = rw is (sym (append-nil calls)); written = rw is refl })
+      by_stop (Some k) h = (let is = comes_stopped u calls (load_close image) k h in record { rest = drop k calls; calls = rw is (take_drop k calls); written = rw is refl })
 
   counted : (l : Loaded) → (l.bytes ≡ length image) × (l.writes ≡ length (pieces image)) → close.Loaded (length image) (length (pieces image)) ≡ close.Loaded l.bytes l.writes
   counted l h = rw (h.0, h.1) refl

@@ -13,8 +13,8 @@ use Rattle.hex_image.specs.Image.{Bytes, FaultAt, Reading, at_start, by_type, im
 use Rattle.hex_image.specs.Records.{Line, address_of, content_of, count_of, data_of, decoded, lines_of, of_its_length, record_of, type_of, word_of}
 use Rattle.hex_image.specs.declared.fault.ImageKind.{ImageKind}
 use Rattle.hex_image.specs.declared.fault.ImageKind.TheVariants as kind
-use Rattle.image_load.specs.Laid.{IsRising}
-use Rattle.image_load.specs.Rising.{IsInRange}
+use Rattle.image_load.specs.Laid.{HasRisingAddresses}
+use Rattle.image_load.specs.Rising.{ImageIsInRange}
 
 -- ---- one byte more
 
@@ -32,12 +32,12 @@ insert_above a k v (e ∷ es) less h = by_order (nat_cmp k e.0) (insert_above a 
     by_order Equal on = (h.0, h.1)
     by_order Greater on = (h.0, on)
 
-insert_rising : (k v : ℕ) (es : Bytes) → IsRising es → IsRising (insert_entry nat_cmp es k v)
+insert_rising : (k v : ℕ) (es : Bytes) → HasRisingAddresses es → HasRisingAddresses (insert_entry nat_cmp es k v)
 insert_rising k v [] h = (tt, tt)
 insert_rising k v (e ∷ es) h = by_less (nat_lt k e.0) refl (eqb k e.0) refl (insert_rising k v es h.1)
   where
-    by_less : (b : Bool) → nat_lt k e.0 ≡ b → (c : Bool) → eqb k e.0 ≡ c → IsRising (insert_entry nat_cmp es k v)
-        → IsRising (match_ordering (cond b Less (cond c Equal Greater)) ((k, v) ∷ e ∷ es) ((e.0, v) ∷ es) (e ∷ insert_entry nat_cmp es k v))
+    by_less : (b : Bool) → nat_lt k e.0 ≡ b → (c : Bool) → eqb k e.0 ≡ c → HasRisingAddresses (insert_entry nat_cmp es k v)
+        → HasRisingAddresses (match_ordering (cond b Less (cond c Equal Greater)) ((k, v) ∷ e ∷ es) ((e.0, v) ∷ es) (e ∷ insert_entry nat_cmp es k v))
     by_less true less c same on = (let first = ltb-true k e.0 less in ((first, above_less k e.0 es first h.0), h))
     by_less false less true same on = (h.0, h.1)
     by_less false less false same on =
@@ -58,7 +58,7 @@ insert_fits k v (e ∷ es) low byte h = by_order (nat_cmp k e.0) (insert_fits k 
 
 -- ---- data
 
-placed_rising : (address : ℕ) (bytes : List ℕ) (es : Bytes) → IsRising es → IsRising (placed address bytes es)
+placed_rising : (address : ℕ) (bytes : List ℕ) (es : Bytes) → HasRisingAddresses es → HasRisingAddresses (placed address bytes es)
 placed_rising address [] es h = h
 placed_rising address (b ∷ bytes) es h = placed_rising (address + 1) bytes (insert_entry nat_cmp es address b) (insert_rising address b es h)
 
@@ -90,7 +90,7 @@ take_short (suc n) (x ∷ xs) = (let rest = take_short n xs in omega (arith, res
 -- ---- a reading
 
 record IsSound (r : Reading) : Type 0 where
-  image : IsInRange r.image
+  image : ImageIsInRange r.image
   base : r.base ≤ 0xFFFF_0000
 
 by_test : (b : Bool) (x y : Result Reading ImageKind) → (b ≡ true → IfOk x IsSound) → IfOk y IsSound → IfOk (cond b x y) IsSound
@@ -171,22 +171,22 @@ line_sound r (c ∷ rest) h = by_either r.is_ended (Err kind.AfterEnd) (with_rec
 
 -- ---- the text
 
-read_sound : (ps : List Line) (r : Reading) (lines : ℕ) (found : Bytes) → IsSound r → read_on r lines ps ≡ Ok found → IsInRange found
+read_sound : (ps : List Line) (r : Reading) (lines : ℕ) (found : Bytes) → IsSound r → read_on r lines ps ≡ Ok found → ImageIsInRange found
 read_sound [] r lines found h e = by_end r.is_ended e
   where
     none : FaultAt
     none = record { kind = kind.NoEnd; line = lines }
 
-    by_end : (b : Bool) → cond b (Ok r.image) (Err none) ≡ Ok found → IsInRange found
-    by_end true e = (let same : r.image ≡ found = cc in subst IsInRange same h.image)
+    by_end : (b : Bool) → cond b (Ok r.image) (Err none) ≡ Ok found → ImageIsInRange found
+    by_end true e = (let same : r.image ≡ found = cc in subst ImageIsInRange same h.image)
     by_end false e = absurd cc
 read_sound (p ∷ ps) r lines found h e = by_line (with_line r (content_of p)) (line_sound r (content_of p) h) (λ next sound on. read_sound ps next (lines + 1) found sound on) e
   where
-    by_line : (o : Result Reading ImageKind) → IfOk o IsSound → ((next : Reading) → IsSound next → read_on next (lines + 1) ps ≡ Ok found → IsInRange found)
-        → line_then o (λ next. read_on next (lines + 1) ps) (lines + 1) ≡ Ok found → IsInRange found
+    by_line : (o : Result Reading ImageKind) → IfOk o IsSound → ((next : Reading) → IsSound next → read_on next (lines + 1) ps ≡ Ok found → ImageIsInRange found)
+        → line_then o (λ next. read_on next (lines + 1) ps) (lines + 1) ≡ Ok found → ImageIsInRange found
     by_line (Ok next) sound on e = on next sound e
     by_line (Err k) sound on e = absurd cc
 
-pub image_in_range : (text : List ℕ) (found : Bytes) → image text ≡ Ok found → IsInRange found
+pub image_in_range : (text : List ℕ) (found : Bytes) → image text ≡ Ok found → ImageIsInRange found
 image_in_range text found e =
     read_sound (lines_of text) at_start 0 found (record { image = record { rising = tt; fits = tt; few = omega arith }; base = omega arith }) e

@@ -6,7 +6,7 @@ use Rattle.target_calls.specs.declared.calls.Ask.{Ask}
 use Rattle.access_calls.specs.Answers.{StopsCalls}
 use Rattle.access_calls.specs.Asking.{EndsAsking, MayAsk}
 use Rattle.access_calls.specs.CallEnds.{InEachWorld}
-use Rattle.access_calls.specs.Keeps.{Keeps}
+use Rattle.access_calls.specs.Keeps.{KeepsAccess}
 use Rattle.access_calls.specs.Reported.{AccessView}
 use Rattle.access_calls.specs.declared.stop.Stop.{Stop}
 use Rattle.image_load.specs.Loading.{AskedPart, LoadEndIs}
@@ -29,7 +29,7 @@ pub record EndsPart {S T : Type 0} (begun : S → BenchState → Type 0) (report
 pub record EndsLoad {S T : Type 0} (begun : S → BenchState → Type 0) (reported : S → AccessView) (identity : S → ℕ) (result : Result T LoadEnd)
     (old new : S) : Type 0 where
   pub end : LoadEndIs result (reported new).end
-  pub keeps : Keeps begun reported identity old new
+  pub keeps : KeepsAccess begun reported identity old new
 
 -- The pieces may be loaded: each is in order, they are at most 262,144, and the first call may be asked.
 pub record MayLoadPieces (pieces : List Piece) (a : AccessView) : Type 0 where

@@ -29,9 +29,9 @@ laid m image = fold with_byte m image
 -- ---- a load
 
 -- Each address is above those before it.
-abbrev pub IsRising : Bytes → Type 0
-IsRising [] = ⊤
-IsRising (b ∷ rest) = AllByRecursion (λ d. b.0 < d.0) rest × IsRising rest
+abbrev pub HasRisingAddresses : Bytes → Type 0
+HasRisingAddresses [] = ⊤
+HasRisingAddresses (b ∷ rest) = AllByRecursion (λ d. b.0 < d.0) rest × HasRisingAddresses rest
 
 -- A byte may be written: its word is there, and is not read-only.
 pub record MayLoad (m : Memory) (b : ℕ × ℕ) : Type 0 where
@@ -48,7 +48,7 @@ pub record CanLoad (w : World) (ap : ℕ) (image : Bytes) : Type 0 where
   pub port : ap < 2 ^ 8
   pub aim : can_aim w.target ap ≡ true
   pub narrow : (contains w.large ap ≡ true) ⊎ ((p : ApState) → map.get w.target.aps ap ≡ Some p → above p ≡ 0)
-  pub rising : IsRising image
+  pub rising : HasRisingAddresses image
   pub bytes : AllByRecursion (MayLoad w.target.words) image
 
 -- The load lays the image over the memory. None of its calls stops, and no byte differs. The words are the old ones with the image over them.

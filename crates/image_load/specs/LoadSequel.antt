@@ -19,9 +19,9 @@ close_by bytes writes None = Loaded bytes writes
 close_by bytes writes (Some d) = Differs d.address d.wanted d.found
 
 -- The end of the load of an image, by the results of its writes and then of its reads.
-abbrev pub close_of : Bytes → List ℕ → Close
-close_of image found = close_by (length image) (length (pieces image)) (first_difference (pieces image) (λ i. slice_index found (length (pieces image) + i)))
+abbrev pub load_close : Bytes → List ℕ → Close
+load_close image found = close_by (length image) (length (pieces image)) (first_difference (pieces image) (λ i. slice_index found (length (pieces image) + i)))
 
 -- The load of an image through an access port.
-abbrev pub loaded : ℕ → Bytes → Sequel Close
-loaded ap image = asks_each (load_calls ap (pieces image)) (λ found. Ends (close_of image found))
+abbrev pub load_sequel : ℕ → Bytes → Sequel Close
+load_sequel ap image = asks_each (load_calls ap (pieces image)) (λ found. Ends (load_close image found))

@@ -4,7 +4,7 @@ use Rattle.target_calls.specs.Asks.{settled_last}
 use Rattle.target_calls.specs.World.{World, results, stop, world_after}
 use Rattle.target_calls.specs.declared.calls.Ask.{Ask}
 use Rattle.access_calls.specs.Answers.{AtCut}
-use Rattle.access_calls.specs.Asking.{EndsBy}
+use Rattle.access_calls.specs.Asking.{EndsByStop}
 use Rattle.access_calls.specs.declared.stop.Stop.{Stop}
 use Rattle.access_calls.specs.declared.stop.StopCause.{StopCause}
 use Rattle.access_calls.specs.declared.stop.StopCause.TheVariants.{Faulted, NoAnswer}
@@ -54,15 +54,15 @@ pub record EndsSettling (w : World) (calls old new : List Ask) (lines : ℕ) : T
   pub count : lines ≡ length new
 
 -- At a cut the calls stop right after those whose lines come before it. Only a retry can end in the settling after all of them.
-abbrev pub IsCutAt : StopCause → World → List Ask → List Ask → List Ask → ℕ → Type 0
-IsCutAt Faulted w calls old new lines = stop w new ≡ Some (lines + 1)
-IsCutAt NoAnswer w calls old new lines = (stop w new ≡ Some (lines + 1)) ⊎ EndsSettling w calls old new lines
+abbrev pub StopsAtCut : StopCause → World → List Ask → List Ask → List Ask → ℕ → Type 0
+StopsAtCut Faulted w calls old new lines = stop w new ≡ Some (lines + 1)
+StopsAtCut NoAnswer w calls old new lines = (stop w new ≡ Some (lines + 1)) ⊎ EndsSettling w calls old new lines
 
 -- No call stops, except where the access was cut.
 abbrev pub StopsLoad : {A : Type 0} → World → Result A LoadEnd → List Ask → List Ask → List Ask → ℕ → Type 0
 StopsLoad w (Ok x) calls old new lines = stop w new ≡ None
 StopsLoad w (Err (e.Differs address wanted found)) calls old new lines = stop w new ≡ None
-StopsLoad w (Err (e.Stop s)) calls old new lines = AtCut s (λ r. IsCutAt r.cause w calls old new lines)
+StopsLoad w (Err (e.Stop s)) calls old new lines = AtCut s (λ r. StopsAtCut r.cause w calls old new lines)
 
 -- ---- the access after it
 
@@ -70,4 +70,4 @@ StopsLoad w (Err (e.Stop s)) calls old new lines = AtCut s (λ r. IsCutAt r.caus
 abbrev pub LoadEndIs : {A : Type 0} → Result A LoadEnd → Option Stop → Type 0
 LoadEndIs (Ok x) end = end ≡ None
 LoadEndIs (Err (e.Differs address wanted found)) end = end ≡ None
-LoadEndIs (Err (e.Stop s)) end = EndsBy s end
+LoadEndIs (Err (e.Stop s)) end = EndsByStop s end

@@ -11,7 +11,7 @@ use Rattle.sequels.specs.Sequel.{comes}
 use Rattle.sequels.specs.declared.close.Close.{Close}
 use Rattle.sequels.specs.declared.close.Close.TheVariants as close
 use Rattle.image_load.specs.Loading.{AsksLoad, ReadsBack, StopsLoad}
-use Rattle.image_load.specs.LoadSequel.{loaded}
+use Rattle.image_load.specs.LoadSequel.{load_sequel}
 use Rattle.image_load.specs.Pieces.{load_calls, pieces}
 use Rattle.image_load.specs.declared.ends.LoadEnd.{LoadEnd}
 use Rattle.image_load.specs.declared.ends.LoadEnd.TheVariants as e
@@ -26,11 +26,11 @@ pub record IsLoad (w : World) (ap : ℕ) (image : Bytes) (result : Result Loaded
 
 -- The sequel comes to this end, with all calls of the load after the old ones and no line.
 abbrev pub GivesAll : World → ℕ → Bytes → List Ask → Close → Type 0
-GivesAll w ap image old end = (written : Option (List ℕ)) → Gave w (loaded ap image) old (old ++ load_calls ap (pieces image)) written written end
+GivesAll w ap image old end = (written : Option (List ℕ)) → Gave w (load_sequel ap image) old (old ++ load_calls ap (pieces image)) written written end
 
 -- The calls of the sequel stop at the one after so many calls, the old ones among them.
-pub record StopsAt (w : World) (ap : ℕ) (image : Bytes) (old : List Ask) (lines : ℕ) : Type 0 where
-  pub cut : (written : Option (List ℕ)) → CutOff w (loaded ap image) old (take (lines + 1) (old ++ load_calls ap (pieces image))) written written
+pub record LoadStopsAt (w : World) (ap : ℕ) (image : Bytes) (old : List Ask) (lines : ℕ) : Type 0 where
+  pub cut : (written : Option (List ℕ)) → CutOff w (load_sequel ap image) old (take (lines + 1) (old ++ load_calls ap (pieces image))) written written
   pub within : lines + 1 ≤ length (old ++ load_calls ap (pieces image))
 
 -- The sequel comes to its end with so many calls, the old ones among them.
@@ -41,14 +41,14 @@ pub record EndsAfter (w : World) (ap : ℕ) (image : Bytes) (old : List Ask) (li
 
 -- Where a load was cut, the sequel stops at the call after those whose lines come before the cut. Only a retry can end after all of them.
 abbrev pub MeetsCut : StopCause → World → ℕ → Bytes → List Ask → ℕ → Type 0
-MeetsCut Faulted w ap image old lines = StopsAt w ap image old lines
-MeetsCut NoAnswer w ap image old lines = StopsAt w ap image old lines ⊎ EndsAfter w ap image old lines
+MeetsCut Faulted w ap image old lines = LoadStopsAt w ap image old lines
+MeetsCut NoAnswer w ap image old lines = LoadStopsAt w ap image old lines ⊎ EndsAfter w ap image old lines
 
 -- The calls of the sequel come first among those of the load, and it writes nothing.
 pub record IsFrontOf (w : World) (ap : ℕ) (image : Bytes) (old : List Ask) : Type 0 where
   pub rest : List Ask
-  pub calls : load_calls ap (pieces image) ≡ (comes (world_after w old) (loaded ap image)).calls ++ rest
-  pub written : (comes (world_after w old) (loaded ap image)).written ≡ []
+  pub calls : load_calls ap (pieces image) ≡ (comes (world_after w old) (load_sequel ap image)).calls ++ rest
+  pub written : (comes (world_after w old) (load_sequel ap image)).written ≡ []
 
 -- What a load answered is what its sequel comes to, after the old calls.
 abbrev pub MeetsSequel : World → ℕ → Bytes → Result Loaded LoadEnd → List Ask → ℕ → Type 0

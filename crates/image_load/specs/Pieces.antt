@@ -19,8 +19,8 @@ abbrev pub word_piece : ℕ → ℕ → ℕ → ℕ → ℕ → Piece
 word_piece address a b c d = record { size = 4; address = address; value = a + b * 2 ^ 8 + c * 2 ^ 16 + d * 2 ^ 24 }
 
 -- Four addresses are those of a word: the first is a multiple of 4, and the others follow it.
-abbrev pub is_word : ℕ → ℕ → ℕ → ℕ → Bool
-is_word a b c d = (a % 4 == 0) && ((b == a + 1) && ((c == a + 2) && (d == a + 3)))
+abbrev pub are_word_addresses : ℕ → ℕ → ℕ → ℕ → Bool
+are_word_addresses a b c d = (a % 4 == 0) && ((b == a + 1) && ((c == a + 2) && (d == a + 3)))
 
 -- An image in rising order: a word for each word whose four bytes are in it, and a byte for each other byte.
 abbrev pub pieces : Bytes → List Piece
@@ -29,15 +29,15 @@ pieces (a ∷ []) = byte_piece a ∷ []
 pieces (a ∷ b ∷ []) = byte_piece a ∷ byte_piece b ∷ []
 pieces (a ∷ b ∷ c ∷ []) = byte_piece a ∷ byte_piece b ∷ byte_piece c ∷ []
 pieces (a ∷ b ∷ c ∷ d ∷ rest) =
-    if is_word a.0 b.0 c.0 d.0 then word_piece a.0 a.1 b.1 c.1 d.1 ∷ pieces rest else byte_piece a ∷ pieces (b ∷ c ∷ d ∷ rest)
+    if are_word_addresses a.0 b.0 c.0 d.0 then word_piece a.0 a.1 b.1 c.1 d.1 ∷ pieces rest else byte_piece a ∷ pieces (b ∷ c ∷ d ∷ rest)
 
 -- The word with which bytes begin, where their first four are those of a word.
-abbrev pub word_at : Bytes → Option Piece
-word_at [] = None
-word_at (a ∷ []) = None
-word_at (a ∷ b ∷ []) = None
-word_at (a ∷ b ∷ c ∷ []) = None
-word_at (a ∷ b ∷ c ∷ d ∷ rest) = if is_word a.0 b.0 c.0 d.0 then Some (word_piece a.0 a.1 b.1 c.1 d.1) else None
+abbrev pub leading_word : Bytes → Option Piece
+leading_word [] = None
+leading_word (a ∷ []) = None
+leading_word (a ∷ b ∷ []) = None
+leading_word (a ∷ b ∷ c ∷ []) = None
+leading_word (a ∷ b ∷ c ∷ d ∷ rest) = if are_word_addresses a.0 b.0 c.0 d.0 then Some (word_piece a.0 a.1 b.1 c.1 d.1) else None
 
 -- A piece may be written: it is a word or a byte at a multiple of its size, below 2^32, and its value fits.
 pub record IsPiece (p : Piece) : Type 0 where
@@ -71,15 +71,15 @@ load_calls ap ps = asked_all false ap ps ++ asked_all true ap ps
 -- ---- differences
 
 -- The byte of a number that begins at a bit.
-abbrev pub byte_at : ℕ → ℕ → ℕ
-byte_at n bit = n / 2 ^ bit % 2 ^ 8
+abbrev pub byte_from_bit : ℕ → ℕ → ℕ
+byte_from_bit n bit = n / 2 ^ bit % 2 ^ 8
 
 -- The first byte in which two numbers of so many bytes differ. The first byte begins at this bit and stands at this address.
 abbrev pub difference : ℕ → ℕ → ℕ → ℕ → ℕ → Option Difference
 difference zero bit address wanted found = None
 difference (suc n) bit address wanted found =
-    if byte_at wanted bit == byte_at found bit then difference n (bit + 8) (address + 1) wanted found
-    else Some (record { address = address; wanted = byte_at wanted bit; found = byte_at found bit })
+    if byte_from_bit wanted bit == byte_from_bit found bit then difference n (bit + 8) (address + 1) wanted found
+    else Some (record { address = address; wanted = byte_from_bit wanted bit; found = byte_from_bit found bit })
 
 -- The first of two differences, where there is one.
 abbrev pub first_of : Option Difference → Option Difference → Option Difference

@@ -1,13 +1,13 @@
 //! What was read back, against what was written.
 ghost use Rattle.std.specs.Prelude.{◌≡◌, ◌+◌, ◌≤◌, ◌^◌, ◌<◌};
-ghost use Rattle.image_load.specs.Pieces.{byte_at, difference};
+ghost use Rattle.image_load.specs.Pieces.{byte_from_bit, difference};
 
 use crate::piece::{Difference, Piece};
 
 // The byte of a number that begins at a bit.
 fn byte_at(number: u32, bit: u32) -> u8
     requires { bit < 32 }
-    ensures { result ≡ byte_at number bit }
+    ensures { result ≡ byte_from_bit number bit }
 {
     ((number >> bit) % 256) as u8
 }

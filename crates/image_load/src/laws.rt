@@ -6,7 +6,7 @@ ghost use Rattle.target_calls.specs.declared.calls.Ask.{Ask};
 ghost use Rattle.image_load.specs.Laid.{CanLoad, Laid};
 ghost use Rattle.image_load.specs.Meets.{IsLoad, MeetsSequel};
 ghost use Rattle.image_load.specs.Pieces.{first_difference, pieces};
-ghost use Rattle.image_load.specs.Rising.{IsInRange};
+ghost use Rattle.image_load.specs.Rising.{ImageIsInRange};
 ghost use Rattle.image_load.specs.declared.ends.LoadEnd.{LoadEnd};
 ghost use Rattle.image_load.specs.declared.ends.Loaded.{Loaded};
 
@@ -36,5 +36,5 @@ pub fn worked_images()
 
 /// The image of a text of Intel HEX records has rising addresses below 2^32, and at most 262,144 bytes.
 pub fn images_of_texts_rise()
-    ensures { (text : List ℕ) (bytes : Bytes) → image text ≡ Ok bytes → IsInRange bytes }
+    ensures { (text : List ℕ) (bytes : Bytes) → image text ≡ Ok bytes → ImageIsInRange bytes }
 {}

@@ -5,7 +5,7 @@ ghost use Rattle.target_calls.specs.Asks.{unit_ask};
 ghost use Rattle.target_calls.specs.World.{results};
 ghost use Rattle.access_calls.specs.Asking.{IsSoundNarrow, MayAsk, MayAskMore};
 ghost use Rattle.access_calls.specs.CallEnds.{InEachWorld};
-ghost use Rattle.access_calls.specs.Keeps.{Keeps};
+ghost use Rattle.access_calls.specs.Keeps.{KeepsAccess};
 ghost use Rattle.image_load.specs.Frame.{AsksCalls, EndsLoad, EndsPart, MayLoadPieces};
 ghost use Rattle.image_load.specs.Loading.{AsksLoad, ReadsBack, StopsLoad};
 ghost use Rattle.image_load.specs.Pieces.{IsPiece, asked_all, first_difference, load_calls, piece_ask, pieces};
@@ -85,7 +85,7 @@ fn compare_all<A: Access>(pieces: &[Piece], first: u32, access: &mut A) -> Optio
         ≡ first_difference pieces.now (λ i. slice_index (results w (A.reported access.old).asks.calls) (first + i))) }
     ensures calls { (A.reported access.new).asks.calls ≡ (A.reported access.old).asks.calls }
     ensures open { (A.reported access.new).end ≡ None }
-    ensures keeps { Keeps A.begun A.reported A.identity access.old access.new }
+    ensures keeps { KeepsAccess A.begun A.reported A.identity access.old access.new }
 {
     for i in 0..pieces.len() {
         let slot = Slot {

@@ -1,7 +1,7 @@
 //! The words and bytes in which an image is written.
 ghost use Rattle.std.specs.Prelude.{◌≡◌, ◌≤◌, IfOk, IfSome, length};
 ghost use Rattle.std.specs.List.{All};
-ghost use Rattle.image_load.specs.Pieces.{IsPiece, byte_piece, pieces, word_at};
+ghost use Rattle.image_load.specs.Pieces.{IsPiece, byte_piece, leading_word, pieces};
 
 use hex_image::Image;
 use std::alloc::{AllocError, Global};
@@ -39,7 +39,7 @@ fn byte_piece(byte: (u32, u8)) -> Piece
 
 // The word with which bytes begin, where their first four are those of a word.
 fn word_at(bytes: &[(u32, u8)]) -> Option<Piece>
-    ensures answer { result ≡ word_at bytes.now }
+    ensures answer { result ≡ leading_word bytes.now }
     ensures sound { IfSome result IsPiece }
 {
     match bytes {

@@ -12,20 +12,20 @@ use Rattle.job_check.specs.declared.answer.ValidSet.{ValidSet}
 use Rattle.job_check.specs.declared.answer.CheckRefusal.{CheckRefusal}
 use Rattle.job_check.specs.declared.answer.CheckRefusal.TheVariants as ends
 use Rattle.dbgconf_text.specs.declared.conf.ConfItem.{ConfItem}
-use Rattle.job_check.specs.Values.{HasConf, NoConf, HasValues, NoValues}
-use Rattle.job_check.specs.Answers.{OnAnswer, OnRefusal, NoJob, NoSet, NoValid, AreTreesOf, valid, not_valid, with_values, without_values, resolved, not_resolved, IsAnswerOf, has_conf, no_conf, IsAnswer, described, not_described}
+use Rattle.job_check.specs.Values.{HasConf, NoConf, HasStartingValues, NoValues}
+use Rattle.job_check.specs.Answers.{OnAnswer, OnRefusal, NoJob, NoSet, NoValid, AreTreesOf, valid, not_valid, with_values, without_values, resolved, not_resolved, IsAnswerOf, has_conf, no_conf, IsCheckAnswer, described, not_described}
 
 abbrev Ended : Type 0
 Ended = Result ValidSet CheckRefusal
 
 -- the bytes are no job
-pub without_job : (bytes : List ℕ) (s : Selection) (e : CheckRefusal) (r : Ended) → OnRefusal (NoJob bytes) e → IsErrAnd r (λ f. f ≡ e) → OnAnswer (IsAnswer bytes s) r
+pub without_job : (bytes : List ℕ) (s : Selection) (e : CheckRefusal) (r : Ended) → OnRefusal (NoJob bytes) e → IsErrAnd r (λ f. f ≡ e) → OnAnswer (IsCheckAnswer bytes s) r
 without_job bytes s e (Ok found) h given = absurd given
 without_job bytes s (ends.Refused r) (Err f) h given = rw given (not_described r h refl)
 without_job bytes s ends.OutOfMemory (Err f) h given = rw given tt
 
 -- the job has an answer
-pub with_job : (bytes : List ℕ) (s : Selection) (job : Job) (r : Ended) → Describes bytes job → OnAnswer (IsAnswerOf job s) r → OnAnswer (IsAnswer bytes s) r
+pub with_job : (bytes : List ℕ) (s : Selection) (job : Job) (r : Ended) → Describes bytes job → OnAnswer (IsAnswerOf job s) r → OnAnswer (IsCheckAnswer bytes s) r
 with_job bytes s job (Ok found) is answer = described job is answer
 with_job bytes s job (Err (ends.Refused r)) is answer = described job is answer
 with_job bytes s job (Err ends.OutOfMemory) is answer = tt
@@ -52,7 +52,7 @@ module _ (job : Job) (s : Selection) where
       unreplaced ends.OutOfMemory (Err f) h given = rw given tt
 
       -- the set was checked
-      pub with_set : (set : SeqSet) (r : Ended) → HasValues job.dbgconf items plain set → IfOk r (λ v. v.set ≡ set) → IfOk r (λ v. AreTreesOf v.set v.trees) → IfErr r (OnRefusal (NoValid set)) → OnAnswer (IsAnswerOf job s) r
+      pub with_set : (set : SeqSet) (r : Ended) → HasStartingValues job.dbgconf items plain set → IfOk r (λ v. v.set ≡ set) → IfOk r (λ v. AreTreesOf v.set v.trees) → IfErr r (OnRefusal (NoValid set)) → OnAnswer (IsAnswerOf job s) r
       with_set set (Ok v) is same trees none =
           let sound : IsValid v.set = record { trees = checked_trees v.trees; reads = trees.reads; sound = trees.sound } in
           has_conf items has (resolved plain at (with_values set is (valid (subst IsValid same sound) (ap Ok same))))

@@ -22,7 +22,7 @@ use Rattle.job_check.specs.declared.answer.ValidSet.{ValidSet}
 use Rattle.job_check.specs.declared.answer.CheckRefusal.{CheckRefusal}
 use Rattle.job_check.specs.declared.answer.CheckRefusal.TheVariants as ends
 use Rattle.dbgconf_text.specs.declared.conf.ConfItem.{ConfItem}
-use Rattle.job_check.specs.Answers.{NoJob, NoSet, NoValid, AnswersSet, valid, not_valid, AnswersPlain, with_values, without_values, AnswersConf, resolved, not_resolved, IsAnswerOf, has_conf, no_conf, IsAnswer, described, not_described, OnAnswer, AnswersAs}
+use Rattle.job_check.specs.Answers.{NoJob, NoSet, NoValid, AnswersCheckedSet, valid, not_valid, AnswersPlain, with_values, without_values, AnswersConf, resolved, not_resolved, IsAnswerOf, has_conf, no_conf, IsCheckAnswer, described, not_described, OnAnswer, AnswersAs}
 use Rattle.job_check.proofs.OneValues.{one_conf, conf_and_none, one_no_conf, one_with_values, values_and_none, one_no_values}
 
 abbrev Answer : Type 0
@@ -59,7 +59,7 @@ one_not_valid s refusals.NoDevice b p q = absurd p
 one_not_valid s refusals.AmbiguousDevice b p q = absurd p
 one_not_valid s refusals.NoVariant b p q = absurd p
 
-of_set : (s : SeqSet) (x y : Answer) → AnswersSet s x → AnswersSet s y → x ≡ y
+of_set : (s : SeqSet) (x y : Answer) → AnswersCheckedSet s x → AnswersCheckedSet s y → x ≡ y
 of_set s x y p q = elim p [
   | valid is x_is ↦ elim q [ valid too y_is ↦ x_is ∙ sym y_is | not_valid r none y_is ↦ absurd (valid_and_not s r is none) ]
   | not_valid r none x_is ↦ elim q [ valid is y_is ↦ absurd (valid_and_not s r is none) | not_valid other too y_is ↦ x_is ∙ ap Err (one_not_valid s r other none too) ∙ sym y_is ]
@@ -166,8 +166,8 @@ one_no_job bytes (refusals.Check kind spot) b p q = absurd p
 
 -- ---- the set with the values
 
-of_sets : (x y : Answer) (a b : SeqSet) → a ≡ b → AnswersSet a x → AnswersSet b y → x ≡ y
-of_sets x y a b same p q = of_set a x y p (subst (λ (c : SeqSet). AnswersSet c y) (sym same) q)
+of_sets : (x y : Answer) (a b : SeqSet) → a ≡ b → AnswersCheckedSet a x → AnswersCheckedSet b y → x ≡ y
+of_sets x y a b same p q = of_set a x y p (subst (λ (c : SeqSet). AnswersCheckedSet c y) (sym same) q)
 
 module _ (dbgconf : Option (List ℕ)) (items : List ConfItem) (plain : SeqSet) where
   of_plain : (x y : Answer) → AnswersPlain dbgconf items plain x → AnswersPlain dbgconf items plain y → x ≡ y
@@ -213,7 +213,7 @@ module _ (job : Job) (s : Selection) where
 of_jobs : (bytes : List ℕ) (s : Selection) (x y : Answer) (a b : Job) → Describes bytes a → Describes bytes b → IsAnswerOf a s x → IsAnswerOf b s y → x ≡ y
 of_jobs bytes s x y a b is_a is_b p q = one_answer_of a s x y p (subst (λ (j : Job). IsAnswerOf j s y) (one_job bytes b a is_b is_a) q)
 
-pub one_answer : (bytes : List ℕ) (s : Selection) (x y : Answer) → IsAnswer bytes s x → IsAnswer bytes s y → x ≡ y
+pub one_answer : (bytes : List ℕ) (s : Selection) (x y : Answer) → IsCheckAnswer bytes s x → IsCheckAnswer bytes s y → x ≡ y
 one_answer bytes s x y p q = elim p [
   | described a is x_of ↦ elim q [ described b too y_of ↦ of_jobs bytes s x y a b is too x_of y_of | not_described r none y_is ↦ absurd (job_and_none bytes a r is none) ]
   | not_described r none x_is ↦ elim q [ described b is y_of ↦ absurd (job_and_none bytes b r is none) | not_described other too y_is ↦ x_is ∙ ap Err (one_no_job bytes r other none too) ∙ sym y_is ]
@@ -230,5 +230,5 @@ answered_as P one (Err ends.OutOfMemory) given answer is = tt
 pub only_of : (job : Job) (s : Selection) (r : Result ValidSet CheckRefusal) → OnAnswer (IsAnswerOf job s) r → (answer : Answer) → IsAnswerOf job s answer → AnswersAs answer r
 only_of job s r given answer is = answered_as (IsAnswerOf job s) (one_answer_of job s) r given answer is
 
-pub only : (bytes : List ℕ) (s : Selection) (r : Result ValidSet CheckRefusal) → OnAnswer (IsAnswer bytes s) r → (answer : Answer) → IsAnswer bytes s answer → AnswersAs answer r
-only bytes s r given answer is = answered_as (IsAnswer bytes s) (one_answer bytes s) r given answer is
+pub only : (bytes : List ℕ) (s : Selection) (r : Result ValidSet CheckRefusal) → OnAnswer (IsCheckAnswer bytes s) r → (answer : Answer) → IsCheckAnswer bytes s answer → AnswersAs answer r
+only bytes s r given answer is = answered_as (IsCheckAnswer bytes s) (one_answer bytes s) r given answer is

@@ -12,7 +12,7 @@ use Rattle.seq_check.specs.Answers.{checked_trees}
 use Rattle.job_text.specs.declared.job.Job.{Job}
 use Rattle.job_text.specs.Answers.{Describes}
 use Rattle.dbgconf_text.specs.declared.conf.ConfItem.{ConfItem}
-use Rattle.job_check.specs.Values.{HasValues, NoConf, NoValues}
+use Rattle.job_check.specs.Values.{HasStartingValues, NoConf, NoValues}
 use Rattle.job_check.specs.Answers.{NoSet, NoValid}
 use Rattle.job_check.specs.Running.{HasPlain, IsRefusedRun, IsRefusedRunFor, IsRefusedRunOf, IsRunFor, IsRunOfJob, IsSameRun, IsSetOfJob, IsValidRun, described, has_own, has_sequence, no_conf, no_own, no_values, not_described, not_named, not_resolved, not_valid}
 use Rattle.job_check.specs.Own.{own_of}
@@ -29,7 +29,7 @@ refused_as : (x y : RunRefusal) (r q : Refusal) → x ≡ ends.Refused r → y �
 refused_as x y r q is too same = is ∙ ap ends.Refused same ∙ sym too
 
 -- the names of the sequences stay where the values are put in
-pub same_names : (job : Job) (s : Selection) (items : List ConfItem) (plain set : SeqSet) (name : List ℕ) → HasValues job.dbgconf items plain set → has_sequence set name ≡ has_sequence plain name
+pub same_names : (job : Job) (s : Selection) (items : List ConfItem) (plain set : SeqSet) (name : List ℕ) → HasStartingValues job.dbgconf items plain set → has_sequence set name ≡ has_sequence plain name
 same_names job s items plain set name is = ap (λ (es : List SeqEntry). list_any (λ (e : SeqEntry). bytes_eq e.name name) es) (same_entries job.dbgconf items plain set is)
 
 -- ---- of a job
@@ -47,7 +47,7 @@ module _ (job : Job) (s : Selection) where
       let plain = same_plain q.items p.items q.plain p.plain q.of p.of in
       let items = same_items q.items p.items q.plain p.plain q.of p.of in
       one_with_values job.dbgconf p.items p.plain a b p.replaced
-      (subst (λ (l : List ConfItem). HasValues job.dbgconf l p.plain b) items (subst (λ (x : SeqSet). HasValues job.dbgconf q.items x b) plain q.replaced))
+      (subst (λ (l : List ConfItem). HasStartingValues job.dbgconf l p.plain b) items (subst (λ (x : SeqSet). HasStartingValues job.dbgconf q.items x b) plain q.replaced))
 
   -- the values, and none
   values_and_fault : (items : List ConfItem) (plain : SeqSet) (r : Refusal) → HasPlain job s items plain → NoConf job.dbgconf r → ⊥

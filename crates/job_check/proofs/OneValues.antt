@@ -20,7 +20,7 @@ use Rattle.dbgconf_text.proofs.OneReplacement.{one_place, one_text, text_or_plac
 use Rattle.job_check.specs.declared.answer.DbgconfKind.TheVariants as kinds
 use Rattle.job_check.specs.declared.answer.Refusal.{Refusal}
 use Rattle.job_check.specs.declared.answer.Refusal.TheVariants as refusals
-use Rattle.job_check.specs.Values.{HasConf, HasConfFault, HasUndefined, HasValues, NoConf, NoValues}
+use Rattle.job_check.specs.Values.{HasConf, HasConfFault, HasStartingValues, HasUndefined, NoConf, NoValues}
 
 -- ---- one list of values
 
@@ -132,7 +132,7 @@ one_no_conf (Some text) a b p q =
 
 -- ---- one set with the values
 
-pub one_with_values : (dbgconf : Option (List ℕ)) (items : List ConfItem) (plain a b : SeqSet) → HasValues dbgconf items plain a → HasValues dbgconf items plain b → a ≡ b
+pub one_with_values : (dbgconf : Option (List ℕ)) (items : List ConfItem) (plain a b : SeqSet) → HasStartingValues dbgconf items plain a → HasStartingValues dbgconf items plain b → a ≡ b
 one_with_values None items plain a b p q = p ∙ sym q
 one_with_values (Some text) items plain a b p q =
     same_set a b (p.0 ∙ sym q.0) (one_text plain.debugvars items a.debugvars b.debugvars p.1 q.1)
@@ -150,7 +150,7 @@ values_and_undefined items text fresh refusals.NoVariant p q = q
 values_and_undefined items text fresh (refusals.Image what line) p q = q
 values_and_undefined items text fresh (refusals.Check kind spot) p q = q
 
-pub values_and_none : (dbgconf : Option (List ℕ)) (items : List ConfItem) (plain set : SeqSet) (r : Refusal) → HasValues dbgconf items plain set → NoValues dbgconf items plain r → ⊥
+pub values_and_none : (dbgconf : Option (List ℕ)) (items : List ConfItem) (plain set : SeqSet) (r : Refusal) → HasStartingValues dbgconf items plain set → NoValues dbgconf items plain r → ⊥
 values_and_none None items plain set r p q = q
 values_and_none (Some text) items plain set r p q = values_and_undefined items plain.debugvars set.debugvars r p.1 q
 
@@ -182,6 +182,6 @@ one_no_values (Some text) items plain a b p q =
 
 -- ---- the sequences stay
 
-pub same_entries : (dbgconf : Option (List ℕ)) (items : List ConfItem) (plain set : SeqSet) → HasValues dbgconf items plain set → set.entries ≡ plain.entries
+pub same_entries : (dbgconf : Option (List ℕ)) (items : List ConfItem) (plain set : SeqSet) → HasStartingValues dbgconf items plain set → set.entries ≡ plain.entries
 same_entries None items plain set p = ap (λ (s : SeqSet). s.entries) p
 same_entries (Some text) items plain set p = p.0

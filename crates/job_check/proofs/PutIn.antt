@@ -18,7 +18,7 @@ use Rattle.dbgconf_text.specs.Cuts.{with_values}
 use Rattle.dbgconf_text.specs.Replacing.{settings_of}
 use Rattle.dbgconf_text.proofs.Replaced.{has_values}
 use Rattle.dbgconf_text.proofs.Spelled.{small_values}
-use Rattle.job_check.specs.Values.{HasConf, HasValues}
+use Rattle.job_check.specs.Values.{HasConf, HasStartingValues}
 use Rattle.job_check.specs.Running.{HasPlain, IsRunOfJob}
 use Rattle.job_check.specs.declared.running.ValidRun.{ValidRun}
 use Rattle.job_check.proofs.OneRun.{same_items, same_plain}
@@ -34,7 +34,7 @@ with_none (Plain at e ∷ more) = ap (λ (l : List StmtTree). Plain at e ∷ l) 
 one_code : (text : List ℕ) (a b : List StmtTree) → IsCodeOf text a → IsCodeOf text b → a ≡ b
 one_code text a b p q = one_value ReadsCode spans.Statement exact_code text a b p q
 
-put_in : (dbgconf : Option (List ℕ)) (items : List ConfItem) (plain set : SeqSet) (code new : List StmtTree) → HasConf dbgconf items → HasValues dbgconf items plain set
+put_in : (dbgconf : Option (List ℕ)) (items : List ConfItem) (plain set : SeqSet) (code new : List StmtTree) → HasConf dbgconf items → HasStartingValues dbgconf items plain set
     → IsCodeOf plain.debugvars code → IsCodeOf set.debugvars new → bare_code new ≡ bare_code (with_values (settings_of items) code)
 put_in None items plain set code new none same old is =
     let as_before : new ≡ code = one_code plain.debugvars new code (subst (λ (s : SeqSet). IsCodeOf s.debugvars new) same is) old in
@@ -44,12 +44,12 @@ put_in (Some text) items plain set code new has replaced old is =
     ap bare_code (one_code set.debugvars new r.1 is (record { tokens = r.0; cut = r.2; accepted = r.3 })) ∙ r.4
 
 module _ (s : Selection) (name : List ℕ) (run : ValidRun) (is : IsRunOfJob s name run) (items : List ConfItem) (plain : SeqSet) (has : HasPlain run.job s items plain) where
-  values_are : HasValues run.job.dbgconf items plain run.set
+  values_are : HasStartingValues run.job.dbgconf items plain run.set
   values_are =
       let same = same_plain run.job s is.set.items items is.set.plain plain is.set.of has in
       let same_values = same_items run.job s is.set.items items is.set.plain plain is.set.of has in
-      subst (λ (l : List ConfItem). HasValues run.job.dbgconf l plain run.set) same_values
-      (subst (λ (x : SeqSet). HasValues run.job.dbgconf is.set.items x run.set) same is.set.replaced)
+      subst (λ (l : List ConfItem). HasStartingValues run.job.dbgconf l plain run.set) same_values
+      (subst (λ (x : SeqSet). HasStartingValues run.job.dbgconf is.set.items x run.set) same is.set.replaced)
 
   pub debugvars_put_in : (code : List StmtTree) → IsCodeOf plain.debugvars code → bare_code (checked_trees run.trees).debugvars ≡ bare_code (with_values (settings_of items) code)
   debugvars_put_in code old =

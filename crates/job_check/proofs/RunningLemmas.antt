@@ -7,7 +7,7 @@ use Rattle.sequence_resolve.specs.Resolving.{IsEffectiveSet}
 use Rattle.job_text.specs.declared.job.Job.{Job}
 use Rattle.job_text.specs.Answers.{Describes}
 use Rattle.dbgconf_text.specs.declared.conf.ConfItem.{ConfItem}
-use Rattle.job_check.specs.Values.{HasConf, HasValues, NoConf, NoValues}
+use Rattle.job_check.specs.Values.{HasConf, HasStartingValues, NoConf, NoValues}
 use Rattle.job_check.specs.Answers.{AreTreesOf, NoJob, NoSet, NoValid, OnRefusal}
 use Rattle.job_check.specs.Running.{HasPlain, IsRefusedRun, IsRefusedRunFor, IsRefusedRunOf, IsRunFor, IsRunOfJob, IsSetOfJob, IsValidRun, OnEnd, described, has_own, has_sequence, no_conf, no_own, no_values, not_described, not_named, not_resolved, not_valid, run_refusal_of}
 use Rattle.job_check.specs.Own.{own_of}
@@ -47,7 +47,7 @@ module _ (job : Job) (s : Selection) (name : List ℕ) where
   unreplaced items plain (checks.Refused r) of named h = no_values items plain r of named h refl
   unreplaced items plain checks.OutOfMemory of named h = tt
 
-  pub set_of : (items : List ConfItem) (plain set : SeqSet) → HasPlain job s items plain → HasValues job.dbgconf items plain set → IsSetOfJob job s set
+  pub set_of : (items : List ConfItem) (plain set : SeqSet) → HasPlain job s items plain → HasStartingValues job.dbgconf items plain set → IsSetOfJob job s set
   set_of items plain set of is = record { items = items; plain = plain; of = of; replaced = is }
 
   pub no_valid : (set : SeqSet) (r : CheckRefusal) → IsSetOfJob job s set → has_sequence set name ≡ true → OnRefusal (NoValid set) r → OnEnd (IsRefusedRunOf job s name) (run_refusal_of r)
@@ -55,7 +55,7 @@ module _ (job : Job) (s : Selection) (name : List ℕ) where
   no_valid set checks.OutOfMemory is named h = tt
 
   -- what runs
-  pub found : (image : Option JobImage) (items : List ConfItem) (plain set valid : SeqSet) (trees : Checked) → HasPlain job s items plain → HasValues job.dbgconf items plain set → valid ≡ set
+  pub found : (image : Option JobImage) (items : List ConfItem) (plain set valid : SeqSet) (trees : Checked) → HasPlain job s items plain → HasStartingValues job.dbgconf items plain set → valid ≡ set
       → has_sequence plain name ≡ true → AreTreesOf valid trees → IsRunOfJob s name (record { job = job; image = image; set = valid; trees = trees })
   found image items plain set valid trees of is same named are = record {
     set = subst (IsSetOfJob job s) (sym same) (set_of items plain set of is);

@@ -17,7 +17,7 @@ use Rattle.dbgconf_text.proofs.SomeConf.{conf_or_fault}
 use Rattle.job_check.specs.declared.answer.DbgconfKind.TheVariants as kinds
 use Rattle.job_check.specs.declared.answer.Refusal.{Refusal}
 use Rattle.job_check.specs.declared.answer.Refusal.TheVariants as refusals
-use Rattle.job_check.specs.Values.{HasConf, HasConfFault, HasValues, NoConf, NoValues}
+use Rattle.job_check.specs.Values.{HasConf, HasConfFault, HasStartingValues, NoConf, NoValues}
 use Rattle.job_check.proofs.SomeTokens as tokens
 use Rattle.job_check.proofs.SomeTexts.{read_code}
 
@@ -50,7 +50,7 @@ conf_or_none (Some text) = of_text text
 
 module _ (text : List ℕ) (items : List ConfItem) (plain : SeqSet) where
   abbrev Values : Type 0
-  Values = ((set : SeqSet) × HasValues (Some text) items plain set) ⊎ ((r : Refusal) × NoValues (Some text) items plain r)
+  Values = ((set : SeqSet) × HasStartingValues (Some text) items plain set) ⊎ ((r : Refusal) × NoValues (Some text) items plain r)
 
   not_code : (at : Place) → IsFaultyCode plain.debugvars at → (ts : List Lexeme) → AreTokensOf plain.debugvars ts → AreCode ts → ⊥
   not_code at faulty ts are is =
@@ -66,6 +66,6 @@ module _ (text : List ℕ) (items : List ConfItem) (plain : SeqSet) where
   ]
 
 pub values_or_none : (dbgconf : Option (List ℕ)) (items : List ConfItem) (plain : SeqSet)
-    → ((set : SeqSet) × HasValues dbgconf items plain set) ⊎ ((r : Refusal) × NoValues dbgconf items plain r)
+    → ((set : SeqSet) × HasStartingValues dbgconf items plain set) ⊎ ((r : Refusal) × NoValues dbgconf items plain r)
 values_or_none None items plain = inl (plain, refl)
 values_or_none (Some text) items plain = put_in text items plain

@@ -11,7 +11,7 @@ use Rattle.dbgconf_text.specs.Replacing.{Replaces}
 use Rattle.sequence_resolve.specs.declared.entry.SeqSet.{SeqSet}
 use Rattle.job_check.specs.declared.answer.CheckRefusal.{CheckRefusal}
 use Rattle.job_check.specs.Answers.{OnRefusal}
-use Rattle.job_check.specs.Values.{HasConf, HasConfFault, HasUndefined, HasValues, conf_refusal, name_refusal}
+use Rattle.job_check.specs.Values.{HasConf, HasConfFault, HasStartingValues, HasUndefined, conf_refusal, name_refusal}
 
 abbrev read : List ConfItem → Result (List ConfItem) ConfFault
 read items = Ok items
@@ -37,6 +37,6 @@ refused_name items text replacing.OutOfMemory p = tt
 
 -- a set into which the values of a text are put
 pub replaced : (dbgconf : Option (List ℕ)) (text : List ℕ) (items : List ConfItem) (plain : SeqSet) (r : Result SeqSet CheckRefusal) → dbgconf ≡ Some text → IfOk r (λ set. set.entries ≡ plain.entries)
-    → IfOk r (λ set. Replaces plain.debugvars items (Ok set.debugvars)) → IfOk r (HasValues dbgconf items plain)
-replaced dbgconf text items plain (Ok set) is same put = subst (λ (o : Option (List ℕ)). HasValues o items plain set) (sym is) (same, put)
+    → IfOk r (λ set. Replaces plain.debugvars items (Ok set.debugvars)) → IfOk r (HasStartingValues dbgconf items plain)
+replaced dbgconf text items plain (Ok set) is same put = subst (λ (o : Option (List ℕ)). HasStartingValues o items plain set) (sym is) (same, put)
 replaced dbgconf text items plain (Err refusal) is same put = tt

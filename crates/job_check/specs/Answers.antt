@@ -13,7 +13,7 @@ use Rattle.job_text.specs.declared.job.Job.{Job}
 use Rattle.job_text.specs.declared.job.JobRefusal.TheVariants as jobs
 use Rattle.job_text.specs.Answers.{Describes, IsRefused}
 use Rattle.dbgconf_text.specs.declared.conf.ConfItem.{ConfItem}
-use Rattle.job_check.specs.Values.{HasConf, NoConf, HasValues, NoValues}
+use Rattle.job_check.specs.Values.{HasConf, NoConf, HasStartingValues, NoValues}
 use Rattle.job_check.specs.declared.answer.Refusal.{Refusal}
 use Rattle.job_check.specs.declared.answer.Refusal.TheVariants as refusals
 use Rattle.job_check.specs.declared.answer.ValidSet.{ValidSet}
@@ -58,14 +58,14 @@ NoValid set refusals.NoVariant = ⊥
 -- ---- answers
 
 -- the answer to a set: the set, where it is valid, and else its first fault
-pub data AnswersSet (set : SeqSet) (answer : Result SeqSet Refusal) : Type 0 where
-  valid : IsValid set → answer ≡ Ok set → AnswersSet set answer
-  not_valid : (r : Refusal) → NoValid set r → answer ≡ Err r → AnswersSet set answer
+pub data AnswersCheckedSet (set : SeqSet) (answer : Result SeqSet Refusal) : Type 0 where
+  valid : IsValid set → answer ≡ Ok set → AnswersCheckedSet set answer
+  not_valid : (r : Refusal) → NoValid set r → answer ≡ Err r → AnswersCheckedSet set answer
 
 -- The answer to the set of a selection, before the values of the job are put into it. It is the answer to the set with the values, and else why
 -- they can not be put in.
 pub data AnswersPlain (dbgconf : Option (List ℕ)) (items : List ConfItem) (plain : SeqSet) (answer : Result SeqSet Refusal) : Type 0 where
-  with_values : (set : SeqSet) → HasValues dbgconf items plain set → AnswersSet set answer → AnswersPlain dbgconf items plain answer
+  with_values : (set : SeqSet) → HasStartingValues dbgconf items plain set → AnswersCheckedSet set answer → AnswersPlain dbgconf items plain answer
   without_values : (r : Refusal) → NoValues dbgconf items plain r → answer ≡ Err r → AnswersPlain dbgconf items plain answer
 
 -- the answer to a job whose values are read: that to the set of the selection, and else why there is none
@@ -81,9 +81,9 @@ pub data IsAnswerOf (job : Job) (s : Selection) (answer : Result SeqSet Refusal)
 
 -- The answer to the bytes of a job and a selection: that to the job, and else why the bytes are no job.
 -- There is one such answer at most (`laws::one_answer`).
-pub data IsAnswer (bytes : List ℕ) (s : Selection) (answer : Result SeqSet Refusal) : Type 0 where
-  described : (job : Job) → Describes bytes job → IsAnswerOf job s answer → IsAnswer bytes s answer
-  not_described : (r : Refusal) → NoJob bytes r → answer ≡ Err r → IsAnswer bytes s answer
+pub data IsCheckAnswer (bytes : List ℕ) (s : Selection) (answer : Result SeqSet Refusal) : Type 0 where
+  described : (job : Job) → Describes bytes job → IsAnswerOf job s answer → IsCheckAnswer bytes s answer
+  not_described : (r : Refusal) → NoJob bytes r → answer ≡ Err r → IsCheckAnswer bytes s answer
 
 -- ---- what a call answers
 

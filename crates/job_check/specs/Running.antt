@@ -11,7 +11,7 @@ use Rattle.job_text.specs.Answers.{Describes}
 use Rattle.seq_check.specs.Valid.{IsValid}
 use Rattle.seq_check.specs.Answers.{checked_trees}
 use Rattle.dbgconf_text.specs.declared.conf.ConfItem.{ConfItem}
-use Rattle.job_check.specs.Values.{HasConf, NoConf, HasValues, NoValues}
+use Rattle.job_check.specs.Values.{HasConf, NoConf, HasStartingValues, NoValues}
 use Rattle.job_check.specs.Answers.{NoJob, NoSet, NoValid, AreTreesOf}
 use Rattle.job_check.specs.Own.{own_of}
 use Rattle.job_check.specs.declared.own.JobImage.{JobImage}
@@ -39,7 +39,7 @@ pub record IsSetOfJob (job : Job) (s : Selection) (set : SeqSet) : Type 0 where
   pub items : List ConfItem
   pub plain : SeqSet
   pub of : HasPlain job s items plain
-  pub replaced : HasValues job.dbgconf items plain set
+  pub replaced : HasStartingValues job.dbgconf items plain set
 
 -- The set is that of the selection, with the values of the job, and a sequence of it has the name. The trees are those of the set, in which
 -- nothing is wrong.

@@ -58,9 +58,9 @@ conf_refusal conf.OutOfMemory = ends.OutOfMemory
 -- ---- the set with the values
 
 -- The set with the values put into its debug variables. Where the job has no text of values, it is the set as it is.
-abbrev pub HasValues : Option (List ℕ) → List ConfItem → SeqSet → SeqSet → Type 0
-HasValues None items plain set = set ≡ plain
-HasValues (Some text) items plain set = (set.entries ≡ plain.entries) × Replaces plain.debugvars items (Ok set.debugvars)
+abbrev pub HasStartingValues : Option (List ℕ) → List ConfItem → SeqSet → SeqSet → Type 0
+HasStartingValues None items plain set = set ≡ plain
+HasStartingValues (Some text) items plain set = (set.entries ≡ plain.entries) × Replaces plain.debugvars items (Ok set.debugvars)
 
 -- no `__var` of these debug variables declares a name: the place of the first such name in the text of the values
 abbrev pub HasUndefined : List ConfItem → List ℕ → Refusal → Type 0

@@ -10,7 +10,7 @@ ghost use Rattle.job_text.specs.Answers.{Describes};
 ghost use Rattle.job_text.specs.Ranges.{AreEntryTexts, AreSettings, AreWatched};
 ghost use Rattle.probe_core.specs.Ranges.{IsBenchJob};
 ghost use Rattle.job_check.specs.declared.answer.Refusal.{Refusal};
-ghost use Rattle.job_check.specs.Answers.{AnswersAs, AreTreesOf, IsAnswer, IsAnswerOf, NoJob, NoSet, NoValid, OnAnswer, OnRefusal};
+ghost use Rattle.job_check.specs.Answers.{AnswersAs, AreTreesOf, IsAnswerOf, IsCheckAnswer, NoJob, NoSet, NoValid, OnAnswer, OnRefusal};
 
 use crate::answer::{CheckRefusal, Refusal, ValidSet};
 use crate::values::{put_values, read_conf};
@@ -134,7 +134,7 @@ fn find_valid_set(
     bytes: &[u8],
     selection: &Selection,
 ) -> Result<ValidSet, CheckRefusal>
-    ensures answer { OnAnswer (IsAnswer bytes.now selection.now) result }
+    ensures answer { OnAnswer (IsCheckAnswer bytes.now selection.now) result }
     ensures trees { IfOk result (λ valid. AreTreesOf valid.set valid.trees) }
 {
     let job = read_job(alloc, bytes)?;
@@ -153,9 +153,9 @@ pub fn valid_set(
     selection: &Selection,
 ) -> Result<ValidSet, CheckRefusal>
     // What is answered is the answer to the bytes and the selection.
-    ensures answer { OnAnswer (IsAnswer bytes.now selection.now) result }
+    ensures answer { OnAnswer (IsCheckAnswer bytes.now selection.now) result }
     // Their answer is what is answered, unless memory is refused.
-    ensures only { (answer : Result SeqSet Refusal) → IsAnswer bytes.now selection.now answer → AnswersAs answer result }
+    ensures only { (answer : Result SeqSet Refusal) → IsCheckAnswer bytes.now selection.now answer → AnswersAs answer result }
     // The trees are those that the grammar gives the texts of the set.
     ensures trees { IfOk result (λ valid. AreTreesOf valid.set valid.trees) }
 {

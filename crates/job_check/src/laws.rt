@@ -14,7 +14,7 @@ ghost use Rattle.dbgconf_text.specs.declared.conf.ConfItem.{ConfItem};
 ghost use Rattle.dbgconf_text.specs.Cuts.{with_values};
 ghost use Rattle.dbgconf_text.specs.Replacing.{settings_of};
 ghost use Rattle.job_check.specs.declared.answer.Refusal.{Refusal};
-ghost use Rattle.job_check.specs.Answers.{IsAnswer, IsAnswerOf};
+ghost use Rattle.job_check.specs.Answers.{IsAnswerOf, IsCheckAnswer};
 ghost use Rattle.job_check.specs.Running.{HasPlain, HasRun, HasRunFor, IsRefusedRun, IsRefusedRunFor, IsRunFor, IsRunOfJob, IsSameRun, IsValidRun};
 ghost use Rattle.job_check.specs.declared.own.Own.{Own};
 ghost use Rattle.job_check.specs.declared.running.RunRefusal.{RunRefusal};
@@ -33,12 +33,12 @@ pub fn some_answer_of_a_job()
 /// The bytes of a job and a selection have one answer at most.
 pub fn one_answer()
     ensures { (bytes : List ℕ) (selection : Selection) (x y : Result SeqSet Refusal)
-        → IsAnswer bytes selection x → IsAnswer bytes selection y → x ≡ y }
+        → IsCheckAnswer bytes selection x → IsCheckAnswer bytes selection y → x ≡ y }
 {}
 
 /// The bytes of a job and a selection have an answer.
 pub fn some_answer()
-    ensures { (bytes : List ℕ) (selection : Selection) → (answer : Result SeqSet Refusal) × IsAnswer bytes selection answer }
+    ensures { (bytes : List ℕ) (selection : Selection) → (answer : Result SeqSet Refusal) × IsCheckAnswer bytes selection answer }
 {}
 
 /// The bytes of a job, what the mode needs of it, a selection and a name have one run at most, or one reason why none runs.

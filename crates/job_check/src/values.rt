@@ -2,7 +2,7 @@
 ghost use Rattle.std.specs.Prelude.{◌≡◌, Some, Ok, IfOk, IfErr};
 ghost use Rattle.dbgconf_text.specs.Replacing.{Replaces};
 ghost use Rattle.job_check.specs.Answers.{OnRefusal};
-ghost use Rattle.job_check.specs.Values.{HasConf, HasConfFault, HasUndefined, HasValues, NoConf, NoValues, conf_refusal, name_refusal};
+ghost use Rattle.job_check.specs.Values.{HasConf, HasConfFault, HasStartingValues, HasUndefined, NoConf, NoValues, conf_refusal, name_refusal};
 
 use crate::answer::{CheckRefusal, DbgconfKind, Refusal};
 use dap_base::{NameText, Place};
@@ -76,7 +76,7 @@ pub(crate) fn put_values(
     conf: &Conf,
     plain: SeqSet,
 ) -> Result<SeqSet, CheckRefusal>
-    ensures values { IfOk result (HasValues dbgconf.now conf.now plain) }
+    ensures values { IfOk result (HasStartingValues dbgconf.now conf.now plain) }
     ensures same { IfOk result (λ set. set.entries ≡ plain.entries) }
     ensures refused { IfErr result (OnRefusal (NoValues dbgconf.now conf.now plain)) }
 {

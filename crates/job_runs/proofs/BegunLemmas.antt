@@ -13,10 +13,10 @@ use Rattle.target_calls.specs.World.{World, stop}
 use Rattle.target_calls.specs.declared.calls.Ask.{Ask}
 use Rattle.target_calls.proofs.CallLists.{stop_more}
 use Rattle.target_calls.proofs.MarkLemmas.{stop_marked}
-use Rattle.access_calls.specs.Growing.{GoesOnWith, IsAfter, IsWithin, JournalGrows, JournalSettles}
+use Rattle.access_calls.specs.Growing.{GoesOnWith, IsAfter, IsForFirstCalls, JournalGoesOn, JournalSettles}
 use Rattle.access_calls.specs.Reported.{Beginning, start_of}
-use Rattle.access_calls.specs.Standing.{IsAfterPart, IsPartOf}
-use Rattle.control_flow.specs.Answers.{IsWhole}
+use Rattle.access_calls.specs.Standing.{IsAfterPart, IsPartOfEntry}
+use Rattle.control_flow.specs.Answers.{EndsWhole}
 use Rattle.sequence_rules.specs.Laws.{StopBy}
 use Rattle.sequence_rules.specs.Runs as runs
 use Rattle.sequence_rules.specs.Runs.{Ending}
@@ -47,7 +47,7 @@ both_entries P zero (x ∷ xs) ys le h all = h
 both_entries P (suc i) (x ∷ xs) ys le h all = both_entries P i xs ys (omega (arith, le)) h all
 
 -- entries that are all issued for the first calls lie in front of those that are issued after them
-few_begun : (calls begun : ℕ) (front rest : List Entry) → AllByRecursion (IsAfter calls) rest → AllByRecursion (IsWithin calls) (take begun (front ++ rest)) → begun ≤ length (front ++ rest) → begun ≤ length front
+few_begun : (calls begun : ℕ) (front rest : List Entry) → AllByRecursion (IsAfter calls) rest → AllByRecursion (IsForFirstCalls calls) (take begun (front ++ rest)) → begun ≤ length (front ++ rest) → begun ≤ length front
 few_begun calls zero front rest later own le = omega arith
 few_begun calls (suc begun) [] [] later own le = absurd (omega (arith, le))
 few_begun calls (suc begun) [] (x ∷ rest) later own le = absurd (let low = later.0 in let high = own.0 in omega (arith, low, high))
@@ -56,7 +56,7 @@ few_begun calls (suc begun) (x ∷ front) rest later own le = (let h = few_begun
 -- ---- calls
 
 -- the calls of an outcome that is neither Done nor Halted stop at the last
-pub ends_how : (w : World) (ending : Ending) (calls : List Ask) → StopBy w ending calls → IsWhole ending ⊎ (stop w calls ≡ Some (length calls))
+pub ends_how : (w : World) (ending : Ending) (calls : List Ask) → StopBy w ending calls → EndsWhole ending ⊎ (stop w calls ≡ Some (length calls))
 ends_how w runs.Done calls h = inl tt
 ends_how w (runs.Halted cause) calls h = inl tt
 ends_how w (runs.Faulted call) calls h = inr h.stopped.first
@@ -93,11 +93,11 @@ share_both begun calls first theirs ours g h le =
     let b = share_longer begun calls first ours h le in
     record { same = sym a.same ∙ b.same; within = b.within }
 
-module _ (journal : TargetState → List Ask → List Entry) (grows : JournalGrows journal) (settles : JournalSettles journal) (t : TargetState) where
+module _ (journal : TargetState → List Ask → List Entry) (grows : JournalGoesOn journal) (settles : JournalSettles journal) (t : TargetState) where
   -- The entries that were begun are the same in the journal of the outcome's calls; where more were asked, since all of them are issued
   -- for the outcome's calls.
   pub begun_share : (asked calls : List Ask) (begun : ℕ) → Meets asked calls → begun ≤ length (journal t asked)
-      → (length calls < length asked → AllByRecursion (IsWithin (length calls)) (take begun (journal t asked))) → Share begun (journal t asked) (journal t (settled_last calls))
+      → (length calls < length asked → AllByRecursion (IsForFirstCalls (length calls)) (take begun (journal t asked))) → Share begun (journal t asked) (journal t (settled_last calls))
   begun_share asked calls begun m le own = by_length (cases_lt (length calls) (length asked))
     where
       by_length : (length calls < length asked) ⊎ (length asked ≤ length calls) → Share begun (journal t asked) (journal t (settled_last calls))
@@ -105,7 +105,7 @@ module _ (journal : TargetState → List Ask → List Entry) (grows : JournalGro
           let g = goes_beyond journal grows settles t asked calls m more in
           share_both begun (length calls) (journal t calls) (journal t asked) (journal t (settled_last calls)) g (settles t calls)
           (few_begun (length calls) begun (journal t calls) g.rest g.later
-          (subst (λ (es : List Entry). AllByRecursion (IsWithin (length calls)) (take begun es)) g.joined (own more))
+          (subst (λ (es : List Entry). AllByRecursion (IsForFirstCalls (length calls)) (take begun es)) g.joined (own more))
           (subst (λ (es : List Entry). begun ≤ length es) g.joined le))
       by_length (inr few) = share_longer begun (length asked) (journal t asked) (journal t (settled_last calls)) (covers journal grows settles t asked calls m few).goes_on le
 
@@ -152,8 +152,8 @@ part_shared theirs ours count begun b m same (inr h) =
     let next : slice_get theirs count ≡ slice_get ours count = sym (get_taken count theirs) ∙ ap (λ (l : List Entry). slice_get l count) more ∙ get_taken count ours in
     inr (
       h.0,
-      subst (λ (x : Option Entry). IsPartOf x (target_after (start_of b) (take count ours)) (target_of m.probe)) next
-          (subst (λ (es : List Entry). IsPartOf (slice_get theirs count) (target_after (start_of b) es) (target_of m.probe)) first h.1),
+      subst (λ (x : Option Entry). IsPartOfEntry x (target_after (start_of b) (take count ours)) (target_of m.probe)) next
+          (subst (λ (es : List Entry). IsPartOfEntry (slice_get theirs count) (target_after (start_of b) es) (target_of m.probe)) first h.1),
     )
 
 -- at most so many were begun, and one more

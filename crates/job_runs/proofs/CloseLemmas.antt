@@ -3,7 +3,7 @@ use Rattle.std.proofs.Common.{◌≡◌, ℕ, Bool, List, Option, None, subst}
 use Rattle.probe_core.specs.Bench.{BenchState}
 use Rattle.probe_core.specs.Probe.{target_of}
 use Rattle.access_calls.specs.Endings.{ending_of}
-use Rattle.access_calls.specs.Left.{answered_at, answered_by}
+use Rattle.access_calls.specs.Left.{answered_at_end, answered_by}
 use Rattle.access_calls.specs.Reported.{AccessView, world_from}
 use Rattle.access_calls.specs.declared.ended.Ending.{Ending}
 use Rattle.access_calls.specs.declared.ended.Ending.TheVariants as e
@@ -32,4 +32,4 @@ pub closes_so : (k : Task) (first : BenchState) (a : AccessView) (before : Optio
 closes_so k first a before end none h =
     let known = known_by before before in
     let at : end ≡ close_in (world_from first (answered_by a)) k before = subst (λ (x : Option (List ℕ)). end ≡ close_in (world_from first (answered_by a)) k x) known.2 (h known.0 known.1) in
-    subst (λ (x : Option Stop). end ≡ close_in (world_from first (answered_at x a.lines)) k before) none at
+    subst (λ (x : Option Stop). end ≡ close_in (world_from first (answered_at_end x a.lines)) k before) none at

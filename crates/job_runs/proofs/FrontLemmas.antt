@@ -18,18 +18,18 @@ use Rattle.target_calls.proofs.EntryLemmas.{performed_fits, performed_most}
 use Rattle.target_calls.specs.World.{later_by}
 use Rattle.target_calls.specs.declared.calls.Ask.{Ask}
 use Rattle.target_calls.proofs.MarkLemmas.{length_marked, marked_same}
-use Rattle.access_calls.specs.Growing.{GoesOnWith, IsAfter, JournalGrows, JournalSettles}
+use Rattle.access_calls.specs.Growing.{GoesOnWith, IsAfter, JournalGoesOn, JournalSettles}
 use Rattle.access_calls.specs.Numbers.{HasNumbers, StopNumbers, attempted_by, lines_at, unit_at}
 use Rattle.access_calls.specs.Reported.{Beginning, start_of}
 use Rattle.access_calls.specs.Standing.{HasPerformed, grown_since}
 use Rattle.access_calls.specs.declared.stop.Report.{Report}
 use Rattle.access_calls.specs.declared.stop.StopCause.{StopCause}
-use Rattle.control_flow.specs.Answers.{IsWhole, SharesCalls}
+use Rattle.control_flow.specs.Answers.{EndsWhole, SharesCalls}
 use Rattle.sequence_rules.specs.Runs.{Outcome}
 use Rattle.sequels.specs.Limits.{GoesOnFrom}
 use Rattle.sequels.proofs.LimitLemmas.{from_on, from_same}
 use Rattle.followed_runs.proofs.CallLemmas.{from_few, from_length}
-use Rattle.job_runs.specs.Runs.{HasMade}
+use Rattle.job_runs.specs.Runs.{HasMadeEntries}
 
 -- ---- lists
 
@@ -182,7 +182,7 @@ pub meets : (asked : List Ask) (o : Outcome) → SharesCalls asked o → Meets a
 meets asked o s = both_from asked o.calls s.all s.ours s.theirs
 
 -- where the outcome is Done or Halted, no more was asked than its calls
-pub few_asked : (asked : List Ask) (o : Outcome) → SharesCalls asked o → IsWhole o.ending → length asked ≤ length o.calls
+pub few_asked : (asked : List Ask) (o : Outcome) → SharesCalls asked o → EndsWhole o.ending → length asked ≤ length o.calls
 few_asked asked o s whole = (let first = from_length asked s.all s.ours in let most = s.only whole in omega (arith, first, most))
 
 -- the call at a place of what was asked stands there in the calls of the outcome too, where these reach so far
@@ -294,7 +294,7 @@ module _ (r : Report) (ours theirs : List Entry) (h : Meeting r ours theirs) (on
   named_within = (let long : length ours ≡ length h.front + length h.our_rest = ap length h.ours_are ∙ length-append h.front h.our_rest in let n = h.next in omega (arith, long, n))
 
   -- and the same entries were performed
-  pub same_made : (b : Beginning) (m : BenchState) → HasPerformed ours r.accesses b m → grown_since b m ≤ weight_in (start_of b) (take (r.confirmed + 1) ours) → HasMade theirs r b m
+  pub same_made : (b : Beginning) (m : BenchState) → HasPerformed ours r.accesses b m → grown_since b m ≤ weight_in (start_of b) (take (r.confirmed + 1) ours) → HasMadeEntries theirs r b m
   same_made b m p up_to = record {
     low = subst (λ (l : List Entry). weight_in (start_of b) l ≤ grown_since b m) same_first
         (subst (λ (n : ℕ). weight_in (start_of b) (take n ours) ≤ grown_since b m) (sym p.count_is) (performed_fits (start_of b) ours (grown_since b m)));
@@ -343,7 +343,7 @@ goes_twice calls a b c g h = record {
   later = all_joined (IsAfter calls) g.rest h.rest g.later h.later;
 }
 
-module _ (journal : TargetState → List Ask → List Entry) (grows : JournalGrows journal) (settles : JournalSettles journal) (t : TargetState) where
+module _ (journal : TargetState → List Ask → List Entry) (grows : JournalGoesOn journal) (settles : JournalSettles journal) (t : TargetState) where
   -- the journal of calls that go on from others goes on from theirs
   pub from_journal : (asks all : List Ask) → GoesOnFrom asks all → GoesOnWith (length asks) (journal t asks) (journal t all)
   from_journal asks all g = by_mark g.so

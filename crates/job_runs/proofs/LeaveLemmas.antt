@@ -19,14 +19,14 @@ use Rattle.target_calls.specs.World.{start_world, world_after}
 use Rattle.target_calls.specs.World.{stop as call_stop}
 use Rattle.target_calls.specs.declared.calls.Ask.{Ask}
 use Rattle.target_calls.proofs.MarkLemmas.{after_marked, marked_settled}
-use Rattle.access_calls.specs.Bounds.{AreNextWrites, KeepsBounds, KeepsBoundsIf, block_words, capacity, starting_since}
-use Rattle.access_calls.specs.Left.{IsLeft, IsLeftAt, answered_at, answered_by, answered_cut}
-use Rattle.access_calls.specs.Growing.{IsWithin, JournalGrows, JournalSettles}
+use Rattle.access_calls.specs.Bounds.{AreNextWrites, KeepsBounds, KeepsBoundsIf, block_words, flight_capacity, starting_since}
+use Rattle.access_calls.specs.Left.{IsLeft, IsLeftAt, answered_at_end, answered_by, answered_cut}
+use Rattle.access_calls.specs.Growing.{IsForFirstCalls, JournalGoesOn, JournalSettles}
 use Rattle.access_calls.specs.Made.{HasMemory, units_made}
 use Rattle.access_calls.specs.Numbers.{HasNumbers, StopNumbers, lines_at, unit_at}
 use Rattle.access_calls.specs.Reported.{AccessView, began, world_from}
 use Rattle.access_calls.specs.Standing as s
-use Rattle.access_calls.specs.Standing.{Stands, StandsAt, WhereObservable, HasPerformed, IsOpen, grown_since, number_of, pending_of}
+use Rattle.access_calls.specs.Standing.{AccessStands, StandsAt, WhereObservable, HasPerformed, StandsOpen, grown_since, transfer_number_of, pending_of}
 use Rattle.access_calls.specs.declared.ended.Ended.{Ended}
 use Rattle.access_calls.specs.declared.ended.Ending.{Ending}
 use Rattle.access_calls.specs.declared.ended.Ending.TheVariants as e
@@ -39,7 +39,7 @@ use Rattle.sequence_rules.specs.Runs.{Outcome, late_meaning, units_of}
 use Rattle.sequence_rules.specs.Machine.{end_state}
 use Rattle.sequence_rules.proofs.Writing.{only_written}
 use Rattle.control_flow.specs.Answers as answers
-use Rattle.control_flow.specs.Answers.{EndBy, EndsAs, EndsAtCut, HasNeeds, IsAll, IsPart, Ran, SharesCalls, StopsAfter, ran}
+use Rattle.control_flow.specs.Answers.{EndBy, EndsAtCut, HasNeeds, IsAll, IsPartOfOutcome, Ran, RunEndsAs, SharesCalls, StopsAfter, ran}
 use Rattle.control_flow.specs.Closing.{ComesToEnd}
 use Rattle.sequence_rules.specs.Known.{Knows, known_part}
 use Rattle.target_machine.specs.Counts.{one_if}
@@ -49,30 +49,30 @@ use Rattle.sequels.proofs.LimitLemmas.{from_same}
 use Rattle.followed_runs.specs.Followed.{Task, task_outcome}
 use Rattle.followed_runs.specs.Followed as followed
 use Rattle.followed_runs.specs.Laws as laws
-use Rattle.followed_runs.specs.Laws.{IsCutShort}
+use Rattle.followed_runs.specs.Laws.{OutcomeIsCutShort}
 use Rattle.followed_runs.proofs.FollowLemmas.{limits_followed}
 use Rattle.followed_runs.proofs.MadeLemmas.{followed_made}
 use Rattle.job_runs.proofs.BegunLemmas.{Share, asked_stop, begun_share, count_begun, ends_how, in_common, later_own, part_shared}
 use Rattle.job_runs.proofs.FrontLemmas.{Covers, Meeting, call_within, covered, covers, few_asked, get_some, meeting, meets, own_call, same_fault, same_first, same_made, same_numbers}
 use Rattle.job_runs.proofs.SharedLemmas.{Common, first_same, near_by, passes_same, same_together, work_least, work_less}
 use Rattle.job_runs.proofs.WordsLemmas.{after_from, after_meets, same_made_units, short_target}
-use Rattle.job_runs.specs.Runs.{AccessKind, ComesTo, HasStopped, IsBroken, IsFaultStop, IsFew, IsFewIf, IsFront, IsLeftOff, IsNotOpened, IsRetryStop, IsStop, IsUnopened, IsWhole, KeepsIdleCycles, Left, LeavesAs, Run, all_entries, calls_in, entries_in, is_bounded, known_after, needs_in, not_opened, opened, outcome_with, own_entries}
+use Rattle.job_runs.specs.Runs.{AccessKind, JobComesTo, HasStopped, IsBroken, IsFaultStop, HasFewPackets, IsFewIf, IsFront, IsLeftOff, IsNotOpened, IsRetryStop, IsStop, IsUnopened, RunIsWhole, KeepsIdleCycles, Left, LeavesAs, Run, all_entries, calls_in, entries_in, is_bounded, known_after, needs_in, not_opened, opened, outcome_with, entries_before_settling}
 use Rattle.access_calls.specs.Endings.{ending_of}
 use Rattle.access_calls.specs.Opening.{HasTried, IsNotBegun, MayBegin, RefusedBy, opened_bench}
 
 -- what an access reports at this end, where its bench is observable
 stands_at : (journal : TargetState → List Ask → List Entry) (a : AccessView) (first n : BenchState) (end : Option Stop) → a.end ≡ end → a.state ≡ Some n
-    → Stands journal a (began first (answered_by a)) → StandsAt end (journal (target_of first.probe) a.asks.calls) a (began first (answered_at end a.lines)) n
+    → AccessStands journal a (began first (answered_by a)) → StandsAt end (journal (target_of first.probe) a.asks.calls) a (began first (answered_at_end end a.lines)) n
 stands_at journal a first n end is seen h =
-    subst (λ (x : Option Stop). StandsAt x (journal (target_of first.probe) a.asks.calls) a (began first (answered_at x a.lines)) n) is
+    subst (λ (x : Option Stop). StandsAt x (journal (target_of first.probe) a.asks.calls) a (began first (answered_at_end x a.lines)) n) is
     (subst (λ (o : Option BenchState). WhereObservable o (λ m. StandsAt a.end (journal (target_of first.probe) a.asks.calls) a (began first (answered_by a)) m)) seen h)
 
 -- what a run answers at this end
 ends_at : (ending : Ending) (k : Task) (a : AccessView) (first : BenchState) (before : Option (List ℕ)) (r : Ran) (end : Option Stop) → a.end ≡ end
-    → EndsAs ending a.lines (followed.outcome_in (world_from first (answered_by a)) k before) r
-    → EndsAs ending a.lines (followed.outcome_in (world_from first (answered_at end a.lines)) k before) r
+    → RunEndsAs ending a.lines (followed.outcome_in_world (world_from first (answered_by a)) k before) r
+    → RunEndsAs ending a.lines (followed.outcome_in_world (world_from first (answered_at_end end a.lines)) k before) r
 ends_at ending k a first before r end is h =
-    subst (λ (x : Option Stop). EndsAs ending a.lines (followed.outcome_in (world_from first (answered_at x a.lines)) k before) r) is h
+    subst (λ (x : Option Stop). RunEndsAs ending a.lines (followed.outcome_in_world (world_from first (answered_at_end x a.lines)) k before) r) is h
 
 -- what came since the load, from which the access counts
 since_load : (now first most : ℕ) → first ≡ 0 → now - first ≤ most → now ≤ most
@@ -86,7 +86,7 @@ unit_by_lines e = one (is_settling e.part)
     one true = omega arith
     one false = omega arith
 
-module _ (access : AccessKind) (grows : JournalGrows access.journal) (settles : JournalSettles access.journal) (limits : Limits) (k : Task) (first : BenchState) (before : Option (List ℕ)) where
+module _ (access : AccessKind) (grows : JournalGoesOn access.journal) (settles : JournalSettles access.journal) (limits : Limits) (k : Task) (first : BenchState) (before : Option (List ℕ)) where
   abbrev run : Run
   run = record { access = access; limits = limits; task = k; first = first; before = before }
 
@@ -108,7 +108,7 @@ module _ (access : AccessKind) (grows : JournalGrows access.journal) (settles : 
 
   -- the same where all is answered
   all_needs : (ending : Ending) (a : AccessView) → a.end ≡ None → HasRunNeeds ending a → HasNeeds ending a.asks (late_meaning access.cost (world_from first None) k.program before)
-  all_needs ending a end h = subst (λ (x : Option Stop). HasNeeds ending a.asks (late_meaning access.cost (world_from first (answered_at x a.lines)) k.program before)) end h
+  all_needs ending a end h = subst (λ (x : Option Stop). HasNeeds ending a.asks (late_meaning access.cost (world_from first (answered_at_end x a.lines)) k.program before)) end h
 
   -- the lines before do not count
   counted_needs : (a : AccessView) → a.asks ≡ needed (finished (end_state (late_meaning access.cost (world_from first None) k.program before)).rest.asks) → a.asks.needs ≡ needs_in run
@@ -117,12 +117,12 @@ module _ (access : AccessKind) (grows : JournalGrows access.journal) (settles : 
 
   -- the bounds of the access are those of the run
   is_few : (answered : Option ℕ) (a : AccessView) (l : Left) → a.bench.limits ≡ limits → first.starting ≡ 0 → a.asks.calls ≡ settled_last whole.calls → a.asks.needs ≡ needs_in run
-      → KeepsBounds (entries a) a (began first answered) l.bench → IsFew run l
+      → KeepsBounds (entries a) a (began first answered) l.bench → HasFewPackets run l
   is_few answered a l same opening calls points h = record {
     few = since_load _ first.starting _ opening
-        (subst (λ (x : Limits). starting_since (began first answered) l.bench ≤ 3 + needs_in run + registers_in (entries_in run (calls_in run)) / capacity x) same
-        (subst (λ (c : List Ask). starting_since (began first answered) l.bench ≤ 3 + needs_in run + registers_in (entries_in run c) / capacity a.bench.limits) calls
-        (subst (λ (n : ℕ). starting_since (began first answered) l.bench ≤ 3 + n + registers_in (entries a) / capacity a.bench.limits) points h.few)));
+        (subst (λ (x : Limits). starting_since (began first answered) l.bench ≤ 3 + needs_in run + registers_in (entries_in run (calls_in run)) / flight_capacity x) same
+        (subst (λ (c : List Ask). starting_since (began first answered) l.bench ≤ 3 + needs_in run + registers_in (entries_in run c) / flight_capacity a.bench.limits) calls
+        (subst (λ (n : ℕ). starting_since (began first answered) l.bench ≤ 3 + n + registers_in (entries a) / flight_capacity a.bench.limits) points h.few)));
     blocks = λ size ap_ address some next low two. since_load _ first.starting _ opening
         (subst (λ (x : Limits). starting_since (began first answered) l.bench ≤ 6 + (length (calls_in run) + block_words x - 1) / block_words x) same
         (subst (λ (c : List Ask). starting_since (began first answered) l.bench ≤ 6 + (length c + block_words a.bench.limits - 1) / block_words a.bench.limits) calls
@@ -140,7 +140,7 @@ module _ (access : AccessKind) (grows : JournalGrows access.journal) (settles : 
   few_if true true answered a l end seen same opening calls points h =
       is_few answered a l same opening calls (points refl) (subst (λ (o : Option BenchState). WhereObservable o (λ m. KeepsBounds (entries a) a (began first answered) m)) seen (h end))
 
-  is_whole : (a : AccessView) (l : Left) → IsAll whole (ran l.ended a.asks l.written) → IsOpen (entries a) a (began first None) l.bench → IsFewIf (is_bounded run) run l → IsWhole run l
+  is_whole : (a : AccessView) (l : Left) → IsAll whole (ran l.ended a.asks l.written) → StandsOpen (entries a) a (began first None) l.bench → IsFewIf (is_bounded run) run l → RunIsWhole run l
   is_whole a l all at few = record {
     variables = all.variables;
     units = all.units;
@@ -159,10 +159,10 @@ module _ (access : AccessKind) (grows : JournalGrows access.journal) (settles : 
 
   -- where more were asked, the outcome ends at its last call, and what was begun is not after that
   begun_own : (a : AccessView) (begun : ℕ) → SharesCalls a.asks.calls whole → s.StayWithin (target_of first.probe) a.asks.calls (take begun (entries a))
-      → length whole.calls < length a.asks.calls → AllByRecursion (IsWithin (length whole.calls)) (take begun (entries a))
+      → length whole.calls < length a.asks.calls → AllByRecursion (IsForFirstCalls (length whole.calls)) (take begun (entries a))
   begun_own a begun shares own more = by_end (ends_how (start_world (target_of first.probe) None) whole.ending whole.calls (followed_made (start_world (target_of first.probe) None) k before).ending)
     where
-      by_end : answers.IsWhole whole.ending ⊎ (call_stop (start_world (target_of first.probe) None) whole.calls ≡ Some (length whole.calls)) → AllByRecursion (IsWithin (length whole.calls)) (take begun (entries a))
+      by_end : answers.EndsWhole whole.ending ⊎ (call_stop (start_world (target_of first.probe) None) whole.calls ≡ Some (length whole.calls)) → AllByRecursion (IsForFirstCalls (length whole.calls)) (take begun (entries a))
       by_end (inl ends) = absurd (let few = few_asked a.asks.calls whole shares ends in omega (arith, few, more))
       by_end (inr stops) = own.so (length whole.calls) (asked_stop (start_world (target_of first.probe) None) a.asks.calls whole.calls (meets a.asks.calls whole shares) more stops)
 
@@ -171,10 +171,10 @@ module _ (access : AccessKind) (grows : JournalGrows access.journal) (settles : 
   shared_by a begun shares own le =
       begun_share access.journal grows settles (target_of first.probe) a.asks.calls whole.calls begun (meets a.asks.calls whole shares) le (begun_own a begun shares own)
 
-  is_front : (a : AccessView) (begun : ℕ) (l : Left) → IsPart whole (ran l.ended a.asks l.written) → Share begun (entries a) (all_entries run) → IsFront run begun l
+  is_front : (a : AccessView) (begun : ℕ) (l : Left) → IsPartOfOutcome whole (ran l.ended a.asks l.written) → Share begun (entries a) (all_entries run) → IsFront run begun l
   is_front a begun l part share = record { written = part.written; within = share.within }
 
-  is_left_off : (a : AccessView) (l : Left) → IsPart whole (ran l.ended a.asks l.written) → IsOpen (entries a) a (began first None) l.bench → IsLeftOff run l
+  is_left_off : (a : AccessView) (l : Left) → IsPartOfOutcome whole (ran l.ended a.asks l.written) → StandsOpen (entries a) a (began first None) l.bench → IsLeftOff run l
   is_left_off a l part at =
       let share = shared_by a a.confirmed part.calls at.own at.performed.within in
       record {
@@ -188,13 +188,13 @@ module _ (access : AccessKind) (grows : JournalGrows access.journal) (settles : 
 
   -- So it is in each world that is left, where it is neither done nor halted.
   abbrev IsPartThere : Ending → AccessView → Left → Type 0
-  IsPartThere ending a l = (n : Option ℕ) → IsLeft a n → (ComesToEnd ending → ⊥) → IsPart (followed.outcome_in (world_from first n) k before) (ran l.ended a.asks l.written)
+  IsPartThere ending a l = (n : Option ℕ) → IsLeft a n → (ComesToEnd ending → ⊥) → IsPartOfOutcome (followed.outcome_in_world (world_from first n) k before) (ran l.ended a.asks l.written)
 
   -- the calls that came are answered
   came_left : (issued confirmed : ℕ) (a : AccessView) → a.end ≡ Some (stop.BenchFault issued confirmed) → IsLeft a (Some a.came)
   came_left issued confirmed a end = record { so = subst (λ (x : Option Stop). IsLeftAt x a.lines a.came (Some a.came)) (sym end) (let le : a.came ≤ a.came = omega arith in le) }
 
-  is_broken : (issued confirmed : ℕ) (a : AccessView) (l : Left) → IsPart whole (ran l.ended a.asks l.written) → IsPart (outcome_with run a.came) (ran l.ended a.asks l.written)
+  is_broken : (issued confirmed : ℕ) (a : AccessView) (l : Left) → IsPartOfOutcome whole (ran l.ended a.asks l.written) → IsPartOfOutcome (outcome_with run a.came) (ran l.ended a.asks l.written)
       → s.IsBenchFault limits a.asks.calls a.came (entries a) issued confirmed (began first None) l.bench → IsBroken run issued confirmed l
   is_broken issued confirmed a l part short fault =
       let broken = fault.broken in
@@ -202,7 +202,7 @@ module _ (access : AccessKind) (grows : JournalGrows access.journal) (settles : 
       let count_within : broken.count ≤ broken.begun = count_begun (entries a) broken.count broken.begun (began first None) l.bench broken.target in
       let apart : confirmed ≤ issued = (let low = broken.low in let high = broken.high in let k = count_within in omega (arith, low, high, k)) in
       let share = shared_by a broken.begun part.calls fault.own begun_within in
-      let both : Common (entries a) (own_entries run) = in_common access.journal grows settles (target_of first.probe) a.asks.calls whole.calls (meets a.asks.calls whole part.calls) in
+      let both : Common (entries a) (entries_before_settling run) = in_common access.journal grows settles (target_of first.probe) a.asks.calls whole.calls (meets a.asks.calls whole part.calls) in
       let t0 : TargetState = target_of first.probe in
       let n : ℕ = grown_since (began first None) l.bench in
       record {
@@ -214,7 +214,7 @@ module _ (access : AccessKind) (grows : JournalGrows access.journal) (settles : 
         low = broken.low;
         high = broken.high;
         near = near_by limits (entries a) issued confirmed apart broken.within broken.together;
-        together = same_together limits (entries a) (own_entries run) confirmed issued both broken.within broken.together;
+        together = same_together limits (entries a) (entries_before_settling run) confirmed issued both broken.within broken.together;
         later = later_own access.journal grows settles t0 a.asks.calls whole.calls confirmed a.came (meets a.asks.calls whole part.calls) fault.asked (let within = broken.within in omega (arith, apart, within)) fault.later;
         good = passes_same t0 broken.begun (broken.begun - 1) (entries a) (all_entries run) (omega arith) share.same broken.good;
         least = work_least t0 (entries a) broken.count n broken.count_is (all_entries run) (first_same broken.count broken.begun (entries a) (all_entries run) count_within share.same);
@@ -311,7 +311,7 @@ module _ (access : AccessKind) (grows : JournalGrows access.journal) (settles : 
         confirmed = at.confirmed;
         retries = at.retries;
         over = at.over;
-        number = subst (λ (es : List Entry). number_of l.bench + 2 * commands_in es ≤ number_of first + 2 * grown_since (began first (Some a.lines)) l.bench + 1)
+        number = subst (λ (es : List Entry). transfer_number_of l.bench + 2 * commands_in es ≤ transfer_number_of first + 2 * grown_since (began first (Some a.lines)) l.bench + 1)
             (same_first r (entries a) (entries_in run (calls_in run)) meet one) at.number;
       }
 
@@ -332,11 +332,11 @@ module _ (access : AccessKind) (grows : JournalGrows access.journal) (settles : 
   -- where the outcome comes to its end
   retry_whole : (a : AccessView) (r : Report) (l : Left) → EndsAtCut r.cause a.lines (short a.lines) (ran l.ended a.asks l.written) → l.ended.skipped ≡ a.skipped
       → s.IsUnanswered (entries a) r a (began first (Some a.lines)) l.bench → HasMemory (target_of first.probe) a.asks.calls (units_made r.cause (entries a) r a.lines) a.lines l.bench
-      → answers.IsWhole (short a.lines).ending → short a.lines ≡ whole → IsRetryStop run r l
+      → answers.EndsWhole (short a.lines).ending → short a.lines ≡ whole → IsRetryStop run r l
   retry_whole a r l cut skipped at memory ends same =
       let n = names a r at.numbers in
       let shares : SharesCalls a.asks.calls whole = subst (λ (o : Outcome). SharesCalls a.asks.calls o) same cut.calls in
-      let fewer = few_asked a.asks.calls whole shares (subst (λ (o : Outcome). answers.IsWhole o.ending) same ends) in
+      let fewer = few_asked a.asks.calls whole shares (subst (λ (o : Outcome). answers.EndsWhole o.ending) same ends) in
       let c = covered_by a shares fewer in
       retry_in a r l cut skipped at
       (covered access.journal grows settles (target_of first.probe) r a.asks.calls whole.calls c at.numbers.named n.asked)
@@ -348,16 +348,16 @@ module _ (access : AccessKind) (grows : JournalGrows access.journal) (settles : 
       → s.IsUnanswered (entries a) r a (began first (Some a.lines)) l.bench → HasMemory (target_of first.probe) a.asks.calls (units_made r.cause (entries a) r a.lines) a.lines l.bench → IsRetryStop run r l
   is_retry_stop a r l cause cut skipped at memory = by_limit (limits_followed k.sequel a.lines k.program (target_of first.probe) before) (subst (λ (c : StopCause). StopsAfter c a.lines (short a.lines)) cause cut.stops)
     where
-      by_limit : laws.IsWhole a.lines whole (short a.lines) ⊎ IsCutShort a.lines whole (short a.lines) → StopsAfter NoAnswer a.lines (short a.lines) → IsRetryStop run r l
+      by_limit : laws.OutcomeIsWhole a.lines whole (short a.lines) ⊎ OutcomeIsCutShort a.lines whole (short a.lines) → StopsAfter NoAnswer a.lines (short a.lines) → IsRetryStop run r l
       by_limit (inl h) (inl stops) =
           let units = ap units_of h.same in let few = h.units in let many = stops.1 in absurd (omega (arith, units, few, many))
       by_limit (inl h) (inr stops) = retry_whole a r l cut skipped at memory stops.0 h.same
       by_limit (inr h) (inl stops) = retry_short a r l cut skipped at memory stops.1 h.calls
-      by_limit (inr h) (inr stops) = absurd (subst answers.IsWhole h.ending stops.0)
+      by_limit (inr h) (inr stops) = absurd (subst answers.EndsWhole h.ending stops.0)
 
   -- by the cause
   is_stop : (cause : StopCause) (a : AccessView) (r : Report) (l : Left) → cause ≡ r.cause
-      → EndsAtCut r.cause a.lines (followed.outcome_in (world_from first (answered_cut cause a.lines)) k before) (ran l.ended a.asks l.written) → l.ended.skipped ≡ a.skipped
+      → EndsAtCut r.cause a.lines (followed.outcome_in_world (world_from first (answered_cut cause a.lines)) k before) (ran l.ended a.asks l.written) → l.ended.skipped ≡ a.skipped
       → s.IsCutBy cause (entries a) r a (began first (answered_cut cause a.lines)) l.bench → (r.cause ≡ Faulted → r.unit ≡ a.lines + 1)
       → HasMemory (target_of first.probe) a.asks.calls (units_made r.cause (entries a) r a.lines) a.lines l.bench → IsStop cause run r l
   is_stop Faulted a r l is cut skipped at own memory = is_fault_stop a r l (sym is) cut skipped at (own (sym is)) memory
@@ -372,8 +372,8 @@ module _ (access : AccessKind) (grows : JournalGrows access.journal) (settles : 
 
   -- What a run leaves, by how it ended.
   pub leaves : (ending : Ending) (a : AccessView) (l : Left) → EndBy ending a.end → l.ended.skipped ≡ a.skipped → a.state ≡ Some l.bench → SendsFew ending a
-      → EndsAs ending a.lines (followed.outcome_in (world_from first (answered_by a)) k before) (ran l.ended a.asks l.written)
-      → IsPartThere ending a l → Stands access.journal a (began first (answered_by a)) → LeavesAs ending run l
+      → RunEndsAs ending a.lines (followed.outcome_in_world (world_from first (answered_by a)) k before) (ran l.ended a.asks l.written)
+      → IsPartThere ending a l → AccessStands access.journal a (began first (answered_by a)) → LeavesAs ending run l
   leaves e.Done a l end skipped seen few ends parts stands =
       let so = ends_at e.Done k a first before (ran l.ended a.asks l.written) None end ends in (
         so.0,
@@ -387,7 +387,7 @@ module _ (access : AccessKind) (grows : JournalGrows access.journal) (settles : 
             (few_if access.is_sparing (is_none k.sequel) (answered_by a) a l end seen few.limits_are few.opening so.1.calls (λ none. counted_needs a (all_needs (e.Halted cause) a end (few.points none))) few.bounds),
       )
   leaves (e.Cut r) a l end skipped seen few ends parts stands =
-      let at : s.IsCut (entries a) r a (began first (answered_cut r.cause a.lines)) l.bench = stands_at access.journal a first l.bench (Some (stop.Cut r)) end seen stands in
+      let at : s.StandsAtCut (entries a) r a (began first (answered_cut r.cause a.lines)) l.bench = stands_at access.journal a first l.bench (Some (stop.Cut r)) end seen stands in
       is_stop r.cause a r l refl (ends_at (e.Cut r) k a first before (ran l.ended a.asks l.written) (Some (stop.Cut r)) end ends) skipped at.stands at.own at.memory
   leaves (e.BenchFault issued confirmed) a l end skipped seen few ends parts stands =
       is_broken issued confirmed a l (ends_at (e.BenchFault issued confirmed) k a first before (ran l.ended a.asks l.written) (Some (stop.BenchFault issued confirmed)) end ends)
@@ -430,7 +430,7 @@ tried_target config job n (inr set) = subst (λ (t : TargetState). Agree t (star
 -- an access that did not begin
 pub not_begun : (access : AccessKind) (config : Config) (job : BenchJob) (k : Task) (before : Option (List ℕ)) (s : Stop) (old new : Seen) (sent got : List ℕ) (ended : Ended) (after : Option (List ℕ))
     → old.state ≡ Some (fresh job) → MayBegin (fresh job) → IsNotBegun config old new s sent got → ended.ending ≡ ending_of s → after ≡ before
-    → (n : BenchState) × (new.state ≡ Some n) × ComesTo access config job k before (record { ended = ended; written = after; bench = n })
+    → (n : BenchState) × (new.state ≡ Some n) × JobComesTo access config job k before (record { ended = ended; written = after; bench = n })
 not_begun access config job k before s old new sent got ended after is may h ending same =
     let seen = still_seen (λ m n. MayBegin m → HasTried config m n) (fresh job) old.state new.state is h.tried in
     let tried : HasTried config (fresh job) seen.0 = seen.2 may in
@@ -450,25 +450,25 @@ where_seen (Some n) P h = (n, refl)
 
 -- what a run answers, by what was known before
 abbrev EndsOf : Task → BenchState → AccessView → Ended → Option (List ℕ) → Option (List ℕ) → Type 0
-EndsOf k first a ended before after = EndsAs ended.ending a.lines (followed.outcome_in (world_from first (answered_by a)) k before) (ran ended a.asks after)
+EndsOf k first a ended before after = RunEndsAs ended.ending a.lines (followed.outcome_in_world (world_from first (answered_by a)) k before) (ran ended a.asks after)
 
 -- what it wrote in a world that is left
 abbrev PartOf : Task → BenchState → Option ℕ → AccessView → Ended → Option (List ℕ) → Option (List ℕ) → Type 0
-PartOf k first n a ended before after = IsPart (followed.outcome_in (world_from first n) k before) (ran ended a.asks after)
+PartOf k first n a ended before after = IsPartOfOutcome (followed.outcome_in_world (world_from first n) k before) (ran ended a.asks after)
 
 -- where it began
 abbrev began_at : Config → BenchJob → BenchState
 began_at config job = opened_bench config (fresh job)
 
 -- a run over an access that began
-pub opened_run : (access : AccessKind) → JournalGrows access.journal → JournalSettles access.journal → (config : Config) (job : BenchJob) (k : Task) (before mid : Option (List ℕ)) (a : AccessView) (ended : Ended)
-    → (Stands access.journal a (began (began_at config job) (answered_by a))
+pub opened_run : (access : AccessKind) → JournalGoesOn access.journal → JournalSettles access.journal → (config : Config) (job : BenchJob) (k : Task) (before mid : Option (List ℕ)) (a : AccessView) (ended : Ended)
+    → (AccessStands access.journal a (began (began_at config job) (answered_by a))
     × ((known : Bool) → Knows known before → EndsOf k (began_at config job) a ended (known_part known before) (known_part known mid))
     × ((known : Bool) → Knows known before → is_none k.sequel ≡ true → HasNeeds ended.ending a.asks (late_meaning access.cost (world_from (began_at config job) (answered_by a)) k.program (known_part known before)))
     × KeepsBoundsIf access.is_sparing (access.journal (target_of (began_at config job).probe) a.asks.calls) a (began (began_at config job) (answered_by a))
     × ((n : Option ℕ) (known : Bool) → IsLeft a n → Knows known before → (ComesToEnd ended.ending → ⊥) → PartOf k (began_at config job) n a ended (known_part known before) (known_part known mid)))
     → EndBy ended.ending a.end → ended.skipped ≡ a.skipped → a.bench.limits ≡ job.limits
-    → (n : BenchState) × (a.state ≡ Some n) × ComesTo access config job k before (record { ended = ended; written = known_after before mid; bench = n })
+    → (n : BenchState) × (a.state ≡ Some n) × JobComesTo access config job k before (record { ended = ended; written = known_after before mid; bench = n })
 opened_run access grows settles config job k before mid a ended h end skipped limits_are =
     let first : BenchState = began_at config job in
     let seen = where_seen a.state (λ m. StandsAt a.end (access.journal (target_of first.probe) a.asks.calls) a (began first (answered_by a)) m) h.0 in

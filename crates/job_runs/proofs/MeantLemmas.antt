@@ -5,7 +5,7 @@ use Rattle.std.specs.Prelude.{slice_index}
 use Rattle.std.proofs.lemmas.Bool.{cases_lt}
 use Rattle.std.proofs.lemmas.List.Elements.{All-get_or}
 use Rattle.std.proofs.lemmas.List.{get_or_past}
-use Rattle.access_calls.specs.Standing.{setting_of}
+use Rattle.access_calls.specs.Standing.{transfer_setting_of}
 use Rattle.probe_core.specs.Probe.{ended_retries_of}
 use Rattle.access_calls.specs.declared.ended.Ending.{Ending}
 use Rattle.access_calls.specs.declared.ended.Ending.TheVariants as e
@@ -13,12 +13,12 @@ use Rattle.access_calls.specs.declared.stop.Report.{Report}
 use Rattle.access_calls.specs.declared.stop.StopCause.{StopCause}
 use Rattle.access_calls.specs.declared.stop.StopCause.TheVariants.{Faulted, NoAnswer}
 use Rattle.control_flow.specs.Answers as answers
-use Rattle.control_flow.specs.Answers.{IsFaulted, StopsAfter}
+use Rattle.control_flow.specs.Answers.{EndsAtFault, StopsAfter}
 use Rattle.sequence_rules.specs.Runs as runs
 use Rattle.job_runs.specs.Meant.{EndsAsMeant, FailedOutside, IsSameEnd}
-use Rattle.job_runs.specs.Runs.{IsFaultStop, IsRetryStop, IsStop, IsWhole, Left, LeavesAs, Run, outcome_in}
+use Rattle.job_runs.specs.Runs.{IsFaultStop, IsRetryStop, IsStop, RunIsWhole, Left, LeavesAs, Run, outcome_in}
 
-not_both : (o : runs.Ending) → answers.IsWhole o → IsFaulted o → ⊥
+not_both : (o : runs.Ending) → answers.EndsWhole o → EndsAtFault o → ⊥
 not_both runs.Done w f = f
 not_both (runs.Halted cause) w f = f
 not_both (runs.Faulted call) w f = w
@@ -37,10 +37,10 @@ within retry stalls place all over = by_place (cases_lt place (length stalls))
     by_place (inr ge) = (let none : slice_index stalls place ≡ 0 = get_or_past stalls place 0 ge in omega (arith, none, over))
 
 -- a run that is whole
-when_whole : (run : Run) (l : Left) (o : runs.Ending) → (outcome_in run).ending ≡ o → IsSameEnd o l.ended.ending → (IsFaulted o → ⊥) → IsWhole run l → EndsAsMeant run l
+when_whole : (run : Run) (l : Left) (o : runs.Ending) → (outcome_in run).ending ≡ o → IsSameEnd o l.ended.ending → (EndsAtFault o → ⊥) → RunIsWhole run l → EndsAsMeant run l
 when_whole run l o is same none whole = record {
   whole = λ w n. (subst (λ (x : runs.Ending). IsSameEnd x l.ended.ending) (sym is) same, whole);
-  faulted = λ f n. absurd (none (subst IsFaulted is f));
+  faulted = λ f n. absurd (none (subst EndsAtFault is f));
   unanswered = λ some. absurd (some whole.retries);
   none_over = λ all. whole.retries;
 }
@@ -60,7 +60,7 @@ when_unanswered run l r cause is stop = record {
   whole = λ w n. absurd (one_more (ended_retries_of l.bench.probe) (ended_retries_of run.first.probe) stop.retries n);
   faulted = λ f n. absurd (one_more (ended_retries_of l.bench.probe) (ended_retries_of run.first.probe) stop.retries n);
   unanswered = λ some. record { report = r; ending = is; cause = cause; stop = stop };
-  none_over = λ all. absurd (within (setting_of run.first).retry (setting_of run.first).stalls stop.over.0 all stop.over.2);
+  none_over = λ all. absurd (within (transfer_setting_of run.first).retry (transfer_setting_of run.first).stalls stop.over.0 all stop.over.2);
 }
 
 when_stopped : (cause : StopCause) (run : Run) (l : Left) (r : Report) → r.cause ≡ cause → l.ended.ending ≡ e.Cut r → IsStop cause run r l → EndsAsMeant run l

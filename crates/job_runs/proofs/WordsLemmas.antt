@@ -15,7 +15,7 @@ use Rattle.sequels.specs.Limits.{GoesOnFrom}
 use Rattle.sequence_rules.specs.Runs.{Outcome}
 use Rattle.followed_runs.specs.Followed.{Task, task_outcome, task_within}
 use Rattle.followed_runs.specs.Laws as laws
-use Rattle.followed_runs.specs.Laws.{IsCutShort}
+use Rattle.followed_runs.specs.Laws.{OutcomeIsCutShort}
 use Rattle.followed_runs.proofs.FollowLemmas.{limits_followed}
 use Rattle.followed_runs.proofs.MadeLemmas.{followed_made}
 use Rattle.job_runs.proofs.FrontLemmas.{Meets, beyond, within}
@@ -58,7 +58,7 @@ after_meets t n asked calls (beyond g) few enough = after_from t n calls asked g
 pub short_target : (k : Task) (t : TargetState) (before : Option (List ℕ)) (n : ℕ) → (task_within n k t before).target ≡ (world_after (start_world t (Some n)) (task_outcome k t before).calls).target
 short_target k t before n = (followed_made (start_world t (Some n)) k before).target ∙ by_limit (limits_followed k.sequel n k.program t before)
   where
-    by_limit : laws.IsWhole n (task_outcome k t before) (task_within n k t before) ⊎ IsCutShort n (task_outcome k t before) (task_within n k t before)
+    by_limit : laws.OutcomeIsWhole n (task_outcome k t before) (task_within n k t before) ⊎ OutcomeIsCutShort n (task_outcome k t before) (task_within n k t before)
         → (world_after (start_world t (Some n)) (task_within n k t before).calls).target ≡ (world_after (start_world t (Some n)) (task_outcome k t before).calls).target
     by_limit (inl h) = ap (λ (o : Outcome). (world_after (start_world t (Some n)) o.calls).target) h.same
     by_limit (inr h) = sym (after_from t n (task_within n k t before).calls (task_outcome k t before).calls h.calls (let u = h.units in omega (arith, u)))

@@ -16,27 +16,37 @@ use Rattle.target_calls.specs.Journal.{Entry, Passes, first_fault, target_after}
 use Rattle.target_calls.specs.NeedPoints.{Costs}
 use Rattle.target_calls.specs.Weights.{commands_in, registers_in, weight_in}
 use Rattle.target_calls.specs.declared.calls.Ask.{Ask}
-use Rattle.access_calls.specs.Bounds.{AreNextWrites, block_words, capacity}
+use Rattle.access_calls.specs.Bounds.{AreNextWrites, block_words, flight_capacity}
 use Rattle.access_calls.specs.Growing.{IsAfter}
 use Rattle.access_calls.specs.Made.{units_made}
 use Rattle.access_calls.specs.Numbers.{HasNumbers}
 use Rattle.access_calls.specs.Reported.{Beginning, began, start_of}
-use Rattle.access_calls.specs.Standing.{AreTogether, IsAfterPart, IsOver, flight_accesses, grown_since, idle_cycles_of, number_of, pending_of, setting_of}
+use Rattle.access_calls.specs.Standing.{
+  AreTogether,
+  IsAfterPart,
+  RetryIsOver,
+  flight_accesses,
+  grown_since,
+  idle_cycles_of,
+  pending_of,
+  transfer_number_of,
+  transfer_setting_of,
+}
 use Rattle.access_calls.specs.declared.ended.Ended.{Ended}
 use Rattle.access_calls.specs.declared.ended.Ending.{Ending}
 use Rattle.access_calls.specs.declared.ended.Ending.TheVariants as e
 use Rattle.access_calls.specs.declared.stop.Report.{Report}
 use Rattle.access_calls.specs.declared.stop.StopCause.{StopCause}
 use Rattle.access_calls.specs.declared.stop.StopCause.TheVariants.{Faulted, NoAnswer}
-use Rattle.control_flow.specs.Answers.{IsWhole as IsWholeEnd, StopsAfter}
+use Rattle.control_flow.specs.Answers.{EndsWhole as IsWholeEnd, StopsAfter}
 use Rattle.job_check.specs.declared.running.ValidRun.{ValidRun}
 use Rattle.job_text.specs.Ranges.{AreSettings}
-use Rattle.access_calls.specs.Opening.{HasTried, IsIdle, opened_bench}
+use Rattle.access_calls.specs.Opening.{BenchIsIdle, HasTried, opened_bench}
 use Rattle.sequence_rules.specs.Late.{Grows}
 use Rattle.sequence_rules.specs.Runs as runs
 use Rattle.seq_check.specs.Answers.{checked_trees}
 use Rattle.sequence_rules.specs.Runs.{Outcome, Program, needs, program_of, units_of, variables_of}
-use Rattle.followed_runs.specs.Followed.{Task, alone, task_close, task_outcome, task_within}
+use Rattle.followed_runs.specs.Followed.{Task, task_alone, task_close, task_outcome, task_within}
 use Rattle.sequels.specs.declared.close.Close.{Close}
 use Rattle.sequels.specs.Sequel.{Sequel}
 
@@ -78,8 +88,8 @@ abbrev pub config_of : Settings → Config
 config_of settings = record { idle = settings.idle; retry = settings.retry }
 
 -- A run of a job over its bench, which was just loaded: the access counts from the state after the load with the settings of the run.
-abbrev pub run_of : AccessKind → Config → BenchJob → Task → Option (List ℕ) → Run
-run_of access config job k before =
+abbrev pub run_after_load : AccessKind → Config → BenchJob → Task → Option (List ℕ) → Run
+run_after_load access config job k before =
     record { access = access; limits = job.limits; task = k; first = opened_bench config (fresh job); before = before }
 
 -- the program of a job and a sequence
@@ -88,7 +98,7 @@ program_in r sequence = program_of (checked_trees r.trees) sequence r.job.settin
 
 -- what is run of them: nothing follows the program
 abbrev pub task_in : ValidRun → List ℕ → Task
-task_in r sequence = alone (program_in r sequence)
+task_in r sequence = task_alone (program_in r sequence)
 
 -- the program with what follows it
 abbrev pub task_with : ValidRun → List ℕ → Option (Sequel Close) → Task
@@ -104,20 +114,20 @@ known_after None new = None
 known_after (Some old) new = new
 
 -- the target on which a run begins
-abbrev pub target_in : Run → TargetState
-target_in run = target_of run.first.probe
+abbrev pub start_target_in : Run → TargetState
+start_target_in run = target_of run.first.probe
 
 -- what the run means: each unit made alone and at once, and all are answered
 abbrev pub outcome_in : Run → Outcome
-outcome_in run = task_outcome run.task (target_in run) run.before
+outcome_in run = task_outcome run.task (start_target_in run) run.before
 
 -- the same where only so many units are answered
 abbrev pub outcome_with : Run → ℕ → Outcome
-outcome_with run m = task_within m run.task (target_in run) run.before
+outcome_with run m = task_within m run.task (start_target_in run) run.before
 
 -- the journal of calls, from the first target
 abbrev pub entries_in : Run → List Ask → List Entry
-entries_in run calls = run.access.journal (target_in run) calls
+entries_in run calls = run.access.journal (start_target_in run) calls
 
 -- the calls of the whole outcome, which are settled after the last
 abbrev pub calls_in : Run → List Ask
@@ -135,13 +145,13 @@ KeepsIdleCycles run l = idle_cycles_of l.bench ≡ idle_cycles_of run.first
 
 -- how many need points its program has, one of them at its end
 abbrev pub needs_in : Run → ℕ
-needs_in run = needs run.access.cost run.task.program (target_in run)
+needs_in run = needs run.access.cost run.task.program (start_target_in run)
 
 -- The starting packets since the load are few: at most three for the opening, one for each need point, and k / c for k register accesses. Here a
 -- flight holds c of them. Let all calls be writes at neighbouring addresses of one block of 1,024 bytes below 2^32, one at least, with at most
 -- two need points. Then there are at most six more than the blocks of writes that hold them.
-pub record IsFew (run : Run) (l : Left) : Type 0 where
-  pub few : l.bench.starting ≤ 3 + needs_in run + registers_in (entries_in run (calls_in run)) / capacity run.limits
+pub record HasFewPackets (run : Run) (l : Left) : Type 0 where
+  pub few : l.bench.starting ≤ 3 + needs_in run + registers_in (entries_in run (calls_in run)) / flight_capacity run.limits
   pub blocks : (size ap address : ℕ) → 0 < length (calls_in run) → AreNextWrites (address / 1024) size ap address (calls_in run)
       → address < 2 ^ 32 → needs_in run ≤ 2
       → l.bench.starting ≤ 6 + (length (calls_in run) + block_words run.limits - 1) / block_words run.limits
@@ -153,13 +163,13 @@ is_bounded run = run.access.is_sparing && is_none run.task.sequel
 -- a run that is bounded sends few starting packets
 abbrev pub IsFewIf : Bool → Run → Left → Type 0
 IsFewIf false run l = ⊤
-IsFewIf true run l = IsFew run l
+IsFewIf true run l = HasFewPackets run l
 
 -- ---- done or halted
 
 -- The run came to the end of what it means: with the same variables, units, skipped units and lines, and the target agrees. No
 -- retry ended, the idle cycles of the probe are those of the beginning, and the packets were few.
-pub record IsWhole (run : Run) (l : Left) : Type 0 where
+pub record RunIsWhole (run : Run) (l : Left) : Type 0 where
   pub variables : variables_of l.ended.variables ≡ (outcome_in run).variables
   pub units : l.ended.units ≡ units_of (outcome_in run)
   pub skipped : l.ended.skipped ≡ (outcome_in run).skipped
@@ -173,7 +183,7 @@ pub record IsWhole (run : Run) (l : Left) : Type 0 where
 
 -- Exactly the entries that the report counts were performed: the target agrees with the one after them. The probe's work has grown by what
 -- they weigh, and by no more, except for a part of the entry that the report names, where that one was not performed.
-pub record HasMade (entries : List Entry) (r : Report) (b : Beginning) (m : BenchState) : Type 0 where
+pub record HasMadeEntries (entries : List Entry) (r : Report) (b : Beginning) (m : BenchState) : Type 0 where
   pub low : weight_in (start_of b) (take r.accesses entries) ≤ grown_since b m
   pub high : grown_since b m ≤ weight_in (start_of b) (take (r.confirmed + 1) entries)
   pub part : r.accesses ≡ r.confirmed → grown_since b m < weight_in (start_of b) (take (r.confirmed + 1) entries)
@@ -186,7 +196,7 @@ pub record HasStopped (run : Run) (answered : Option ℕ) (o : Outcome) (calls :
   pub stops : StopsAfter r.cause lines o
   pub written : l.written ≡ o.written
   pub numbers : HasNumbers (entries_in run calls) calls l.ended.skipped lines r
-  pub performed : HasMade (entries_in run calls) r (began run.first answered) l.bench
+  pub performed : HasMadeEntries (entries_in run calls) r (began run.first answered) l.bench
   pub idle_cycles : KeepsIdleCycles run l
   pub words : (target_of l.bench.probe).words ≡ (outcome_with run (units_made r.cause (entries_in run calls) r lines)).target.words
 
@@ -196,7 +206,7 @@ pub record IsFaultStop (run : Run) (r : Report) (l : Left) : Type 0 where
   pub lines : ℕ
   pub stopped : HasStopped run None (outcome_in run) (calls_in run) lines r l
   pub unit : r.unit ≡ units_of (outcome_in run)
-  pub fault : first_fault (target_in run) (entries_in run (calls_in run)) ≡ Some r.accesses
+  pub fault : first_fault (start_target_in run) (entries_in run (calls_in run)) ≡ Some r.accesses
   pub confirmed : r.accesses ≡ r.confirmed + 1
   pub retries : NoneEnded run l
 
@@ -208,9 +218,9 @@ pub record IsRetryStop (run : Run) (r : Report) (l : Left) : Type 0 where
   pub stopped : HasStopped run (Some lines) (outcome_with run lines) (calls_in run) lines r l
   pub confirmed : r.accesses ≡ r.confirmed + one_if (pending_of l.bench)
   pub retries : ended_retries_of l.bench.probe ≡ ended_retries_of run.first.probe + 1
-  pub over : IsOver (setting_of run.first) (number_of l.bench)
-  pub number : number_of l.bench + 2 * commands_in (take r.accesses (entries_in run (calls_in run)))
-      ≤ number_of run.first + 2 * grown_since (began run.first (Some lines)) l.bench + 1
+  pub over : RetryIsOver (transfer_setting_of run.first) (transfer_number_of l.bench)
+  pub number : transfer_number_of l.bench + 2 * commands_in (take r.accesses (entries_in run (calls_in run)))
+      ≤ transfer_number_of run.first + 2 * grown_since (began run.first (Some lines)) l.bench + 1
 
 -- by the cause
 abbrev pub IsStop : StopCause → Run → Report → Left → Type 0
@@ -220,8 +230,8 @@ IsStop NoAnswer run r l = IsRetryStop run r l
 -- ---- left off
 
 -- the journal of the outcome's calls, without what settles the last of them
-abbrev pub own_entries : Run → List Entry
-own_entries run = entries_in run (outcome_in run).calls
+abbrev pub entries_before_settling : Run → List Entry
+entries_before_settling run = entries_in run (outcome_in run).calls
 
 -- the whole of it, with that
 abbrev pub all_entries : Run → List Entry
@@ -252,12 +262,12 @@ pub record IsBroken (run : Run) (issued confirmed : ℕ) (l : Left) : Type 0 whe
   pub low : confirmed ≤ count
   pub high : begun ≤ issued
   pub near : issued ≤ confirmed + max 1 (flight_accesses run.limits)
-  pub together : AreTogether run.limits (drop confirmed (take issued (own_entries run)))
-  pub later : IfSome (slice_get (own_entries run) confirmed) (IsAfter came)
-  pub good : Passes (target_in run) (take (begun - 1) (all_entries run))
-  pub least : weight_in (target_in run) (take count (all_entries run)) ≤ work_in run l
-  pub most : work_in run l ≤ weight_in (target_in run) (take begun (all_entries run))
-  pub part : count < begun → work_in run l < weight_in (target_in run) (take begun (all_entries run))
+  pub together : AreTogether run.limits (drop confirmed (take issued (entries_before_settling run)))
+  pub later : IfSome (slice_get (entries_before_settling run) confirmed) (IsAfter came)
+  pub good : Passes (start_target_in run) (take (begun - 1) (all_entries run))
+  pub least : weight_in (start_target_in run) (take count (all_entries run)) ≤ work_in run l
+  pub most : work_in run l ≤ weight_in (start_target_in run) (take begun (all_entries run))
+  pub part : count < begun → work_in run l < weight_in (start_target_in run) (take begun (all_entries run))
   pub whole : IsWholeEnd (outcome_in run).ending → issued ≤ length (all_entries run)
   pub idle_cycles : KeepsIdleCycles run l
   pub target : IsAfterPart (all_entries run) count begun (began run.first None) l.bench
@@ -267,8 +277,8 @@ pub record IsBroken (run : Run) (issued confirmed : ℕ) (l : Left) : Type 0 whe
 pub record IsLeftOff (run : Run) (l : Left) : Type 0 where
   pub sent : ℕ
   pub front : IsFront run sent l
-  pub work : work_in run l ≡ weight_in (target_in run) (take sent (all_entries run))
-  pub target : Agree (target_of l.bench.probe) (target_after (target_in run) (take sent (all_entries run)))
+  pub work : work_in run l ≡ weight_in (start_target_in run) (take sent (all_entries run))
+  pub target : Agree (target_of l.bench.probe) (target_after (start_target_in run) (take sent (all_entries run)))
   pub retries : NoneEnded run l
   pub idle_cycles : KeepsIdleCycles run l
 
@@ -276,8 +286,8 @@ pub record IsLeftOff (run : Run) (l : Left) : Type 0 where
 
 -- What a run leaves, by how it ended. An observable bench gives no bad reply.
 abbrev pub LeavesAs : Ending → Run → Left → Type 0
-LeavesAs e.Done run l = ((outcome_in run).ending ≡ runs.Done) × IsWhole run l
-LeavesAs (e.Halted cause) run l = ((outcome_in run).ending ≡ runs.Halted cause) × IsWhole run l
+LeavesAs e.Done run l = ((outcome_in run).ending ≡ runs.Done) × RunIsWhole run l
+LeavesAs (e.Halted cause) run l = ((outcome_in run).ending ≡ runs.Halted cause) × RunIsWhole run l
 LeavesAs (e.Cut r) run l = IsStop r.cause run r l
 LeavesAs (e.BenchFault issued confirmed) run l = IsBroken run issued confirmed l
 LeavesAs e.ReplyBad run l = ⊥
@@ -300,14 +310,14 @@ pub record IsNotOpened (config : Config) (job : BenchJob) (before : Option (List
   pub target : Agree (target_of l.bench.probe) (start job.target)
 
 -- What a run of a job with these settings comes to over a bench that was just loaded.
-pub data ComesTo (access : AccessKind) (config : Config) (job : BenchJob) (k : Task) (before : Option (List ℕ)) (l : Left) : Type 0 where
-  not_opened : IsNotOpened config job before l → ComesTo access config job k before l
-  opened : LeavesAs l.ended.ending (run_of access config job k before) l → ComesTo access config job k before l
+pub data JobComesTo (access : AccessKind) (config : Config) (job : BenchJob) (k : Task) (before : Option (List ℕ)) (l : Left) : Type 0 where
+  not_opened : IsNotOpened config job before l → JobComesTo access config job k before l
+  opened : LeavesAs l.ended.ending (run_after_load access config job k before) l → JobComesTo access config job k before l
 
 -- A run may begin over a bench that reports this. No packet is held and no reply waits, the limits are those of the job, and the numbers of the job
 -- are in their ranges.
 pub record MayRun (run : ValidRun) (reported : Reported) : Type 0 where
-  pub idle : IsIdle reported
+  pub idle : BenchIsIdle reported
   pub limits : run.job.bench.limits ≡ reported.limits
   pub settings : AreSettings run.job.settings
   pub job : IsBenchJob run.job.bench

@@ -3,12 +3,12 @@ ghost use Rattle.std.specs.Prelude.{◌≡◌, ◌≤◌, Some, take};
 ghost use Rattle.probe_core.specs.Bench.{BenchState, fresh, seen};
 ghost use Rattle.access_calls.specs.Endings.{ending_of};
 ghost use Rattle.access_calls.specs.declared.ended.Ending.TheVariants as ends;
-ghost use Rattle.control_flow.specs.Answers.{HasLines, HasSinkCause};
+ghost use Rattle.control_flow.specs.Answers.{HasLines, RunHasSinkCause};
 ghost use Rattle.access_calls.specs.Causes.{code_of_cause};
 ghost use Rattle.access_calls.specs.declared.stop.Report.{Report};
 ghost use Rattle.job_runs.specs.Ends.{HasBenchCause, HasGotResponse};
 ghost use Rattle.access_calls.specs.Opening.{GoesOnTo, HasBadReply};
-ghost use Rattle.job_runs.specs.Runs.{ComesTo, MayRun, access_kind, config_of, job_close, known_after, task_in, task_with};
+ghost use Rattle.job_runs.specs.Runs.{JobComesTo, MayRun, access_kind, config_of, job_close, known_after, task_in, task_with};
 ghost use Rattle.task_runs.specs.Tasks.{ClosesAs, sequel_of};
 
 use crate::kept::Kept;
@@ -96,7 +96,7 @@ pub fn run_whole<B: Bench, K: Sink, A: OverBench<B>>(
     // What it comes to over an observable bench that was just loaded.
     ensures run { B.state bench ≡ Some (fresh run_of.now.job.bench)
         → (n : BenchState) × (B.state result.bench ≡ Some n)
-        × ComesTo (access_kind A.Access.journal A.Access.cost A.Access.is_sparing)
+        × JobComesTo (access_kind A.Access.journal A.Access.cost A.Access.is_sparing)
         (config_of run_of.now.job.settings) run_of.now.job.bench (task_with run_of.now sequence.now (sequel_of followed.now)) (K.written sink.old)
         (record { ended = result.ended; written = known_after (K.written sink.old) (K.written sink.new); bench = n }) }
     // And how what follows came to its end.
@@ -111,7 +111,7 @@ pub fn run_whole<B: Bench, K: Sink, A: OverBench<B>>(
     ensures identity { B.identity result.bench ≡ B.identity bench }
     // Each fault has its cause.
     ensures bench { HasBenchCause result.ended.ending (B.reported bench).faults (B.reported result.bench).faults }
-    ensures sink { HasSinkCause result.ended.ending (K.faults sink.old) (K.faults sink.new) }
+    ensures sink { RunHasSinkCause result.ended.ending (K.faults sink.old) (K.faults sink.new) }
     // Whole lines were written, except perhaps where the sink failed.
     ensures lines { HasLines result.ended.ending (K.written sink.old) (K.written sink.new) }
     ensures cut { (report : Report) → result.ended.ending ≡ ends.Cut report → HasGotResponse (code_of_cause report.cause) (B.reported bench) (B.reported result.bench) }
@@ -166,7 +166,7 @@ pub fn run_on<B: Bench, K: Sink, A: OverBench<B>>(
     // What it comes to over an observable bench that was just loaded.
     ensures run { B.state bench ≡ Some (fresh run_of.now.job.bench)
         → (n : BenchState) × (B.state result.bench ≡ Some n)
-        × ComesTo (access_kind A.Access.journal A.Access.cost A.Access.is_sparing)
+        × JobComesTo (access_kind A.Access.journal A.Access.cost A.Access.is_sparing)
         (config_of run_of.now.job.settings) run_of.now.job.bench (task_in run_of.now sequence.now) (K.written sink.old)
         (record { ended = result.ended; written = known_after (K.written sink.old) (K.written sink.new); bench = n }) }
     ensures close { result.close ≡ Close.Nothing }
@@ -175,7 +175,7 @@ pub fn run_on<B: Bench, K: Sink, A: OverBench<B>>(
     ensures identity { B.identity result.bench ≡ B.identity bench }
     // Each fault has its cause.
     ensures bench { HasBenchCause result.ended.ending (B.reported bench).faults (B.reported result.bench).faults }
-    ensures sink { HasSinkCause result.ended.ending (K.faults sink.old) (K.faults sink.new) }
+    ensures sink { RunHasSinkCause result.ended.ending (K.faults sink.old) (K.faults sink.new) }
     // Whole lines were written, except perhaps where the sink failed.
     ensures lines { HasLines result.ended.ending (K.written sink.old) (K.written sink.new) }
     ensures cut { (report : Report) → result.ended.ending ≡ ends.Cut report → HasGotResponse (code_of_cause report.cause) (B.reported bench) (B.reported result.bench) }

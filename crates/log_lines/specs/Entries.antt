@@ -6,9 +6,9 @@ use Rattle.sequence_trees.specs.declared.spot.Part.TheVariants as part
 use Rattle.sequence_trees.specs.declared.spot.Spot.{Spot}
 use Rattle.run_events.specs.Events as e
 use Rattle.run_events.specs.Events.{Event}
-use Rattle.run_events.specs.OfSteps.{place_of}
+use Rattle.run_events.specs.OfSteps.{statement_place}
 use Rattle.log_lines.specs.LogText.{event_line}
-use Rattle.log_lines.specs.Places.{condition_spot, debug_spot, spot_in}
+use Rattle.log_lines.specs.Places.{condition_spot, debug_spot, spot_in_step}
 use Rattle.log_lines.specs.declared.entries.LogEntry.{LogEntry}
 use Rattle.log_lines.specs.declared.entries.LogEvent.{LogEvent}
 use Rattle.log_lines.specs.declared.entries.LogEvent.TheVariants as l
@@ -19,8 +19,9 @@ no_spot = record { sequence = None; path = []; part = part.Debugvars; place = re
 
 -- the event that is held, with no place where its line has none
 abbrev pub event_of : LogEvent → Event
-event_of (l.Begins step statement) = e.Begins (spot_in step.sequence.now step.path.items part.Block (place_of (stmt_tree statement.now))) (stmt_tree statement.now)
-event_of (l.Declares statement) = e.Begins (debug_spot (place_of (stmt_tree statement.now))) (stmt_tree statement.now)
+event_of (l.Begins step statement) =
+    e.Begins (spot_in_step step.sequence.now step.path.items part.Block (statement_place (stmt_tree statement.now))) (stmt_tree statement.now)
+event_of (l.Declares statement) = e.Begins (debug_spot (statement_place (stmt_tree statement.now))) (stmt_tree statement.now)
 event_of (l.Tests step expr) = e.Tests (condition_spot step.sequence.now step.path.items part.If) (tree expr.now)
 event_of (l.Chooses value) = e.Chooses no_spot value
 event_of (l.Loops step expr turns) = e.Loops (condition_spot step.sequence.now step.path.items part.While) (tree expr.now) turns
@@ -36,5 +37,5 @@ event_of (l.Calls name) = e.Calls name.now
 event_of l.Returns = e.Returns
 
 -- the line of an event where it is noted
-abbrev pub entry_line : LogEntry → List ℕ
-entry_line entry = event_line entry.depth (event_of entry.event)
+abbrev pub log_entry_line : LogEntry → List ℕ
+log_entry_line entry = event_line entry.depth (event_of entry.event)

@@ -10,18 +10,18 @@ pub record LogLines : Type 0 where
   pub depth : ℕ
 
 -- the log after an event
-abbrev pub listed : LogLines → Event → LogLines
-listed log e = record { lines = log.lines ++ event_line log.depth e ∷ []; depth = depth_after log.depth e }
+abbrev pub lines_after_event : LogLines → Event → LogLines
+lines_after_event log e = record { lines = log.lines ++ event_line log.depth e ∷ []; depth = depth_after log.depth e }
 
 -- The event was noted; where memory was refused, the log is as it was.
 abbrev pub Lists : LogLines → LogLines → Result (Unit {0}) OutOfMemory → Event → Type 0
-Lists old new (Ok done) e = new ≡ listed old e
+Lists old new (Ok done) e = new ≡ lines_after_event old e
 Lists old new (Err refused) e = new ≡ old
 
 -- the log after events
-abbrev pub listed_all : LogLines → List Event → LogLines
-listed_all log events = fold listed log events
+abbrev pub lines_after_events : LogLines → List Event → LogLines
+lines_after_events log events = fold lines_after_event log events
 
 -- its text
-abbrev pub written : LogLines → LogText
-written log = record { text = flat_map (λ line. line) log.lines; depth = log.depth }
+abbrev pub text_of_lines : LogLines → LogText
+text_of_lines log = record { text = flat_map (λ line. line) log.lines; depth = log.depth }

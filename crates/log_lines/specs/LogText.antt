@@ -13,8 +13,8 @@ margin zero = []
 margin (suc depth) = codes "  " ++ margin depth
 
 -- a line of what begins, in a sequence so deep
-abbrev pub head_line : ℕ → List ℕ → List ℕ
-head_line depth text = margin depth ++ text ++ codes "\n"
+abbrev pub opening_line : ℕ → List ℕ → List ℕ
+opening_line depth text = margin depth ++ text ++ codes "\n"
 
 -- a line below what began
 abbrev pub below_line : ℕ → List ℕ → List ℕ
@@ -30,10 +30,10 @@ chosen_text n = if nat_eq n 0 then codes ", skipped" else codes ", taken"
 
 -- the line of an event, in a sequence so deep
 abbrev pub event_line : ℕ → Event → List ℕ
-event_line depth (Begins spot st) = head_line depth (spot_words spot ++ codes "  " ++ stmt_text st)
-event_line depth (Tests spot e) = head_line depth (spot_words spot ++ codes "  " ++ expr_text e)
+event_line depth (Begins spot st) = opening_line depth (spot_words spot ++ codes "  " ++ stmt_text st)
+event_line depth (Tests spot e) = opening_line depth (spot_words spot ++ codes "  " ++ expr_text e)
 event_line depth (Chooses spot n) = below_line depth (codes "-> " ++ hex n ++ chosen_text n)
-event_line depth (Loops spot e n) = head_line depth (spot_words spot ++ codes "  " ++ expr_text e ++ codes "  at most " ++ turns_text n)
+event_line depth (Loops spot e n) = opening_line depth (spot_words spot ++ codes "  " ++ expr_text e ++ codes "  at most " ++ turns_text n)
 event_line depth (Turns spot n) = below_line depth (codes "turn " ++ decimal n)
 event_line depth (Finds spot n) = below_line depth (codes "-> " ++ hex n)
 event_line depth (Leaves spot n) = below_line depth (codes "left after " ++ turns_text n)
@@ -68,13 +68,13 @@ pub record LogText : Type 0 where
   pub depth : ℕ
 
 -- the log after an event
-abbrev pub noted : LogText → Event → LogText
-noted log e = record { text = log.text ++ event_line log.depth e; depth = depth_after log.depth e }
+abbrev pub text_after_event : LogText → Event → LogText
+text_after_event log e = record { text = log.text ++ event_line log.depth e; depth = depth_after log.depth e }
 
 -- the log after events
-abbrev pub noted_all : LogText → List Event → LogText
-noted_all log events = fold noted log events
+abbrev pub text_after_events : LogText → List Event → LogText
+text_after_events log events = fold text_after_event log events
 
 -- the text of events from the start of a run
-abbrev pub text_of : List Event → List ℕ
-text_of events = (noted_all (record { text = []; depth = 0 }) events).text
+abbrev pub text_of_events : List Event → List ℕ
+text_of_events events = (text_after_events (record { text = []; depth = 0 }) events).text

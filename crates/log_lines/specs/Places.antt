@@ -7,9 +7,9 @@ use Rattle.sequence_trees.specs.declared.spot.Spot.{Spot}
 use Rattle.text_lines.specs.Shown.{shown, dotted}
 
 -- the sequence and the path of a step; the debug variables have none
-abbrev pub step_words : Option (List ℕ) → List ℕ → List ℕ
-step_words None path = []
-step_words (Some name) path = shown name ++ codes " " ++ dotted path ++ codes " "
+abbrev pub step_place_words : Option (List ℕ) → List ℕ → List ℕ
+step_place_words None path = []
+step_place_words (Some name) path = shown name ++ codes " " ++ dotted path ++ codes " "
 
 -- a part of a step
 abbrev pub part_word : Part → List ℕ
@@ -33,11 +33,11 @@ code_place parts.While place = []
 
 -- a place
 abbrev pub spot_words : Spot → List ℕ
-spot_words spot = step_words spot.sequence spot.path ++ part_word spot.part ++ code_place spot.part spot.place
+spot_words spot = step_place_words spot.sequence spot.path ++ part_word spot.part ++ code_place spot.part spot.place
 
 -- a place in a step of the sequence of this name
-abbrev pub spot_in : List ℕ → List ℕ → Part → Place → Spot
-spot_in name path part place = record { sequence = Some name; path = path; part = part; place = place }
+abbrev pub spot_in_step : List ℕ → List ℕ → Part → Place → Spot
+spot_in_step name path part place = record { sequence = Some name; path = path; part = part; place = place }
 
 -- a place in the debug variables
 abbrev pub debug_spot : Place → Spot
@@ -45,4 +45,4 @@ debug_spot place = record { sequence = None; path = []; part = parts.Debugvars; 
 
 -- a condition of a step
 abbrev pub condition_spot : List ℕ → List ℕ → Part → Spot
-condition_spot name path part = spot_in name path part (record { line = 1; column = 1 })
+condition_spot name path part = spot_in_step name path part (record { line = 1; column = 1 })

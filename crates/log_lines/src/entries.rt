@@ -5,10 +5,10 @@ ghost use Rattle.expr_grammar.specs.Tree.{tree, stmt_tree};
 ghost use Rattle.sequence_trees.specs.declared.spot.Part.{Part};
 ghost use Rattle.sequence_trees.specs.declared.spot.Part.TheVariants as part;
 ghost use Rattle.run_events.specs.Events as e;
-ghost use Rattle.run_events.specs.OfSteps.{place_of};
-ghost use Rattle.log_lines.specs.Entries.{entry_line, no_spot};
+ghost use Rattle.run_events.specs.OfSteps.{statement_place};
+ghost use Rattle.log_lines.specs.Entries.{log_entry_line, no_spot};
 ghost use Rattle.log_lines.specs.LogText.{event_line, margin};
-ghost use Rattle.log_lines.specs.Places.{condition_spot, debug_spot, spot_in, spot_words};
+ghost use Rattle.log_lines.specs.Places.{condition_spot, debug_spot, spot_in_step, spot_words};
 
 use crate::code::{with_expr, with_statement};
 use crate::lines::{begin_below, begin_line, chosen_text, with_loop, with_turns};
@@ -77,7 +77,7 @@ const TEXT_START: Place = Place { line: 1, column: 1 };
 
 // Where a statement begins: a declaration at its name.
 fn place_of(statement: &Stmt) -> Place
-    ensures { result ≡ place_of (stmt_tree statement.now) }
+    ensures { result ≡ statement_place (stmt_tree statement.now) }
 {
     match statement {
         Stmt::Empty(at) => *at,
@@ -94,7 +94,7 @@ fn begin_at(
     part: Part,
     place: Place,
 ) -> Result<Line, OutOfMemory>
-    ensures { IfOk result (λ l. l ≡ margin depth ++ spot_words (spot_in step.now.sequence.now step.now.path.items part place) ++ codes "  ") }
+    ensures { IfOk result (λ l. l ≡ margin depth ++ spot_words (spot_in_step step.now.sequence.now step.now.path.items part place) ++ codes "  ") }
 {
     let line = begin_line(alloc, depth)?;
     with_spot_in(line, step.sequence, step.path.as_slice(), part, place)?.text("  ")
@@ -108,7 +108,8 @@ fn begin_text(
     statement: &Stmt,
 ) -> Result<Line, OutOfMemory>
     ensures { IfOk result (λ l. l
-        ≡ event_line depth (e.Begins (spot_in step.now.sequence.now step.now.path.items part.Block (place_of (stmt_tree statement.now))) (stmt_tree statement.now))) }
+        ≡ event_line depth
+        (e.Begins (spot_in_step step.now.sequence.now step.now.path.items part.Block (statement_place (stmt_tree statement.now))) (stmt_tree statement.now))) }
 {
     let line = begin_at(alloc, depth, step, Part::Block, place_of(statement))?;
     with_statement(alloc, line, statement)?.text("\n")
@@ -116,7 +117,7 @@ fn begin_text(
 
 // A declaration of the debug variables.
 fn declare_text(alloc: Global, depth: u32, statement: &Stmt) -> Result<Line, OutOfMemory>
-    ensures { IfOk result (λ l. l ≡ event_line depth (e.Begins (debug_spot (place_of (stmt_tree statement.now))) (stmt_tree statement.now))) }
+    ensures { IfOk result (λ l. l ≡ event_line depth (e.Begins (debug_spot (statement_place (stmt_tree statement.now))) (stmt_tree statement.now))) }
 {
     let line = with_debug_spot(begin_line(alloc, depth)?, place_of(statement))?;
     with_statement(alloc, line.text("  ")?, statement)?.text("\n")
@@ -253,7 +254,7 @@ fn push_written(
 
 // Adds the line of an event to a text.
 fn push_entry(alloc: Global, text: &mut Vec<u8>, entry: &LogEntry) -> Result<(), OutOfMemory>
-    ensures { OnOk result (text.new.items ≡ text.old.items ++ entry_line entry.now) }
+    ensures { OnOk result (text.new.items ≡ text.old.items ++ log_entry_line entry.now) }
 {
     let depth = entry.depth;
     match &entry.event {
@@ -281,7 +282,7 @@ fn push_entry(alloc: Global, text: &mut Vec<u8>, entry: &LogEntry) -> Result<(),
 
 /// The lines of events, one after the other. `OutOfMemory` where memory is refused.
 pub fn entries_text(alloc: Global, entries: &[LogEntry]) -> Result<Vec<u8>, OutOfMemory>
-    ensures { IfOk result (λ text. text.items ≡ flat_map entry_line entries.now) }
+    ensures { IfOk result (λ text. text.items ≡ flat_map log_entry_line entries.now) }
 {
     let mut text = Vec::new(alloc);
     for entry in entries {

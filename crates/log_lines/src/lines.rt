@@ -2,7 +2,7 @@
 ghost use Rattle.std.specs.Prelude.{◌≡◌, ◌++◌, codes, IfOk};
 ghost use Rattle.expr_grammar.specs.Tree.{tree};
 ghost use Rattle.log_lines.specs.CodeText.{expr_text};
-ghost use Rattle.log_lines.specs.LogText.{below_line, chosen_text, head_line, margin, turns_text};
+ghost use Rattle.log_lines.specs.LogText.{below_line, chosen_text, margin, opening_line, turns_text};
 
 use crate::code::with_expr;
 use dap_base::OutOfMemory;

@@ -5,11 +5,11 @@ ghost use Rattle.expr_grammar.specs.Tree.{tree, stmt_tree};
 ghost use Rattle.sequence_trees.specs.declared.spot.Part.TheVariants as part;
 ghost use Rattle.sequence_trees.specs.declared.spot.Spot.{Spot};
 ghost use Rattle.run_events.specs.Events as e;
-ghost use Rattle.run_events.specs.OfSteps.{place_of};
+ghost use Rattle.run_events.specs.OfSteps.{statement_place};
 ghost use Rattle.log_lines.specs.Entries.{event_of};
-ghost use Rattle.log_lines.specs.LogLines.{Lists, written};
+ghost use Rattle.log_lines.specs.LogLines.{Lists, text_of_lines};
 ghost use Rattle.log_lines.specs.LogText.{event_line};
-ghost use Rattle.log_lines.specs.Places.{condition_spot, debug_spot, spot_in};
+ghost use Rattle.log_lines.specs.Places.{condition_spot, debug_spot, spot_in_step};
 
 use crate::entries::{EventStep, LogEntry, LogEvent, entries_text};
 use dap_base::OutOfMemory;
@@ -57,12 +57,12 @@ pub struct EventLog<'a> {
 
 impl<'a> Model for EventLog<'a> {
     ghost use Rattle.std.specs.Prelude.{map};
-    ghost use Rattle.log_lines.specs.Entries.{entry_line};
+    ghost use Rattle.log_lines.specs.Entries.{log_entry_line};
     ghost use Rattle.log_lines.specs.LogLines.{LogLines};
 
     ghost Value = { LogLines };
 
-    ghost view = { λ log. record { lines = map entry_line log.entries.items; depth = log.depth } };
+    ghost view = { λ log. record { lines = map log_entry_line log.entries.items; depth = log.depth } };
 }
 
 /// How far a log was at some time.
@@ -88,7 +88,7 @@ impl<'a> EventLog<'a> {
 
     /// The text of the events. `OutOfMemory` where memory is refused.
     pub fn write_text(&self) -> Result<Log, OutOfMemory>
-        ensures { IfOk result (λ log. log ≡ written self.now) }
+        ensures { IfOk result (λ log. log ≡ text_of_lines self.now) }
     {
         let text = entries_text(self.alloc, self.entries.as_slice())?;
         Ok(Log {
@@ -146,7 +146,8 @@ impl<'a> EventLog<'a> {
         path: &[u64],
         statement: &'a Stmt,
     ) -> Result<(), OutOfMemory>
-        ensures { Lists self.old self.new result (e.Begins (spot_in sequence.now path.now part.Block (place_of (stmt_tree statement.now))) (stmt_tree statement.now)) }
+        ensures { Lists self.old self.new result
+            (e.Begins (spot_in_step sequence.now path.now part.Block (statement_place (stmt_tree statement.now))) (stmt_tree statement.now)) }
     {
         let step = self.step(sequence, path)?;
         self.note(LogEvent::Begins(step, statement))
@@ -154,7 +155,7 @@ impl<'a> EventLog<'a> {
 
     /// A declaration of the debug variables begins, at this place.
     pub fn begin_debug(&mut self, statement: &'a Stmt) -> Result<(), OutOfMemory>
-        ensures { Lists self.old self.new result (e.Begins (debug_spot (place_of (stmt_tree statement.now))) (stmt_tree statement.now)) }
+        ensures { Lists self.old self.new result (e.Begins (debug_spot (statement_place (stmt_tree statement.now))) (stmt_tree statement.now)) }
     {
         self.note(LogEvent::Declares(statement))
     }

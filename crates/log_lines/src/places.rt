@@ -1,6 +1,6 @@
 //! Places of a set as text.
 ghost use Rattle.std.specs.Prelude.{◌≡◌, ◌++◌, IfOk, Some};
-ghost use Rattle.log_lines.specs.Places.{code_place, debug_spot, part_word, place_words, spot_in, spot_words, step_words};
+ghost use Rattle.log_lines.specs.Places.{code_place, debug_spot, part_word, place_words, spot_in_step, spot_words, step_place_words};
 
 use dap_base::{OutOfMemory, Place};
 use sequence_trees::{Part, Spot};
@@ -38,7 +38,7 @@ fn with_code_place(line: Line, part: Part, place: Place) -> Result<Line, OutOfMe
 
 // A step of a sequence.
 fn with_step(line: Line, sequence: &str, path: &[u64]) -> Result<Line, OutOfMemory>
-    ensures { IfOk result (λ l. l ≡ line ++ step_words (Some sequence.now) path.now) }
+    ensures { IfOk result (λ l. l ≡ line ++ step_place_words (Some sequence.now) path.now) }
 {
     let line = line.add_shown(sequence.as_bytes())?.text(" ")?;
     line.add_dotted(path)?.text(" ")
@@ -46,7 +46,7 @@ fn with_step(line: Line, sequence: &str, path: &[u64]) -> Result<Line, OutOfMemo
 
 // The step of a place; the debug variables have none.
 fn with_step_of(line: Line, spot: &Spot) -> Result<Line, OutOfMemory>
-    ensures { IfOk result (λ l. l ≡ line ++ step_words spot.now.sequence spot.now.path) }
+    ensures { IfOk result (λ l. l ≡ line ++ step_place_words spot.now.sequence spot.now.path) }
 {
     match &spot.sequence {
         Some(name) => with_step(line, name.as_str(), spot.path.as_slice()),
@@ -71,7 +71,7 @@ pub fn with_spot_in(
     part: Part,
     place: Place,
 ) -> Result<Line, OutOfMemory>
-    ensures { IfOk result (λ l. l ≡ line ++ spot_words (spot_in sequence.now path.now part place)) }
+    ensures { IfOk result (λ l. l ≡ line ++ spot_words (spot_in_step sequence.now path.now part place)) }
 {
     let line = with_step(line, sequence, path)?.text(part_text(part))?;
     with_code_place(line, part, place)

@@ -9,29 +9,29 @@ use Rattle.log_tool.specs.declared.status.Status.{Status}
 use Rattle.log_tool.specs.declared.status.Status.TheVariants as status
 
 -- the status as the number with which the program ends
-abbrev pub code_of : Status → ℕ
-code_of status.Done = 0
-code_of status.Refused = 1
-code_of status.Usage = 2
-code_of status.Stopped = 3
-code_of status.ReadFault = 5
-code_of status.WriteFault = 6
-code_of status.OutOfMemory = 7
-code_of status.Failed = 10
+abbrev pub log_exit_code : Status → ℕ
+log_exit_code status.Done = 0
+log_exit_code status.Refused = 1
+log_exit_code status.Usage = 2
+log_exit_code status.Stopped = 3
+log_exit_code status.ReadFault = 5
+log_exit_code status.WriteFault = 6
+log_exit_code status.OutOfMemory = 7
+log_exit_code status.Failed = 10
 
 -- ---- what is written
 
 -- the line of words that ask for nothing
-abbrev pub usage_line : List ℕ
-usage_line = codes "usage dapseq_log --device NAME --sequence NAME [--variant NAME] [--pname NAME] [--turns N] [--fail] < JOB\n"
+abbrev pub log_usage_line : List ℕ
+log_usage_line = codes "usage dapseq_log --device NAME --sequence NAME [--variant NAME] [--pname NAME] [--turns N] [--fail] < JOB\n"
 
 -- the text of an answer
-unfoldable pub answer_text : Answer → List ℕ
-answer_text answers.Usage = usage_line
-answer_text answers.TooLong = too_long_line
-answer_text answers.NoSequence = no_sequence_line
-answer_text (answers.Refused refusal) = refusal_line refusal
-answer_text (answers.Log log) = log.log.text ++ log.last
+unfoldable pub log_answer_text : Answer → List ℕ
+log_answer_text answers.Usage = log_usage_line
+log_answer_text answers.TooLong = too_long_line
+log_answer_text answers.NoSequence = no_sequence_line
+log_answer_text (answers.Refused refusal) = refusal_line refusal
+log_answer_text (answers.Log log) = log.log.text ++ log.last
 
 -- ---- statuses
 
@@ -42,9 +42,9 @@ of_run came.Failed = status.Failed
 of_run came.Stopped = status.Stopped
 
 -- the status where an answer is written
-unfoldable pub answer_status : Answer → Status
-answer_status answers.Usage = status.Usage
-answer_status answers.TooLong = status.Refused
-answer_status answers.NoSequence = status.Refused
-answer_status (answers.Refused refusal) = status.Refused
-answer_status (answers.Log log) = of_run log.status
+unfoldable pub log_answer_status : Answer → Status
+log_answer_status answers.Usage = status.Usage
+log_answer_status answers.TooLong = status.Refused
+log_answer_status answers.NoSequence = status.Refused
+log_answer_status (answers.Refused refusal) = status.Refused
+log_answer_status (answers.Log log) = of_run log.status

@@ -12,46 +12,46 @@ use Rattle.log_tool.specs.Answers.{of_run}
 use Rattle.log_tool.specs.declared.asking.Answer.{Answer}
 use Rattle.log_tool.specs.declared.asking.Answer.TheVariants as answers
 use Rattle.log_tool.specs.declared.log.RunLog.{RunLog}
-use Rattle.log_tool.specs.Logs.{IsLogOf, run_status, subject_of}
+use Rattle.log_tool.specs.Logs.{IsLogOf, subject_of, subject_status}
 use Rattle.log_tool.specs.declared.status.Status.{Status}
 
 -- ---- the words
 
 -- the words ask for nothing
-abbrev pub IsUsage : List (List ℕ) → Type 0
-IsUsage given = (a : Asked) → words.Asks given a → ⊥
+abbrev pub IsLogUsage : List (List ℕ) → Type 0
+IsLogUsage given = (a : Asked) → words.WordsAskForLog given a → ⊥
 
 -- the words ask for something
-abbrev pub IsLine : List (List ℕ) → Type 0
-IsLine given = (a : Asked) × words.Asks given a
+abbrev pub IsLogLine : List (List ℕ) → Type 0
+IsLogLine given = (a : Asked) × words.WordsAskForLog given a
 
 -- ---- the bytes
 
 -- the answer where no sequence runs, unless memory ran out
-abbrev pub of_refusal : RunRefusal → Option Answer
-of_refusal (refusals.Refused r) = Some (answers.Refused r)
-of_refusal refusals.NoSequence = Some answers.NoSequence
-of_refusal refusals.OutOfMemory = None
+abbrev pub answer_of_run_refusal : RunRefusal → Option Answer
+answer_of_run_refusal (refusals.Refused r) = Some (answers.Refused r)
+answer_of_run_refusal refusals.NoSequence = Some answers.NoSequence
+answer_of_run_refusal refusals.OutOfMemory = None
 
 -- what is asked for of bytes: why no sequence of the job runs, or the log of its run
-pub data AsksOfBytes (bytes : List ℕ) (a : Asked) (answer : Answer) : Type 0 where
-  no_run : (r : RunRefusal) → IsRefusedRun bytes own.Nothing a.selection a.sequence r → of_refusal r ≡ Some answer → AsksOfBytes bytes a answer
+pub data AsksOfJobBytes (bytes : List ℕ) (a : Asked) (answer : Answer) : Type 0 where
+  no_run : (r : RunRefusal) → IsRefusedRun bytes own.Nothing a.selection a.sequence r → answer_of_run_refusal r ≡ Some answer → AsksOfJobBytes bytes a answer
   run : (valid : ValidRun) (log : RunLog) → IsValidRun bytes own.Nothing a.selection a.sequence valid → IsLogOf a.turns a.fail (subject_of valid a.sequence) log
-      → answer ≡ answers.Log log → AsksOfBytes bytes a answer
+      → answer ≡ answers.Log log → AsksOfJobBytes bytes a answer
 
 -- This is what the words and all the bytes of the source ask for.
-pub data Asks (given : List (List ℕ)) (bytes : List ℕ) (answer : Answer) : Type 0 where
-  usage : IsUsage given → answer ≡ answers.Usage → Asks given bytes answer
-  too_long : IsLine given → limit < length bytes → answer ≡ answers.TooLong → Asks given bytes answer
-  job : (a : Asked) → words.Asks given a → length bytes ≤ limit → AsksOfBytes bytes a answer → Asks given bytes answer
+pub data AsksForLog (given : List (List ℕ)) (bytes : List ℕ) (answer : Answer) : Type 0 where
+  usage : IsLogUsage given → answer ≡ answers.Usage → AsksForLog given bytes answer
+  too_long : IsLogLine given → limit < length bytes → answer ≡ answers.TooLong → AsksForLog given bytes answer
+  job : (a : Asked) → words.WordsAskForLog given a → length bytes ≤ limit → AsksOfJobBytes bytes a answer → AsksForLog given bytes answer
 
 -- ---- a run
 
 -- the words name a sequence of the job that the bytes describe, which runs, and this is the status of its run
-pub record Runs (given : List (List ℕ)) (bytes : List ℕ) (end : Status) : Type 0 where
+pub record RunsWithStatus (given : List (List ℕ)) (bytes : List ℕ) (end : Status) : Type 0 where
   pub asked : Asked
-  pub asks : words.Asks given asked
+  pub asks : words.WordsAskForLog given asked
   pub short : length bytes ≤ limit
   pub valid : ValidRun
   pub runs : IsValidRun bytes own.Nothing asked.selection asked.sequence valid
-  pub status : end ≡ of_run (run_status asked.fail (subject_of valid asked.sequence))
+  pub status : end ≡ of_run (subject_status asked.fail (subject_of valid asked.sequence))

@@ -2,19 +2,19 @@
 use Rattle.std.specs.Prelude.{ℕ, List, Option}
 use Rattle.job_source.specs.Source.{AreBytesOf}
 use Rattle.tool_calls.specs.Calls.{FaultStatuses, Tool}
-use Rattle.log_tool.specs.Answers.{answer_status, answer_text}
-use Rattle.log_tool.specs.Asked.{Asks, IsLine, Runs}
+use Rattle.log_tool.specs.Answers.{log_answer_status, log_answer_text}
+use Rattle.log_tool.specs.Asked.{AsksForLog, IsLogLine, RunsWithStatus}
 use Rattle.log_tool.specs.declared.asking.Answer.{Answer}
 use Rattle.log_tool.specs.declared.status.Status.{Status}
 use Rattle.log_tool.specs.declared.status.Status.TheVariants as status
 
 -- the statuses of its faults
-abbrev pub faults : FaultStatuses Status
-faults = record { read = status.ReadFault; write = status.WriteFault; memory = status.OutOfMemory }
+abbrev pub log_fault_statuses : FaultStatuses Status
+log_fault_statuses = record { read = status.ReadFault; write = status.WriteFault; memory = status.OutOfMemory }
 
 -- what words and bytes ask for, and how an answer is written
-abbrev pub tool : Tool Answer Status
-tool = record { IsLine = IsLine; Asks = Asks; text = answer_text; status = answer_status; faults = faults }
+abbrev pub log_program : Tool Answer Status
+log_program = record { IsLine = IsLogLine; Asks = AsksForLog; text = log_answer_text; status = log_answer_status; faults = log_fault_statuses }
 
 -- the status of a run
 abbrev pub IsOfRun : Status → Type 0
@@ -24,5 +24,5 @@ IsOfRun status.Failed = Unit {0}
 IsOfRun other = ⊥
 
 -- the bytes of the source, where it is observable, are a job of which a sequence runs with this status
-abbrev pub RunsTo : List (List ℕ) → Option (List ℕ) → Status → Type 0
-RunsTo words left end = (bytes : List ℕ) × AreBytesOf left bytes × Runs words bytes end
+abbrev pub SourceRunsTo : List (List ℕ) → Option (List ℕ) → Status → Type 0
+SourceRunsTo words left end = (bytes : List ℕ) × AreBytesOf left bytes × RunsWithStatus words bytes end

@@ -1,7 +1,7 @@
 //! What is written.
 ghost use Rattle.std.specs.Prelude.{◌≡◌, ◌++◌};
 ghost use Rattle.text_lines.specs.Puts.{PutsText};
-ghost use Rattle.log_tool.specs.Answers.{answer_status, answer_text, of_run, usage_line};
+ghost use Rattle.log_tool.specs.Answers.{log_answer_status, log_answer_text, log_usage_line, of_run};
 
 use crate::asking::Answer;
 use crate::log::{RunLog, RunStatus};
@@ -23,9 +23,9 @@ fn of_run(status: RunStatus) -> Status
 }
 
 /// The status where an answer is written.
-#[tactic(auto, unfolding(crate::specs::Answers::answer_status))]
+#[tactic(auto, unfolding(crate::specs::Answers::log_answer_status))]
 pub fn status_of(answer: &Answer) -> Status
-    ensures { result ≡ answer_status answer.now }
+    ensures { result ≡ log_answer_status answer.now }
 {
     match answer {
         Answer::Usage => Status::Usage,
@@ -39,7 +39,7 @@ const USAGE: &[u8] =
 
 // Writes the line of words that ask for nothing.
 fn write_usage<K: Sink>(sink: &mut K) -> Result<(), TextError>
-    ensures puts { PutsText usage_line result TextError.Failed K.written K.faults sink.old sink.new }
+    ensures puts { PutsText log_usage_line result TextError.Failed K.written K.faults sink.old sink.new }
 {
     put_text(USAGE, sink)
 }
@@ -55,9 +55,9 @@ fn write_log<K: Sink>(log: &RunLog, sink: &mut K) -> Result<(), TextError>
 }
 
 /// Writes the text of an answer. At an error a part of it was written, from its front.
-#[tactic(auto, unfolding(crate::specs::Answers::answer_text))]
+#[tactic(auto, unfolding(crate::specs::Answers::log_answer_text))]
 pub fn write_answer<K: Sink>(alloc: Global, answer: &Answer, sink: &mut K) -> Result<(), TextError>
-    ensures puts { PutsText (answer_text answer.now) result TextError.Failed K.written K.faults sink.old sink.new }
+    ensures puts { PutsText (log_answer_text answer.now) result TextError.Failed K.written K.faults sink.old sink.new }
 {
     match answer {
         Answer::Usage => write_usage(sink),

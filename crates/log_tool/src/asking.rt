@@ -4,7 +4,7 @@ ghost use Rattle.text_lines.specs.Causes.{NamesFault};
 ghost use Rattle.job_source.specs.Source.{AreBytesOf, AreTaken};
 ghost use Rattle.tool_calls.specs.Calls.{ReadsJob};
 ghost use Rattle.log_words.specs.Asks as words_asked;
-ghost use Rattle.log_tool.specs.Asked.{Asks, AsksOfBytes, IsLine, of_refusal};
+ghost use Rattle.log_tool.specs.Asked.{AsksForLog, AsksOfJobBytes, IsLogLine, answer_of_run_refusal};
 
 use crate::log::{RunLog, log_of};
 use dap_base::{OutOfMemory, Source, Words};
@@ -31,7 +31,7 @@ pub enum Answer {
 
 // What is answered where no sequence runs.
 fn refused_by(refusal: RunRefusal) -> Result<Answer, OutOfMemory>
-    ensures { IfOk result (λ answer. of_refusal refusal ≡ Some answer) }
+    ensures { IfOk result (λ answer. answer_of_run_refusal refusal ≡ Some answer) }
 {
     match refusal {
         RunRefusal::Refused(refusal) => Ok(Answer::Refused(refusal)),
@@ -42,7 +42,7 @@ fn refused_by(refusal: RunRefusal) -> Result<Answer, OutOfMemory>
 
 // What is asked for of the bytes of a job.
 fn ask_of_bytes(alloc: Global, asked: &Asked, bytes: &[u8]) -> Result<Answer, OutOfMemory>
-    ensures { IfOk result (AsksOfBytes bytes.now asked.now) }
+    ensures { IfOk result (AsksOfJobBytes bytes.now asked.now) }
 {
     let sequence = asked.sequence.as_str();
     match valid_run(alloc, bytes, Own::Nothing, &asked.selection, sequence) {
@@ -53,8 +53,8 @@ fn ask_of_bytes(alloc: Global, asked: &Asked, bytes: &[u8]) -> Result<Answer, Ou
 
 // What the source asks for.
 fn ask_of_source<S: Source>(alloc: Global, asked: &Asked, source: &mut S) -> Result<Answer, Unasked>
-    ensures asked { (given : List (List ℕ)) → words_asked.Asks given asked.now
-        → IfOk result (λ answer. (bytes : List ℕ) × AreBytesOf (S.left source.old) bytes × Asks given bytes answer) }
+    ensures asked { (given : List (List ℕ)) → words_asked.WordsAskForLog given asked.now
+        → IfOk result (λ answer. (bytes : List ℕ) × AreBytesOf (S.left source.old) bytes × AsksForLog given bytes answer) }
     ensures reads { ReadsJob result (S.left source.old) (S.left source.new) (S.faults source.old) (S.faults source.new) }
 {
     let bytes = match read_job(alloc, source) {
@@ -71,10 +71,10 @@ fn ask_of_source<S: Source>(alloc: Global, asked: &Asked, source: &mut S) -> Res
 
 /// What the words and the source ask for. Where the words ask for nothing, the source is not read.
 pub fn ask<S: Source>(alloc: Global, words: &Words, source: &mut S) -> Result<Answer, Unasked>
-    ensures asked { IfOk result (λ answer. (bytes : List ℕ) × AreBytesOf (S.left source.old) bytes × Asks words.now bytes answer) }
-    ensures taken { OnOk result (IsLine words.now → AreTaken (S.left source.old) (S.left source.new)) }
-    ensures unread { (IsLine words.now → ⊥) → source.new ≡ source.old }
-    ensures fault { IsErrOf result Unasked.ReadFault → IsLine words.now }
+    ensures asked { IfOk result (λ answer. (bytes : List ℕ) × AreBytesOf (S.left source.old) bytes × AsksForLog words.now bytes answer) }
+    ensures taken { OnOk result (IsLogLine words.now → AreTaken (S.left source.old) (S.left source.new)) }
+    ensures unread { (IsLogLine words.now → ⊥) → source.new ≡ source.old }
+    ensures fault { IsErrOf result Unasked.ReadFault → IsLogLine words.now }
     ensures source { NamesFault Unasked.ReadFault (S.faults source.old) (S.faults source.new) result }
 {
     match asked_of(alloc, words) {

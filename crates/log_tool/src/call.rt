@@ -1,11 +1,11 @@
 //! The whole call.
 ghost use Rattle.std.specs.Prelude.{◌≡◌, ◌≢◌, ◌⊎◌, ℕ, List, Some};
 ghost use Rattle.dap_base.specs.Causes.{IsQuiet, Rose};
-ghost use Rattle.log_tool.specs.Answers.{answer_status, answer_text};
-ghost use Rattle.log_tool.specs.Asked.{IsLine, IsUsage, Runs};
-ghost use Rattle.log_tool.specs.Calls.{faults, tool, IsOfRun, RunsTo};
+ghost use Rattle.log_tool.specs.Answers.{log_answer_status, log_answer_text};
+ghost use Rattle.log_tool.specs.Asked.{IsLogLine, IsLogUsage, RunsWithStatus};
+ghost use Rattle.log_tool.specs.Calls.{log_fault_statuses, log_program, IsOfRun, SourceRunsTo};
 ghost use Rattle.job_source.specs.Source.{AreTaken};
-ghost use Rattle.tool_calls.specs.Calls.{failed_status, fault_text, moment, Blames, Does, Finishes, IsDisturbed, IsDone, PutsAs};
+ghost use Rattle.tool_calls.specs.Calls.{failed_status, source_fault_line, moment, Blames, Does, Finishes, IsDisturbed, CallIsDone, PutsAs};
 
 use crate::answering::{status_of, write_answer};
 use crate::asking::{Answer, ask};
@@ -17,7 +17,7 @@ use tool_calls::Unasked;
 
 // The status where a text was not written whole.
 fn failed_status(end: TextError) -> Status
-    ensures { result ≡ failed_status faults end }
+    ensures { result ≡ failed_status log_fault_statuses end }
 {
     match end {
         TextError::Failed => Status::WriteFault,
@@ -27,7 +27,7 @@ fn failed_status(end: TextError) -> Status
 
 // Writes an answer.
 fn answer<K: Sink>(alloc: Global, answer: &Answer, sink: &mut K) -> Status
-    ensures { PutsAs faults (answer_text answer.now) (answer_status answer.now) result K.written K.faults sink.old sink.new }
+    ensures { PutsAs log_fault_statuses (log_answer_text answer.now) (log_answer_status answer.now) result K.written K.faults sink.old sink.new }
 {
     match write_answer(alloc, answer, sink) {
         Ok(()) => status_of(answer),
@@ -37,7 +37,7 @@ fn answer<K: Sink>(alloc: Global, answer: &Answer, sink: &mut K) -> Status
 
 // Reports that the source failed.
 fn read_fault<K: Sink>(sink: &mut K) -> Status
-    ensures puts { PutsAs faults fault_text Status.ReadFault result K.written K.faults sink.old sink.new }
+    ensures puts { PutsAs log_fault_statuses source_fault_line Status.ReadFault result K.written K.faults sink.old sink.new }
     ensures ends { (result ≡ Status.ReadFault) ⊎ (result ≡ Status.WriteFault) }
 {
     match sink.put(b"end readfault\n") {
@@ -48,7 +48,7 @@ fn read_fault<K: Sink>(sink: &mut K) -> Status
 
 // Writes what is asked for, or what is written where that is not known.
 fn finish<K: Sink>(alloc: Global, asked: &Result<Answer, Unasked>, sink: &mut K) -> Status
-    ensures { Finishes tool asked.now result K.written K.faults sink.old sink.new }
+    ensures { Finishes log_program asked.now result K.written K.faults sink.old sink.new }
 {
     match asked {
         Ok(asked) => answer(alloc, asked, sink),
@@ -80,22 +80,23 @@ pub fn dapseq_log<S: Source, K: Sink>(
 ) -> Status
     // What the words and the bytes ask for was written.
     ensures asked { let at = moment S.left S.faults K.written K.faults in
-        Does tool (record { words = words.now; old = at source.old sink.old; new = at source.new sink.new; end = result }) }
+        Does log_program (record { words = words.now; old = at source.old sink.old; new = at source.new sink.new; end = result }) }
     // It was written whole with its own status, unless the source or the sink failed or memory was refused.
     ensures success { let at = moment S.left S.faults K.written K.faults in
         IsQuiet (S.faults source.old) (S.faults source.new) → IsQuiet (K.faults sink.old) (K.faults sink.new) → result ≢ Status.OutOfMemory
-        → IsDone tool (record { words = words.now; old = at source.old sink.old; new = at source.new sink.new; end = result }) }
+        → CallIsDone log_program (record { words = words.now; old = at source.old sink.old; new = at source.new sink.new; end = result }) }
 
     // The status of a run comes only where a sequence of the job runs, and is that of its run. Where one runs, it is no other without a
     // fault outside.
-    ensures run { IsOfRun result → RunsTo words.now (S.left source.old) result }
-    ensures run_only { (bytes : List ℕ) (end : Status) → S.left source.old ≡ Some bytes → Runs words.now bytes end → (result ≡ end) ⊎ IsDisturbed faults result }
+    ensures run { IsOfRun result → SourceRunsTo words.now (S.left source.old) result }
+    ensures run_only { (bytes : List ℕ) (end : Status) → S.left source.old ≡ Some bytes → RunsWithStatus words.now bytes end
+        → (result ≡ end) ⊎ IsDisturbed log_fault_statuses result }
 
     // The words alone decide on the usage, and whether the source is read: to its end, or one byte too far.
-    ensures usage { result ≡ Status.Usage → IsUsage words.now }
-    ensures usage_only { IsUsage words.now → (result ≡ Status.Usage) ⊎ (result ≡ Status.WriteFault) ⊎ (result ≡ Status.OutOfMemory) }
-    ensures unread { (IsLine words.now → ⊥) → source.new ≡ source.old }
-    ensures taken { IsLine words.now → IsQuiet (S.faults source.old) (S.faults source.new) → result ≢ Status.OutOfMemory
+    ensures usage { result ≡ Status.Usage → IsLogUsage words.now }
+    ensures usage_only { IsLogUsage words.now → (result ≡ Status.Usage) ⊎ (result ≡ Status.WriteFault) ⊎ (result ≡ Status.OutOfMemory) }
+    ensures unread { (IsLogLine words.now → ⊥) → source.new ≡ source.old }
+    ensures taken { IsLogLine words.now → IsQuiet (S.faults source.old) (S.faults source.new) → result ≢ Status.OutOfMemory
         → AreTaken (S.left source.old) (S.left source.new) }
 
     // Each fault has its cause, and a fault outside is reported.

@@ -4,7 +4,7 @@ ghost use Rattle.target_machine.specs.declared.unit.Call.TheVariants.{Access};
 ghost use Rattle.sequence_rules.specs.Runs as ending;
 ghost use Rattle.sequence_rules.specs.Runs.{Outcome, units_of};
 ghost use Rattle.sequence_rules.specs.declared.bindings.Binding.{Binding};
-ghost use Rattle.logged_runs.specs.Answers.{EndsAs};
+ghost use Rattle.logged_runs.specs.Answers.{LoggedRunEndsAs};
 ghost use Rattle.log_tool.specs.Logs.{at_line, end_line};
 
 use dap_base::OutOfMemory;
@@ -27,7 +27,7 @@ fn faulted_text(alloc: Global, number: u32, unit: Unit) -> Result<Line, OutOfMem
 
 /// The line of how a run ended.
 pub fn end_text(alloc: Global, end: LoggedEnding) -> Result<Line, OutOfMemory>
-    ensures { (o : Outcome) (variables : List (Binding ℕ)) → EndsAs o end variables → IfOk result (λ l. l ≡ end_line o.ending (units_of o)) }
+    ensures { (o : Outcome) (variables : List (Binding ℕ)) → LoggedRunEndsAs o end variables → IfOk result (λ l. l ≡ end_line o.ending (units_of o)) }
 {
     match end {
         LoggedEnding::Done => Line::begin(alloc, "end done\n"),

@@ -5,8 +5,8 @@ ghost use Rattle.probe_core.specs.Ranges.{IsBenchJob};
 ghost use Rattle.seq_check.specs.Answers.{checked_trees};
 ghost use Rattle.target_machine.specs.State.{TargetState};
 ghost use Rattle.sequence_rules.specs.Shared.{bindings_of};
-ghost use Rattle.logged_runs.specs.Answers.{IsRun, IsSeen};
-ghost use Rattle.log_tool.specs.Logs.{IsLogOf, Subject, has_result, last_lines, run_status, subject_of};
+ghost use Rattle.logged_runs.specs.Answers.{IsLoggedRun, IsSeenOfRun};
+ghost use Rattle.log_tool.specs.Logs.{IsLogOf, Subject, has_nonzero_result, last_lines, subject_of, subject_status};
 
 use crate::ending::{at_text, end_text};
 use crate::text::Text;
@@ -46,8 +46,8 @@ pub struct RunLog {
 fn run_of(alloc: Global, asked: &Asked, valid: &ValidRun) -> Result<Logged, OutOfMemory>
     requires settings { AreSettings valid.now.job.settings }
     requires bench { IsBenchJob valid.now.job.bench }
-    ensures run { let s = subject_of valid.now asked.now.sequence in IfOk result (λ run. (left : TargetState) × IsRun s.program s.target left run) }
-    ensures seen { let s = subject_of valid.now asked.now.sequence in IfOk result (λ run. IsSeen asked.now.turns s.program s.target run) }
+    ensures run { let s = subject_of valid.now asked.now.sequence in IfOk result (λ run. (left : TargetState) × IsLoggedRun s.program s.target left run) }
+    ensures seen { let s = subject_of valid.now asked.now.sequence in IfOk result (λ run. IsSeenOfRun asked.now.turns s.program s.target run) }
 {
     let mut target = Target::new(alloc, &valid.job.bench.target)?;
     let sequence = asked.sequence.as_str();
@@ -69,7 +69,7 @@ fn last_of(
     checked: &Checked,
     sequence: &str,
 ) -> Result<Text, OutOfMemory>
-    ensures { (s : Subject) (left : TargetState) (turns : ℕ) → IsRun s.program s.target left run.now → IsSeen turns s.program s.target run.now
+    ensures { (s : Subject) (left : TargetState) (turns : ℕ) → IsLoggedRun s.program s.target left run.now → IsSeenOfRun turns s.program s.target run.now
         → s.program.set ≡ checked_trees checked.now → s.program.start ≡ sequence.now → IfOk result (λ t. t ≡ last_lines s) }
 {
     let mut text = Text::new(alloc);
@@ -81,7 +81,7 @@ fn last_of(
 
 // Whether `__Result` is not 0.
 fn has_result(variables: &Globals<u64>) -> bool
-    ensures { result ≡ has_result (bindings_of variables.now) }
+    ensures { result ≡ has_nonzero_result (bindings_of variables.now) }
 {
     match variables.get("__Result") {
         Some(value) => value != 0,
@@ -91,8 +91,8 @@ fn has_result(variables: &Globals<u64>) -> bool
 
 // How a run came out, where it is asked for whether it fails.
 fn status_of(fail: bool, run: &Logged) -> RunStatus
-    ensures { (s : Subject) (left : TargetState) (turns : ℕ) → IsRun s.program s.target left run.now
-        → IsSeen turns s.program s.target run.now → result ≡ run_status fail s }
+    ensures { (s : Subject) (left : TargetState) (turns : ℕ) → IsLoggedRun s.program s.target left run.now
+        → IsSeenOfRun turns s.program s.target run.now → result ≡ subject_status fail s }
 {
     match run.ending {
         LoggedEnding::Done => {

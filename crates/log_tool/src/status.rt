@@ -1,6 +1,6 @@
 //! How a call ends.
 ghost use Rattle.std.specs.Prelude.{◌≡◌};
-ghost use Rattle.log_tool.specs.Answers.{code_of};
+ghost use Rattle.log_tool.specs.Answers.{log_exit_code};
 
 /// How a call of `dapseq_log` ended.
 #[derive(Clone, Copy, Debug, PartialEq, Eq)]
@@ -26,7 +26,7 @@ pub enum Status {
 impl Status {
     /// The number with which the program ends: 0, 1, 2, 3, 5, 6, 7 and 10, in the order of the variants.
     pub fn code(&self) -> u8
-        ensures { result ≡ code_of self.now }
+        ensures { result ≡ log_exit_code self.now }
     {
         match self {
             Status::Done => 0,

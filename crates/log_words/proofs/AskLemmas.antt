@@ -2,9 +2,9 @@
 use Rattle.std.proofs.Common.{◌≡◌, ℕ, Bool, List, [], codes, unwrap_or, Option, None, Some, sym, ap, ◌∙◌}
 use Rattle.std.specs.Str.Parse.{digits_value}
 use Rattle.log_words.specs.declared.answer.Asked.{Asked}
-use Rattle.word_options.specs.Line.{given, is_set}
-use Rattle.log_words.specs.Line.{command_line}
-use Rattle.log_words.specs.Asks.{IsTurns, IsAskedBy, Asks}
+use Rattle.word_options.specs.Line.{given_value, is_set}
+use Rattle.log_words.specs.Line.{log_command_line}
+use Rattle.log_words.specs.Asks.{IsTurns, IsLogRequest, WordsAskForLog}
 
 -- the turns by their text
 turns_from : Option (List ℕ) → ℕ
@@ -30,7 +30,7 @@ abbrev made : List ℕ → Option (List ℕ) → Option (List ℕ) → List ℕ 
 made device variant pname sequence turns fail =
     record { selection = record { device = device; variant = variant; pname = pname }; sequence = sequence; turns = turns; fail = fail }
 
-is_from : (value : List ℕ → Option (List ℕ)) (a : Asked) → IsAskedBy value a → a ≡ asked_from value
+is_from : (value : List ℕ → Option (List ℕ)) (a : Asked) → IsLogRequest value a → a ≡ asked_from value
 unfolding asked_from
 is_from value a is =
     let s = a.selection in
@@ -42,5 +42,5 @@ is_from value a is =
     ∙ ap (λ f. made (unwrap_or (value (codes "device")) []) (value (codes "variant")) (value (codes "pname")) (unwrap_or (value (codes "sequence")) []) (turns_from (value (codes "turns"))) f) is.fail))))
 
 -- one thing
-pub one_asked : (words : List (List ℕ)) (a b : Asked) → Asks words a → Asks words b → a ≡ b
-one_asked words a b is other = is_from (given command_line words) a is.found ∙ sym (is_from (given command_line words) b other.found)
+pub one_asked : (words : List (List ℕ)) (a b : Asked) → WordsAskForLog words a → WordsAskForLog words b → a ≡ b
+one_asked words a b is other = is_from (given_value log_command_line words) a is.found ∙ sym (is_from (given_value log_command_line words) b other.found)

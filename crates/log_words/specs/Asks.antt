@@ -2,8 +2,8 @@
 use Rattle.std.specs.Prelude.{◌≡◌, ℕ, ◌≤◌, List, length, Option, Some, None, codes}
 use Rattle.std.specs.Str.Parse.{IsNumeral, digits_value}
 use Rattle.log_words.specs.declared.answer.Asked.{Asked}
-use Rattle.word_options.specs.Line.{AsksFor, is_set}
-use Rattle.log_words.specs.Line.{command_line}
+use Rattle.word_options.specs.Line.{WordsAskFor, is_set}
+use Rattle.log_words.specs.Line.{log_command_line}
 
 -- one to seven decimal digits, which write n, of at most 1,000,000
 pub record IsTurnsText (text : List ℕ) (n : ℕ) : Type 0 where
@@ -18,7 +18,7 @@ IsTurns None n = n ≡ 2
 IsTurns (Some text) n = IsTurnsText text n
 
 -- what the values of the options ask for, by the value of each name
-pub record IsAskedBy (value : List ℕ → Option (List ℕ)) (a : Asked) : Type 0 where
+pub record IsLogRequest (value : List ℕ → Option (List ℕ)) (a : Asked) : Type 0 where
   pub device : value (codes "device") ≡ Some a.selection.device
   pub variant : a.selection.variant ≡ value (codes "variant")
   pub pname : a.selection.pname ≡ value (codes "pname")
@@ -27,5 +27,5 @@ pub record IsAskedBy (value : List ℕ → Option (List ℕ)) (a : Asked) : Type
   pub fail : a.fail ≡ is_set (value (codes "fail"))
 
 -- clap takes the words, and finds these values in them
-abbrev pub Asks : List (List ℕ) → Asked → Type 0
-Asks = AsksFor command_line IsAskedBy
+abbrev pub WordsAskForLog : List (List ℕ) → Asked → Type 0
+WordsAskForLog = WordsAskFor log_command_line IsLogRequest

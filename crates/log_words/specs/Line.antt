@@ -4,11 +4,11 @@ use Rattle.clap.specs.Words.{App, Rule}
 use Rattle.word_options.specs.Line.{flag_rule, line_with, option_rule}
 
 -- the arguments of the command line: five options with a value, and the flag `--fail`
-abbrev pub the_rules : List Rule
-the_rules =
+abbrev pub log_rules : List Rule
+log_rules =
     option_rule (codes "device") ∷ option_rule (codes "variant") ∷ option_rule (codes "pname") ∷ option_rule (codes "sequence")
     ∷ option_rule (codes "turns") ∷ flag_rule (codes "fail") ∷ []
 
 -- a simple command without subcommands, of which the words begin after the program's name
-unfoldable pub command_line : App
-command_line = line_with (codes "dapseq_log") the_rules
+unfoldable pub log_command_line : App
+log_command_line = line_with (codes "dapseq_log") log_rules

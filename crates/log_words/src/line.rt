@@ -21,7 +21,7 @@ pub const TURNS: &str = "turns";
 pub const FAIL: &str = "fail";
 
 fn command_line<'a>(alloc: Global) -> Result<clap::Command<'a>, AllocError>
-    ensures { IfOk result (λ c. app_of c ≡ spec.command_line) }
+    ensures { IfOk result (λ c. app_of c ≡ spec.log_command_line) }
 {
     clap::Command::new(alloc, "dapseq_log")
         .no_binary_name(true)
@@ -35,7 +35,7 @@ fn command_line<'a>(alloc: Global) -> Result<clap::Command<'a>, AllocError>
 
 /// What clap finds in the words. `Usage` where it does not take them.
 pub fn matches_in<'a>(alloc: Global, words: &'a [&str]) -> Result<ArgMatches<'a>, WordsError>
-    ensures { HasMatches spec.command_line (map (λ w. w.now) words.now) result }
+    ensures { HasMatches spec.log_command_line (map (λ w. w.now) words.now) result }
 {
     let line = command_line(alloc)?;
     matches_by(line, words)

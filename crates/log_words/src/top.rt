@@ -1,7 +1,7 @@
 //! From the words to what they ask for.
 ghost use Rattle.std.specs.Prelude.{◌≡◌, IfOk, IfErr, MatchResult};
 ghost use Rattle.clap.specs.Words.{first_value, found_of};
-ghost use Rattle.log_words.specs.Asks.{Asks, IsAskedBy};
+ghost use Rattle.log_words.specs.Asks.{IsLogRequest, WordsAskForLog};
 ghost use Rattle.word_options.specs.declared.answer.WordsError.TheVariants as errors;
 
 use crate::answer::Asked;
@@ -15,8 +15,8 @@ use word_options::{WordsError, is_set, needed_value, texts_of, value_of};
 
 // What the values of the options ask for.
 fn asked_by(alloc: Global, matches: &ArgMatches<'_>) -> Result<Asked, WordsError>
-    ensures answer { IfOk result (IsAskedBy (first_value (found_of matches.now))) }
-    ensures usage { IfErr result (λ e. e ≡ errors.Usage → (a : _) → IsAskedBy (first_value (found_of matches.now)) a → ⊥) }
+    ensures answer { IfOk result (IsLogRequest (first_value (found_of matches.now))) }
+    ensures usage { IfErr result (λ e. e ≡ errors.Usage → (a : _) → IsLogRequest (first_value (found_of matches.now)) a → ⊥) }
 {
     let Some(turns) = turns_of(matches.get_str(TURNS)) else {
         return Err(WordsError::Usage);
@@ -44,9 +44,9 @@ fn asked_by(alloc: Global, matches: &ArgMatches<'_>) -> Result<Asked, WordsError
 /// `Usage` exactly where `clap` refuses the words for another cause than memory, where the device or the sequence is not given, or where
 /// the turns are no such number. The answers of `clap` to `--help` and `-h` are such refusals. `OutOfMemory` where memory is refused.
 pub fn asked_of(alloc: Global, words: &Words) -> Result<Asked, WordsError>
-    ensures answer { IfOk result (Asks words.now) }
-    ensures only { (a : _) → Asks words.now a → MatchResult result (λ r. r ≡ a) (λ e. e ≡ errors.OutOfMemory) }
-    ensures usage { IfErr result (λ e. e ≡ errors.Usage → (a : _) → Asks words.now a → ⊥) }
+    ensures answer { IfOk result (WordsAskForLog words.now) }
+    ensures only { (a : _) → WordsAskForLog words.now a → MatchResult result (λ r. r ≡ a) (λ e. e ≡ errors.OutOfMemory) }
+    ensures usage { IfErr result (λ e. e ≡ errors.Usage → (a : _) → WordsAskForLog words.now a → ⊥) }
 {
     let texts = texts_of(alloc, words)?;
     let matches = matches_in(alloc, texts.as_slice())?;

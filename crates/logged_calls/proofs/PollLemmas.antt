@@ -16,7 +16,7 @@ use Rattle.sequence_rules.specs.Direct.{Now}
 use Rattle.sequence_rules.specs.Machine.{State}
 use Rattle.run_events.specs.Events.{Makes, TimesOut, Matches, all_made, units_between, units_from}
 use Rattle.run_events.specs.OfSteps.{poll_end, polled_events}
-use Rattle.log_lines.specs.LogLines.{Lists, LogLines, listed, listed_all}
+use Rattle.log_lines.specs.LogLines.{Lists, LogLines, lines_after_event, lines_after_events}
 use Rattle.logged_calls.specs.declared.held.Stopped.{Stopped}
 use Rattle.logged_calls.specs.Held.{Noted, SeenAsPoll}
 use Rattle.logged_calls.proofs.NotedLemmas.{all_on, between_is, no_units, noted_none, noted_one}
@@ -61,29 +61,29 @@ polled_small s r ask stopped u large all calls d = record { seen = λ spot turns
 pub polled_skipped : {A : Type 0} (t : TargetState) (before : List ℕ) (forgive : Bool) (call : Call) (u : TargetState) (large : List ℕ) (m : Made) → forgive ≡ false → m ≡ made.Skipped → IsDone (call_done t before forgive call) (call_end_of m) u large → A
 polled_skipped t before forgive call u large m e is d = absurd (not_skipped t before forgive call e (d.end_is ∙ ap call_end_of is))
 
-made_noted : (s r : State ℕ Now) (old new : LogLines) → Noted s r old new → new ≡ listed_all old (all_made (units_between s r))
-made_noted s r old new h = h.log ∙ ap (λ u. listed_all old (all_made u)) (sym (between_is s r old new h))
+made_noted : (s r : State ℕ Now) (old new : LogLines) → Noted s r old new → new ≡ lines_after_events old (all_made (units_between s r))
+made_noted s r old new h = h.log ∙ ap (λ u. lines_after_events old (all_made u)) (sym (between_is s r old new h))
 
-pub poll_noted : (s r : State ℕ Now) (old mid new : LogLines) (n : ℕ) (spot : Spot) (turns : ℕ) → Noted s r old mid → SeenAsPoll s r (Ok n) → new ≡ listed_all mid (poll_end spot turns (Some (Answered n)))
-    → new ≡ listed_all old (polled_events spot turns (units_between s r))
+pub poll_noted : (s r : State ℕ Now) (old mid new : LogLines) (n : ℕ) (spot : Spot) (turns : ℕ) → Noted s r old mid → SeenAsPoll s r (Ok n) → new ≡ lines_after_events mid (poll_end spot turns (Some (Answered n)))
+    → new ≡ lines_after_events old (polled_events spot turns (units_between s r))
 poll_noted s r old mid new n spot turns h k next =
-    next ∙ ap (λ l. listed_all l (poll_end spot turns (Some (Answered n)))) (made_noted s r old mid h)
-    ∙ sym (all_on old (all_made (units_between s r)) (poll_end spot turns (Some (Answered n)))) ∙ ap (listed_all old) (sym (k.seen spot turns))
+    next ∙ ap (λ l. lines_after_events l (poll_end spot turns (Some (Answered n)))) (made_noted s r old mid h)
+    ∙ sym (all_on old (all_made (units_between s r)) (poll_end spot turns (Some (Answered n)))) ∙ ap (lines_after_events old) (sym (k.seen spot turns))
 
 pub poll_stopped : (s r : State ℕ Now) (old new : LogLines) (stopped : Stopped) (spot : Spot) (turns : ℕ) → Noted s r old new → SeenAsPoll s r (Err stopped)
-    → new ≡ listed_all old (polled_events spot turns (units_between s r))
+    → new ≡ lines_after_events old (polled_events spot turns (units_between s r))
 poll_stopped s r old new stopped spot turns h k =
-    made_noted s r old new h ∙ ap (listed_all old) (sym (k.seen spot turns ∙ append-nil (all_made (units_between s r))))
+    made_noted s r old new h ∙ ap (lines_after_events old) (sym (k.seen spot turns ∙ append-nil (all_made (units_between s r))))
 
 pub no_zero : (value : ℕ) → (value ≡ 0 → ⊥) → nat_eq value 0 ≡ false
 no_zero value some = elim (eqb_tells value 0) [ inl h ↦ absurd (some h.1) | inr h ↦ h.0 ]
 
-pub timed_out : (r : Result (Unit {0}) OutOfMemory) (spot : Spot) (turns value : ℕ) (old new : LogLines) → value ≡ 0 → Lists old new r (TimesOut spot turns) → OnOk r (new ≡ listed_all old (poll_end spot turns (Some (Answered value))))
-timed_out (Ok done) spot turns value old new none h = subst (λ v. new ≡ listed_all old (poll_end spot turns (Some (Answered v)))) (sym none) h
+pub timed_out : (r : Result (Unit {0}) OutOfMemory) (spot : Spot) (turns value : ℕ) (old new : LogLines) → value ≡ 0 → Lists old new r (TimesOut spot turns) → OnOk r (new ≡ lines_after_events old (poll_end spot turns (Some (Answered value))))
+timed_out (Ok done) spot turns value old new none h = subst (λ v. new ≡ lines_after_events old (poll_end spot turns (Some (Answered v)))) (sym none) h
 timed_out (Err refused) spot turns value old new none h = tt
 
-pub matched : (r : Result (Unit {0}) OutOfMemory) (spot : Spot) (turns value : ℕ) (old new : LogLines) → (value ≡ 0 → ⊥) → Lists old new r (Matches spot) → OnOk r (new ≡ listed_all old (poll_end spot turns (Some (Answered value))))
-matched (Ok done) spot turns value old new some h = subst (λ b. new ≡ listed old (cond b (TimesOut spot turns) (Matches spot))) (sym (no_zero value some)) h
+pub matched : (r : Result (Unit {0}) OutOfMemory) (spot : Spot) (turns value : ℕ) (old new : LogLines) → (value ≡ 0 → ⊥) → Lists old new r (Matches spot) → OnOk r (new ≡ lines_after_events old (poll_end spot turns (Some (Answered value))))
+matched (Ok done) spot turns value old new some h = subst (λ b. new ≡ lines_after_event old (cond b (TimesOut spot turns) (Matches spot))) (sym (no_zero value some)) h
 matched (Err refused) spot turns value old new some h = tt
 
 -- what is noted of a unit

@@ -8,9 +8,9 @@ ghost use Rattle.sequence_rules.specs.Direct.{Now, direct};
 ghost use Rattle.sequence_rules.specs.Machine.{State};
 ghost use Rattle.sequence_rules.specs.Shared.{bindings_of};
 ghost use Rattle.run_events.specs.OfSteps.{poll_end};
-ghost use Rattle.log_lines.specs.LogLines.{listed_all};
+ghost use Rattle.log_lines.specs.LogLines.{lines_after_events};
 ghost use Rattle.sequence_rules.specs.Variables.{value_named};
-ghost use Rattle.logged_calls.specs.Held.{ComesTo, MakesUnits, NotesPoll, SeesPoll, poll_value, port_view};
+ghost use Rattle.logged_calls.specs.Held.{CallComesTo, MakesUnits, NotesPoll, SeesPoll, poll_value, port_view};
 
 use crate::held::{Held, LoggedEnd, Stopped};
 use dap_base::OutOfMemory;
@@ -123,7 +123,7 @@ pub(crate) fn ask_for_result(
 
 // How a poll ended, by what its unit answered.
 fn note_end(value: u64, turns: u32, log: &mut EventLog) -> Result<(), OutOfMemory>
-    ensures { (spot : Spot) → OnOk result (log.new ≡ listed_all log.old (poll_end spot turns (Some (Answered value)))) }
+    ensures { (spot : Spot) → OnOk result (log.new ≡ lines_after_events log.old (poll_end spot turns (Some (Answered value)))) }
 {
     if value == 0 {
         log.time_out(turns)
@@ -144,7 +144,7 @@ pub fn ask_poll(
 ) -> Result<u64, Stopped>
     requires least { 1 ≤ turns }
     requires most { turns ≤ 60000000 }
-    ensures gives { ComesTo held.old target.old held.new target.new result (poll_value (mask, requested) turns) }
+    ensures gives { CallComesTo held.old target.old held.new target.new result (poll_value (mask, requested) turns) }
     ensures noted { (spot : Spot) → NotesPoll held.old target.old held.new target.new result spot turns }
     ensures polled { SeesPoll held.old target.old held.new target.new result }
 {

@@ -2,8 +2,8 @@
 ghost use Rattle.std.specs.Prelude.{◌≡◌, ℕ, List, None, false};
 ghost use Rattle.sequence_rules.specs.Calls as c;
 ghost use Rattle.sequence_rules.specs.Direct.{direct};
-ghost use Rattle.run_events.specs.OfValues.{function_events, line_of};
-ghost use Rattle.logged_calls.specs.Held.{ComesTo, NotesEvents, NotesUnits, state_of};
+ghost use Rattle.run_events.specs.OfValues.{function_events, function_line};
+ghost use Rattle.logged_calls.specs.Held.{CallComesTo, NotesEvents, NotesUnits, logged_state_of};
 
 use crate::held::{Held, LoggedEnd, Stopped};
 use crate::lines::{number_at, write_load, write_message, write_query, write_query_value};
@@ -22,8 +22,8 @@ fn call_unit(
     held: &mut Held,
     target: &mut Target,
 ) -> Result<u64, Stopped>
-    ensures gives { (text : List ℕ) → line_of function text numbers.now ≡ None
-        → ComesTo held.old target.old held.new target.new result (c.function_result (direct false) function text numbers.now) }
+    ensures gives { (text : List ℕ) → function_line function text numbers.now ≡ None
+        → CallComesTo held.old target.old held.new target.new result (c.function_result (direct false) function text numbers.now) }
     ensures noted { NotesUnits held.old target.old held.new target.new result }
 {
     let first = number_at(numbers, 0);
@@ -72,9 +72,9 @@ pub fn make_call(
     target: &mut Target,
 ) -> Result<u64, Stopped>
     // The result, the variables, the counts, the calls and the target are those of the meaning; and why the call ends.
-    ensures gives { ComesTo held.old target.old held.new target.new result (c.function_result (direct false) function text.now numbers.now) }
+    ensures gives { CallComesTo held.old target.old held.new target.new result (c.function_result (direct false) function text.now numbers.now) }
     // What is seen of the call is noted.
-    ensures noted { NotesEvents held.old held.new result (function_events function text.now numbers.now (state_of held.old target.old)) }
+    ensures noted { NotesEvents held.old held.new result (function_events function text.now numbers.now (logged_state_of held.old target.old)) }
 {
     match function {
         Function::Message => write_message(text, numbers, alloc, held),

@@ -3,7 +3,7 @@ ghost use Rattle.std.specs.Prelude.{◌≡◌, ◌⊎◌, ℕ, ◌<◌, ◌^◌,
 ghost use Rattle.sequence_rules.specs.Calls as c;
 ghost use Rattle.sequence_rules.specs.Direct.{Now, direct};
 ghost use Rattle.sequence_rules.specs.Machine.{State};
-ghost use Rattle.logged_calls.specs.Held.{MakesUnits, port_at, port_view};
+ghost use Rattle.logged_calls.specs.Held.{MakesUnits, port_on_dp0, port_view};
 
 use crate::asking::{ask, ask_for_result, port_of};
 use crate::held::{Held, LoggedEnd, Stopped};
@@ -34,7 +34,7 @@ fn ask_second_half(
 ) -> Result<u64, Stopped>
     requires aligned { address % 8 ≡ 0 }
     requires low { low < 2 ^ 32 }
-    ensures { MakesUnits held.old target.old held.new target.new result (c.second_half (direct false) read (port_at ap forgive) address value low) }
+    ensures { MakesUnits held.old target.old held.new target.new result (c.second_half (direct false) read (port_on_dp0 ap forgive) address value low) }
 {
     let unit = memory_unit(4, read, ap, address + 4, value / 0x1_0000_0000);
     let high = match ask(unit, forgive, held, target) {
@@ -56,7 +56,7 @@ fn ask_two_units(
     target: &mut Target,
 ) -> Result<u64, Stopped>
     requires aligned { address % 8 ≡ 0 }
-    ensures { MakesUnits held.old target.old held.new target.new result (c.two_units (direct false) read (port_at ap forgive) address value) }
+    ensures { MakesUnits held.old target.old held.new target.new result (c.two_units (direct false) read (port_on_dp0 ap forgive) address value) }
 {
     let unit = memory_unit(4, read, ap, address, value);
     let low = match ask(unit, forgive, held, target) {

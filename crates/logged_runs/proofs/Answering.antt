@@ -5,10 +5,10 @@ use Rattle.sequence_rules.specs.Direct.{Now}
 use Rattle.sequence_rules.specs.Machine as machine
 use Rattle.sequence_rules.specs.Machine.{State, Out, end_state}
 use Rattle.sequence_rules.specs.Runs.{Outcome, outcome_of, units_of}
-use Rattle.run_events.specs.Events.{Event, places_after, places_of}
+use Rattle.run_events.specs.Events.{Event, places_after, places_reached}
 use Rattle.run_events.specs.OfRuns.{each_turn}
-use Rattle.log_lines.specs.LogLines.{LogLines, listed_all, written}
-use Rattle.log_lines.specs.LogText.{noted_all}
+use Rattle.log_lines.specs.LogLines.{LogLines, lines_after_events, text_of_lines}
+use Rattle.log_lines.specs.LogText.{text_after_events}
 use Rattle.log_lines.proofs.Cutting.{written_all}
 use Rattle.logged_calls.specs.Held.{Means, Unless}
 use Rattle.logged_calls.specs.declared.held.LoggedEnd.{LoggedEnd}
@@ -17,15 +17,15 @@ use Rattle.logged_calls.specs.declared.held.Stopped.{Stopped}
 use Rattle.run_coverage.specs.Covered.{IsOf}
 use Rattle.logged_runs.specs.declared.logged.LoggedEnding.{LoggedEnding}
 use Rattle.logged_runs.specs.declared.logged.LoggedEnding.TheVariants as l
-use Rattle.logged_runs.specs.Answers.{EndsAs, IsEndOf}
-use Rattle.logged_runs.specs.Seen.{IsStart, Notes, SeenSoFar, has_error, has_timeout}
+use Rattle.logged_runs.specs.Answers.{IsEndOf, LoggedRunEndsAs}
+use Rattle.logged_runs.specs.Seen.{HasSeenNothing, NotesByTurns, SeenSoFar, has_error, has_timeout}
 
 abbrev S : Type 0
 S = State ℕ Now
 
 -- what comes of a run, in the last state of the walk
 pub record Came (o : Outcome) (s : S) (e : LoggedEnding) : Type 0 where
-  pub ending : EndsAs o e s.globals
+  pub ending : LoggedRunEndsAs o e s.globals
   pub calls : s.rest.calls ≡ o.calls
   pub skipped : s.rest.skipped ≡ o.skipped
   pub target : s.rest.world.target ≡ o.target
@@ -54,12 +54,12 @@ at_end P (end.Faulted u) (Err stopped) end units is h = h
 at_end P end.OutOfMemory (Err stopped) end units is h = absurd is
 
 -- what was seen from the start on
-module _ (turns : ℕ) (first last : SeenSoFar) (F : (ℕ → Bool) → List Event) (none : IsStart first) (h : Notes turns first last F) where
-  pub log_at : written last.log ≡ noted_all (record { text = []; depth = 0 }) (F (λ number. nat_le number turns))
-  log_at = ap (λ (g : LogLines). written g) (h.log ∙ ap (λ (g : LogLines). listed_all g (F (λ number. nat_le number turns))) none.log)
+module _ (turns : ℕ) (first last : SeenSoFar) (F : (ℕ → Bool) → List Event) (none : HasSeenNothing first) (h : NotesByTurns turns first last F) where
+  pub log_at : text_of_lines last.log ≡ text_after_events (record { text = []; depth = 0 }) (F (λ number. nat_le number turns))
+  log_at = ap (λ (g : LogLines). text_of_lines g) (h.log ∙ ap (λ (g : LogLines). lines_after_events g (F (λ number. nat_le number turns))) none.log)
       ∙ written_all (record { lines = []; depth = 0 }) (F (λ number. nat_le number turns))
 
-  pub places_at : last.places ≡ places_of (F each_turn)
+  pub places_at : last.places ≡ places_reached (F each_turn)
   places_at = h.all.places ∙ ap (λ p. fold places_after p (F each_turn)) none.places
 
   pub covered_at : IsOf last.coverage (F each_turn)

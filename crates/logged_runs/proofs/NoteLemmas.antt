@@ -6,16 +6,16 @@ use Rattle.std.proofs.lemmas.List.Folds.{list_any-append}
 use Rattle.sequence_trees.specs.declared.spot.Spot.{Spot}
 use Rattle.sequence_rules.specs.Direct.{Now}
 use Rattle.sequence_rules.specs.Machine.{State, Out}
-use Rattle.run_events.specs.Events.{Event, after, places_after}
+use Rattle.run_events.specs.Events.{Event, events_after, places_after}
 use Rattle.run_events.specs.OfRuns.{each_turn}
-use Rattle.log_lines.specs.LogLines.{listed_all}
-use Rattle.logged_calls.specs.Held.{EndsAs, Means, Unless}
+use Rattle.log_lines.specs.LogLines.{lines_after_events}
+use Rattle.logged_calls.specs.Held.{CodeEndsAs, Means, Unless}
 use Rattle.logged_calls.specs.declared.held.LoggedEnd.{LoggedEnd}
 use Rattle.logged_calls.specs.declared.held.LoggedEnd.TheVariants as end
 use Rattle.logged_calls.specs.declared.held.Stopped.{Stopped}
 use Rattle.logged_calls.proofs.NotedLemmas.{all_on}
 use Rattle.run_coverage.specs.Covered.{IsOf}
-use Rattle.logged_runs.specs.Seen.{Notes, NotesAll, SeenSoFar, Shown, has_error, has_timeout, is_error, is_timeout}
+use Rattle.logged_runs.specs.Seen.{NotesAll, NotesByTurns, SeenSoFar, ShownEvents, has_error, has_timeout, is_error, is_timeout_event}
 use Rattle.dap_base.proofs.Basics.{or_none}
 use Rattle.code_check.proofs.Visible.{or_assoc}
 
@@ -40,24 +40,24 @@ pub all_then : (a b c : SeenSoFar) (xs ys : List Event) → NotesAll a b xs → 
 all_then a b c xs ys h k = record {
   places = k.places ∙ ap (λ p. fold places_after p ys) h.places ∙ sym (places_on a.places xs ys);
   covered = λ earlier of. subst (IsOf c.coverage) (append_assoc earlier xs ys) (k.covered (earlier ++ xs) (h.covered earlier of));
-  timed_out = k.timed_out ∙ ap (λ b. b || has_timeout ys) h.timed_out ∙ or_assoc a.timed_out (has_timeout xs) (has_timeout ys) ∙ ap (λ b. a.timed_out || b) (sym (list_any-append is_timeout xs ys));
+  timed_out = k.timed_out ∙ ap (λ b. b || has_timeout ys) h.timed_out ∙ or_assoc a.timed_out (has_timeout xs) (has_timeout ys) ∙ ap (λ b. a.timed_out || b) (sym (list_any-append is_timeout_event xs ys));
   error_shown = k.error_shown ∙ ap (λ b. b || has_error ys) h.error_shown ∙ or_assoc a.error_shown (has_error xs) (has_error ys) ∙ ap (λ b. a.error_shown || b) (sym (list_any-append is_error xs ys));
 }
 
 -- ---- events that are shown, and all
 
-pub notes_none : (turns : ℕ) (a : SeenSoFar) → Notes turns a a (λ shows. [])
+pub notes_none : (turns : ℕ) (a : SeenSoFar) → NotesByTurns turns a a (λ shows. [])
 notes_none turns a = record { log = refl; all = all_none a }
 
-pub notes_then : (turns : ℕ) (a b c : SeenSoFar) (F G : Shown) → Notes turns a b F → Notes turns b c G → Notes turns a c (λ shows. F shows ++ G shows)
+pub notes_then : (turns : ℕ) (a b c : SeenSoFar) (F G : ShownEvents) → NotesByTurns turns a b F → NotesByTurns turns b c G → NotesByTurns turns a c (λ shows. F shows ++ G shows)
 notes_then turns a b c F G h k = record {
-  log = k.log ∙ ap (λ l. listed_all l (G (λ number. nat_le number turns))) h.log ∙ sym (all_on a.log (F (λ number. nat_le number turns)) (G (λ number. nat_le number turns)));
+  log = k.log ∙ ap (λ l. lines_after_events l (G (λ number. nat_le number turns))) h.log ∙ sym (all_on a.log (F (λ number. nat_le number turns)) (G (λ number. nat_le number turns)));
   all = all_then a b c (F each_turn) (G each_turn) h.all k.all;
 }
 
-pub notes_as : (turns : ℕ) (a b : SeenSoFar) (F G : Shown) → ((shows : ℕ → Bool) → F shows ≡ G shows) → Notes turns a b F → Notes turns a b G
+pub notes_as : (turns : ℕ) (a b : SeenSoFar) (F G : ShownEvents) → ((shows : ℕ → Bool) → F shows ≡ G shows) → NotesByTurns turns a b F → NotesByTurns turns a b G
 notes_as turns a b F G same h = record {
-  log = h.log ∙ ap (listed_all a.log) (same (λ number. nat_le number turns));
+  log = h.log ∙ ap (lines_after_events a.log) (same (λ number. nat_le number turns));
   all = subst (NotesAll a b) (same each_turn) h.all;
 }
 
@@ -78,65 +78,65 @@ unless_stopped A B P Q end.OutOfMemory stopped other f h = tt
 pub refused : (B : Type 0) (P : Type 0) (e : LoggedEnd) (stopped : Stopped) → e ≡ end.OutOfMemory → Unless {A = B} e (Err stopped) P
 refused B P e stopped is = subst (λ x. Unless {A = B} x (Err stopped) P) (sym is) tt
 
-pub refused_ends : {B : Type 0} (e : LoggedEnd) (s : S) (out : Out ℕ Now B) → e ≡ end.OutOfMemory → EndsAs e s out
-refused_ends e s out is = subst (λ x. EndsAs x s out) (sym is) tt
+pub refused_ends : {B : Type 0} (e : LoggedEnd) (s : S) (out : Out ℕ Now B) → e ≡ end.OutOfMemory → CodeEndsAs e s out
+refused_ends e s out is = subst (λ x. CodeEndsAs x s out) (sym is) tt
 
 -- something was noted, and then the rest
-pub first_then : {B : Type 0} (turns : ℕ) (a b c : SeenSoFar) (F G : Shown) (e : LoggedEnd) (result : Result B Stopped) → Notes turns a b F → Unless e result (Notes turns b c G) → Unless e result (Notes turns a c (λ shows. F shows ++ G shows))
-first_then turns a b c F G e result h k = unless_map (Notes turns b c G) (Notes turns a c (λ shows. F shows ++ G shows)) e result (λ n. notes_then turns a b c F G h n) k
+pub first_then : {B : Type 0} (turns : ℕ) (a b c : SeenSoFar) (F G : ShownEvents) (e : LoggedEnd) (result : Result B Stopped) → NotesByTurns turns a b F → Unless e result (NotesByTurns turns b c G) → Unless e result (NotesByTurns turns a c (λ shows. F shows ++ G shows))
+first_then turns a b c F G e result h k = unless_map (NotesByTurns turns b c G) (NotesByTurns turns a c (λ shows. F shows ++ G shows)) e result (λ n. notes_then turns a b c F G h n) k
 
 -- a part came to a value, and then the rest
-pub value_then : {A B : Type 0} (turns : ℕ) (a b c : SeenSoFar) (F : Shown) (G : A → S → Shown) (e : LoggedEnd) (result : Result B Stopped) (out : Out ℕ Now A) (x : A) (r : S) → out ≡ Ok (x, r)
-    → Notes turns a b F → Unless e result (Notes turns b c (G x r)) → Unless e result (Notes turns a c (λ shows. F shows ++ after out (λ y q. G y q shows)))
+pub value_then : {A B : Type 0} (turns : ℕ) (a b c : SeenSoFar) (F : ShownEvents) (G : A → S → ShownEvents) (e : LoggedEnd) (result : Result B Stopped) (out : Out ℕ Now A) (x : A) (r : S) → out ≡ Ok (x, r)
+    → NotesByTurns turns a b F → Unless e result (NotesByTurns turns b c (G x r)) → Unless e result (NotesByTurns turns a c (λ shows. F shows ++ events_after out (λ y q. G y q shows)))
 value_then turns a b c F G e result out x r is h k =
-    subst (λ o. Unless e result (Notes turns a c (λ shows. F shows ++ after o (λ y q. G y q shows)))) (sym is) (first_then turns a b c F (G x r) e result h k)
+    subst (λ o. Unless e result (NotesByTurns turns a c (λ shows. F shows ++ events_after o (λ y q. G y q shows)))) (sym is) (first_then turns a b c F (G x r) e result h k)
 
-stops : {A : Type 0} (turns : ℕ) (a b : SeenSoFar) (F : Shown) (G : A → S → Shown) (out : Out ℕ Now A) → ((shows : ℕ → Bool) → after out (λ y q. G y q shows) ≡ []) → Notes turns a b F → Notes turns a b (λ shows. F shows ++ after out (λ y q. G y q shows))
-stops turns a b F G out none h = notes_as turns a b F (λ shows. F shows ++ after out (λ y q. G y q shows)) (λ shows. sym (ap (λ xs. F shows ++ xs) (none shows) ∙ append-nil (F shows))) h
+stops : {A : Type 0} (turns : ℕ) (a b : SeenSoFar) (F : ShownEvents) (G : A → S → ShownEvents) (out : Out ℕ Now A) → ((shows : ℕ → Bool) → events_after out (λ y q. G y q shows) ≡ []) → NotesByTurns turns a b F → NotesByTurns turns a b (λ shows. F shows ++ events_after out (λ y q. G y q shows))
+stops turns a b F G out none h = notes_as turns a b F (λ shows. F shows ++ events_after out (λ y q. G y q shows)) (λ shows. sym (ap (λ xs. F shows ++ xs) (none shows) ∙ append-nil (F shows))) h
 
 -- a part did not come to a value
-pub part_stops : {A : Type 0} (B : Type 0) (turns : ℕ) (a b : SeenSoFar) (F : Shown) (G : A → S → Shown) (e : LoggedEnd) (stopped other : Stopped) (out : Out ℕ Now A) (r : S) → EndsAs e r out
-    → Unless {A = A} e (Err stopped) (Notes turns a b F) → Unless {A = B} e (Err other) (Notes turns a b (λ shows. F shows ++ after out (λ y q. G y q shows)))
-part_stops B turns a b F G (end.Halted cause) stopped other out r is h = stops turns a b F G out (λ shows. ap (λ o. after o (λ y q. G y q shows)) is) h
-part_stops B turns a b F G (end.Faulted u) stopped other out r is h = stops turns a b F G out (λ shows. ap (λ o. after o (λ y q. G y q shows)) is) h
+pub part_stops : {A : Type 0} (B : Type 0) (turns : ℕ) (a b : SeenSoFar) (F : ShownEvents) (G : A → S → ShownEvents) (e : LoggedEnd) (stopped other : Stopped) (out : Out ℕ Now A) (r : S) → CodeEndsAs e r out
+    → Unless {A = A} e (Err stopped) (NotesByTurns turns a b F) → Unless {A = B} e (Err other) (NotesByTurns turns a b (λ shows. F shows ++ events_after out (λ y q. G y q shows)))
+part_stops B turns a b F G (end.Halted cause) stopped other out r is h = stops turns a b F G out (λ shows. ap (λ o. events_after o (λ y q. G y q shows)) is) h
+part_stops B turns a b F G (end.Faulted u) stopped other out r is h = stops turns a b F G out (λ shows. ap (λ o. events_after o (λ y q. G y q shows)) is) h
 part_stops B turns a b F G end.OutOfMemory stopped other out r is h = tt
 
 -- ---- loops: what is noted of the rest is what is noted of all
 
 -- one item more, which came to a value
-pub more_noted : {A : Type 0} (turns : ℕ) (f a b : SeenSoFar) (F head all : Shown) (G : A → S → Shown) (out : Out ℕ Now A) (x : A) (r : S) → ((c : SeenSoFar) → Notes turns a c head → Notes turns f c all)
-    → ((shows : ℕ → Bool) → F shows ++ after out (λ y q. G y q shows) ≡ head shows) → out ≡ Ok (x, r) → Notes turns a b F → (c : SeenSoFar) → Notes turns b c (G x r) → Notes turns f c all
+pub more_noted : {A : Type 0} (turns : ℕ) (f a b : SeenSoFar) (F head all : ShownEvents) (G : A → S → ShownEvents) (out : Out ℕ Now A) (x : A) (r : S) → ((c : SeenSoFar) → NotesByTurns turns a c head → NotesByTurns turns f c all)
+    → ((shows : ℕ → Bool) → F shows ++ events_after out (λ y q. G y q shows) ≡ head shows) → out ≡ Ok (x, r) → NotesByTurns turns a b F → (c : SeenSoFar) → NotesByTurns turns b c (G x r) → NotesByTurns turns f c all
 more_noted turns f a b F head all G out x r so heads is h c k =
-    so c (notes_as turns a c (λ shows. F shows ++ G x r shows) head (λ shows. ap (λ o. F shows ++ after o (λ y q. G y q shows)) (sym is) ∙ heads shows) (notes_then turns a b c F (G x r) h k))
+    so c (notes_as turns a c (λ shows. F shows ++ G x r shows) head (λ shows. ap (λ o. F shows ++ events_after o (λ y q. G y q shows)) (sym is) ∙ heads shows) (notes_then turns a b c F (G x r) h k))
 
 -- no item more
-pub over_noted : (turns : ℕ) (f a : SeenSoFar) (head all : Shown) → ((c : SeenSoFar) → Notes turns a c head → Notes turns f c all) → ((shows : ℕ → Bool) → [] ≡ head shows) → Notes turns f a all
+pub over_noted : (turns : ℕ) (f a : SeenSoFar) (head all : ShownEvents) → ((c : SeenSoFar) → NotesByTurns turns a c head → NotesByTurns turns f c all) → ((shows : ℕ → Bool) → [] ≡ head shows) → NotesByTurns turns f a all
 over_noted turns f a head all so none = so a (notes_as turns a a (λ shows. []) head none (notes_none turns a))
 
 -- an item that did not come to a value
-pub stop_noted : {A : Type 0} (B : Type 0) (turns : ℕ) (f a b : SeenSoFar) (F head all : Shown) (G : A → S → Shown) (e : LoggedEnd) (stopped other : Stopped) (out : Out ℕ Now A) (r : S) → ((c : SeenSoFar) → Notes turns a c head → Notes turns f c all)
-    → ((shows : ℕ → Bool) → F shows ++ after out (λ y q. G y q shows) ≡ head shows) → EndsAs e r out → Unless {A = A} e (Err stopped) (Notes turns a b F) → Unless {A = B} e (Err other) (Notes turns f b all)
+pub stop_noted : {A : Type 0} (B : Type 0) (turns : ℕ) (f a b : SeenSoFar) (F head all : ShownEvents) (G : A → S → ShownEvents) (e : LoggedEnd) (stopped other : Stopped) (out : Out ℕ Now A) (r : S) → ((c : SeenSoFar) → NotesByTurns turns a c head → NotesByTurns turns f c all)
+    → ((shows : ℕ → Bool) → F shows ++ events_after out (λ y q. G y q shows) ≡ head shows) → CodeEndsAs e r out → Unless {A = A} e (Err stopped) (NotesByTurns turns a b F) → Unless {A = B} e (Err other) (NotesByTurns turns f b all)
 stop_noted {A} B turns f a b F head all G e stopped other out r so heads is h =
-    unless_map {A = B} (Notes turns a b (λ shows. F shows ++ after out (λ y q. G y q shows))) (Notes turns f b all) e (Err other) (λ n. so b (notes_as turns a b (λ shows. F shows ++ after out (λ y q. G y q shows)) head heads n))
+    unless_map {A = B} (NotesByTurns turns a b (λ shows. F shows ++ events_after out (λ y q. G y q shows))) (NotesByTurns turns f b all) e (Err other) (λ n. so b (notes_as turns a b (λ shows. F shows ++ events_after out (λ y q. G y q shows)) head heads n))
     (part_stops {A = A} B turns a b F G e stopped other out r is h)
 
 -- ---- what is noted of the parts of a walk
 
 -- the same from a state in which as much was seen
-pub notes_from : (turns : ℕ) (a b c : SeenSoFar) (F : Shown) → b ≡ a → Notes turns b c F → Notes turns a c F
-notes_from turns a b c F same h = subst (λ (x : SeenSoFar). Notes turns x c F) same h
+pub notes_from : (turns : ℕ) (a b c : SeenSoFar) (F : ShownEvents) → b ≡ a → NotesByTurns turns b c F → NotesByTurns turns a c F
+notes_from turns a b c F same h = subst (λ (x : SeenSoFar). NotesByTurns turns x c F) same h
 
-pub notes_to : (turns : ℕ) (a b c : SeenSoFar) (F : Shown) → c ≡ b → Notes turns a b F → Notes turns a c F
-notes_to turns a b c F same h = subst (λ (x : SeenSoFar). Notes turns a x F) (sym same) h
+pub notes_to : (turns : ℕ) (a b c : SeenSoFar) (F : ShownEvents) → c ≡ b → NotesByTurns turns a b F → NotesByTurns turns a c F
+notes_to turns a b c F same h = subst (λ (x : SeenSoFar). NotesByTurns turns a x F) (sym same) h
 
-pub unless_from : {A : Type 0} (turns : ℕ) (a b c : SeenSoFar) (F : Shown) (e : LoggedEnd) (result : Result A Stopped) → b ≡ a → Unless e result (Notes turns b c F) → Unless e result (Notes turns a c F)
-unless_from turns a b c F e result same h = subst (λ (x : SeenSoFar). Unless e result (Notes turns x c F)) same h
+pub unless_from : {A : Type 0} (turns : ℕ) (a b c : SeenSoFar) (F : ShownEvents) (e : LoggedEnd) (result : Result A Stopped) → b ≡ a → Unless e result (NotesByTurns turns b c F) → Unless e result (NotesByTurns turns a c F)
+unless_from turns a b c F e result same h = subst (λ (x : SeenSoFar). Unless e result (NotesByTurns turns x c F)) same h
 
-pub unless_to : {A : Type 0} (turns : ℕ) (a b c : SeenSoFar) (F : Shown) (e : LoggedEnd) (result : Result A Stopped) → c ≡ b → Unless e result (Notes turns a b F) → Unless e result (Notes turns a c F)
-unless_to turns a b c F e result same h = subst (λ (x : SeenSoFar). Unless e result (Notes turns a x F)) (sym same) h
+pub unless_to : {A : Type 0} (turns : ℕ) (a b c : SeenSoFar) (F : ShownEvents) (e : LoggedEnd) (result : Result A Stopped) → c ≡ b → Unless e result (NotesByTurns turns a b F) → Unless e result (NotesByTurns turns a c F)
+unless_to turns a b c F e result same h = subst (λ (x : SeenSoFar). Unless e result (NotesByTurns turns a x F)) (sym same) h
 
-pub unless_as : {A : Type 0} (turns : ℕ) (a b : SeenSoFar) (F G : Shown) (e : LoggedEnd) (result : Result A Stopped) → ((shows : ℕ → Bool) → F shows ≡ G shows) → Unless e result (Notes turns a b F) → Unless e result (Notes turns a b G)
-unless_as turns a b F G e result same h = unless_map (Notes turns a b F) (Notes turns a b G) e result (λ n. notes_as turns a b F G same n) h
+pub unless_as : {A : Type 0} (turns : ℕ) (a b : SeenSoFar) (F G : ShownEvents) (e : LoggedEnd) (result : Result A Stopped) → ((shows : ℕ → Bool) → F shows ≡ G shows) → Unless e result (NotesByTurns turns a b F) → Unless e result (NotesByTurns turns a b G)
+unless_as turns a b F G e result same h = unless_map (NotesByTurns turns a b F) (NotesByTurns turns a b G) e result (λ n. notes_as turns a b F G same n) h
 
 pub always : {A : Type 0} (P : Type 0) (e : LoggedEnd) (result : Result A Stopped) → P → Unless e result P
 always P e (Ok x) h = h
@@ -154,43 +154,43 @@ means_refused e (Ok x) s out h none = h
 means_refused e (Err stopped) s out h none = refused_ends e s out none
 
 -- an event is noted, in a state that stays, and then the rest
-pub event_then : {A : Type 0} (turns : ℕ) (a b c : SeenSoFar) (ev : Event) (R : S → Shown) (e : LoggedEnd) (result : Result A Stopped) (s q : S) → q ≡ s → Notes turns a b (λ shows. ev ∷ []) → Unless e result (Notes turns b c (R q))
-    → Unless e result (Notes turns a c (λ shows. ev ∷ R s shows))
-event_then turns a b c ev R e result s q same h k = subst (λ (x : S). Unless e result (Notes turns a c (λ shows. ev ∷ R x shows))) same (first_then turns a b c (λ shows. ev ∷ []) (R q) e result h k)
+pub event_then : {A : Type 0} (turns : ℕ) (a b c : SeenSoFar) (ev : Event) (R : S → ShownEvents) (e : LoggedEnd) (result : Result A Stopped) (s q : S) → q ≡ s → NotesByTurns turns a b (λ shows. ev ∷ []) → Unless e result (NotesByTurns turns b c (R q))
+    → Unless e result (NotesByTurns turns a c (λ shows. ev ∷ R s shows))
+event_then turns a b c ev R e result s q same h k = subst (λ (x : S). Unless e result (NotesByTurns turns a c (λ shows. ev ∷ R x shows))) same (first_then turns a b c (λ shows. ev ∷ []) (R q) e result h k)
 
 -- a part came to a value, and then the rest was noted
-pub notes_value : {A : Type 0} (turns : ℕ) (a b c : SeenSoFar) (F : Shown) (G : A → S → Shown) (out : Out ℕ Now A) (x : A) (r : S) → out ≡ Ok (x, r) → Notes turns a b F → Notes turns b c (G x r)
-    → Notes turns a c (λ shows. F shows ++ after out (λ y q. G y q shows))
-notes_value turns a b c F G out x r is h k = subst (λ o. Notes turns a c (λ shows. F shows ++ after o (λ y q. G y q shows))) (sym is) (notes_then turns a b c F (G x r) h k)
+pub notes_value : {A : Type 0} (turns : ℕ) (a b c : SeenSoFar) (F : ShownEvents) (G : A → S → ShownEvents) (out : Out ℕ Now A) (x : A) (r : S) → out ≡ Ok (x, r) → NotesByTurns turns a b F → NotesByTurns turns b c (G x r)
+    → NotesByTurns turns a c (λ shows. F shows ++ events_after out (λ y q. G y q shows))
+notes_value turns a b c F G out x r is h k = subst (λ o. NotesByTurns turns a c (λ shows. F shows ++ events_after o (λ y q. G y q shows))) (sym is) (notes_then turns a b c F (G x r) h k)
 
 -- a part of which nothing is seen came to a value, and then the rest
-pub quiet_then : {A B : Type 0} (turns : ℕ) (a b c : SeenSoFar) (G : A → S → Shown) (e : LoggedEnd) (result : Result B Stopped) (out : Out ℕ Now A) (x : A) (r : S) → out ≡ Ok (x, r) → b ≡ a
-    → Unless e result (Notes turns b c (G x r)) → Unless e result (Notes turns a c (λ shows. after out (λ y q. G y q shows)))
+pub quiet_then : {A B : Type 0} (turns : ℕ) (a b c : SeenSoFar) (G : A → S → ShownEvents) (e : LoggedEnd) (result : Result B Stopped) (out : Out ℕ Now A) (x : A) (r : S) → out ≡ Ok (x, r) → b ≡ a
+    → Unless e result (NotesByTurns turns b c (G x r)) → Unless e result (NotesByTurns turns a c (λ shows. events_after out (λ y q. G y q shows)))
 quiet_then turns a b c G e result out x r is same k =
-    subst (λ o. Unless e result (Notes turns a c (λ shows. after o (λ y q. G y q shows)))) (sym is) (unless_from turns a b c (G x r) e result same k)
+    subst (λ o. Unless e result (NotesByTurns turns a c (λ shows. events_after o (λ y q. G y q shows)))) (sym is) (unless_from turns a b c (G x r) e result same k)
 
 -- a part of which nothing is seen did not
-pub quiet_stops : {A : Type 0} (B : Type 0) (turns : ℕ) (a b : SeenSoFar) (G : A → S → Shown) (e : LoggedEnd) (stopped : Stopped) (out : Out ℕ Now A) (r : S) → EndsAs e r out → b ≡ a
-    → Unless {A = B} e (Err stopped) (Notes turns a b (λ shows. after out (λ y q. G y q shows)))
+pub quiet_stops : {A : Type 0} (B : Type 0) (turns : ℕ) (a b : SeenSoFar) (G : A → S → ShownEvents) (e : LoggedEnd) (stopped : Stopped) (out : Out ℕ Now A) (r : S) → CodeEndsAs e r out → b ≡ a
+    → Unless {A = B} e (Err stopped) (NotesByTurns turns a b (λ shows. events_after out (λ y q. G y q shows)))
 quiet_stops {A} B turns a b G e stopped out r is same =
-    part_stops {A = A} B turns a b (λ shows. []) G e stopped stopped out r is (always {A = A} (Notes turns a b (λ shows. [])) e (Err stopped) (notes_to turns a a b (λ shows. []) same (notes_none turns a)))
+    part_stops {A = A} B turns a b (λ shows. []) G e stopped stopped out r is (always {A = A} (NotesByTurns turns a b (λ shows. [])) e (Err stopped) (notes_to turns a a b (λ shows. []) same (notes_none turns a)))
 
 -- one of two, by a test
-pub take_first : {A : Type 0} (turns : ℕ) (a b : SeenSoFar) (F G : Shown) (e : LoggedEnd) (result : Result A Stopped) (test : Bool) → test ≡ true → Unless e result (Notes turns a b F) → Unless e result (Notes turns a b (λ shows. cond test (F shows) (G shows)))
-take_first turns a b F G e result test is h = subst (λ t. Unless e result (Notes turns a b (λ shows. cond t (F shows) (G shows)))) (sym is) h
+pub take_first : {A : Type 0} (turns : ℕ) (a b : SeenSoFar) (F G : ShownEvents) (e : LoggedEnd) (result : Result A Stopped) (test : Bool) → test ≡ true → Unless e result (NotesByTurns turns a b F) → Unless e result (NotesByTurns turns a b (λ shows. cond test (F shows) (G shows)))
+take_first turns a b F G e result test is h = subst (λ t. Unless e result (NotesByTurns turns a b (λ shows. cond t (F shows) (G shows)))) (sym is) h
 
-pub take_second : {A : Type 0} (turns : ℕ) (a b : SeenSoFar) (F G : Shown) (e : LoggedEnd) (result : Result A Stopped) (test : Bool) → test ≡ false → Unless e result (Notes turns a b G) → Unless e result (Notes turns a b (λ shows. cond test (F shows) (G shows)))
-take_second turns a b F G e result test is h = subst (λ t. Unless e result (Notes turns a b (λ shows. cond t (F shows) (G shows)))) (sym is) h
+pub take_second : {A : Type 0} (turns : ℕ) (a b : SeenSoFar) (F G : ShownEvents) (e : LoggedEnd) (result : Result A Stopped) (test : Bool) → test ≡ false → Unless e result (NotesByTurns turns a b G) → Unless e result (NotesByTurns turns a b (λ shows. cond test (F shows) (G shows)))
+take_second turns a b F G e result test is h = subst (λ t. Unless e result (NotesByTurns turns a b (λ shows. cond t (F shows) (G shows)))) (sym is) h
 
 pub is_zero : (n : ℕ) → n ≡ 0 → nat_eq n 0 ≡ true
 is_zero n is = eq-eqb n 0 is
 
 -- the same where nothing was refused
-pub notes_first : (turns : ℕ) (a b : SeenSoFar) (F G : Shown) (test : Bool) → test ≡ true → Notes turns a b F → Notes turns a b (λ shows. cond test (F shows) (G shows))
-notes_first turns a b F G test is h = subst (λ t. Notes turns a b (λ shows. cond t (F shows) (G shows))) (sym is) h
+pub notes_first : (turns : ℕ) (a b : SeenSoFar) (F G : ShownEvents) (test : Bool) → test ≡ true → NotesByTurns turns a b F → NotesByTurns turns a b (λ shows. cond test (F shows) (G shows))
+notes_first turns a b F G test is h = subst (λ t. NotesByTurns turns a b (λ shows. cond t (F shows) (G shows))) (sym is) h
 
-pub notes_second : (turns : ℕ) (a b : SeenSoFar) (F G : Shown) (test : Bool) → test ≡ false → Notes turns a b G → Notes turns a b (λ shows. cond test (F shows) (G shows))
-notes_second turns a b F G test is h = subst (λ t. Notes turns a b (λ shows. cond t (F shows) (G shows))) (sym is) h
+pub notes_second : (turns : ℕ) (a b : SeenSoFar) (F G : ShownEvents) (test : Bool) → test ≡ false → NotesByTurns turns a b G → NotesByTurns turns a b (λ shows. cond test (F shows) (G shows))
+notes_second turns a b F G test is h = subst (λ t. NotesByTurns turns a b (λ shows. cond t (F shows) (G shows))) (sym is) h
 
-pub notes_event : (turns : ℕ) (a b c : SeenSoFar) (ev : Event) (R : S → Shown) (s q : S) → q ≡ s → Notes turns a b (λ shows. ev ∷ []) → Notes turns b c (R q) → Notes turns a c (λ shows. ev ∷ R s shows)
-notes_event turns a b c ev R s q same h k = subst (λ (x : S). Notes turns a c (λ shows. ev ∷ R x shows)) same (notes_then turns a b c (λ shows. ev ∷ []) (R q) h k)
+pub notes_event : (turns : ℕ) (a b c : SeenSoFar) (ev : Event) (R : S → ShownEvents) (s q : S) → q ≡ s → NotesByTurns turns a b (λ shows. ev ∷ []) → NotesByTurns turns b c (R q) → NotesByTurns turns a c (λ shows. ev ∷ R s shows)
+notes_event turns a b c ev R s q same h k = subst (λ (x : S). NotesByTurns turns a c (λ shows. ev ∷ R x shows)) same (notes_then turns a b c (λ shows. ev ∷ []) (R q) h k)

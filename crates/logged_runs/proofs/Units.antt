@@ -14,10 +14,10 @@ use Rattle.target_machine.specs.declared.unit.HaltCause.TheVariants.{StepLimit, 
 use Rattle.target_machine.specs.declared.unit.Unit.TheVariants as unit
 use Rattle.run_events.specs.Events.{Event, MadeUnit, Makes, Writes, all_made, places_after, units_between, units_from}
 use Rattle.run_events.specs.OfSteps.{poll_end, poll_events, polled_events}
-use Rattle.run_events.specs.OfValues.{function_events, line_of, new_line, written_line}
+use Rattle.run_events.specs.OfValues.{function_events, function_line, new_line, written_line}
 use Rattle.target_machine.specs.Plain.{Answered}
-use Rattle.logged_calls.specs.Held.{EndsAs, Means, SeenAsPoll, Unless, poll_value}
-use Rattle.log_lines.specs.LogLines.{listed_all}
+use Rattle.logged_calls.specs.Held.{CodeEndsAs, Means, SeenAsPoll, Unless, poll_value}
+use Rattle.log_lines.specs.LogLines.{lines_after_events}
 use Rattle.logged_calls.proofs.EndLemmas.{ends_on}
 use Rattle.logged_calls.proofs.NotedLemmas.{no_units}
 use Rattle.logged_calls.specs.declared.held.LoggedEnd.{LoggedEnd}
@@ -26,7 +26,7 @@ use Rattle.logged_calls.specs.declared.held.Stopped.{Stopped}
 use Rattle.run_coverage.specs.declared.coverage.Coverage.{Coverage}
 use Rattle.run_coverage.specs.Covered.{IsOf}
 use Rattle.run_coverage.proofs.CoverLemmas.{not_noted}
-use Rattle.logged_runs.specs.Seen.{Notes, NotesAll, SeenSoFar, has_error, has_timeout, is_error_call}
+use Rattle.logged_runs.specs.Seen.{NotesAll, NotesByTurns, SeenSoFar, has_error, has_timeout, is_error_call}
 use Rattle.logged_runs.proofs.NoteLemmas.{all_then, notes_as, notes_none, refused, refused_ends}
 use Rattle.logged_runs.proofs.Messages.{came, error_is}
 
@@ -139,7 +139,7 @@ nothing_polled form spot n s r x is =
     let out : poll_result (direct false) form n s ≡ Err (x, r) = rw is refl in
     sym (ap (λ (q : S). polled_events spot n (units_between s q)) (ap (λ (o : Out ℕ Now (Unit {0})). end_state o) out ∙ not_counted s r x is) ∙ ap (λ u. polled_events spot n u) (no_units s s refl))
 
-pub poll_not_counted : (e : LoggedEnd) (stopped : Stopped) (turns : ℕ) (a : SeenSoFar) (form : ℕ × ℕ) (spot : Spot) (n : ℕ) (s r : S) → EndsAs e r (counted (direct false) s) → Unless {A = Unit {0}} e (Err stopped) (Notes turns a a (λ shows. poll_events spot form n s))
+pub poll_not_counted : (e : LoggedEnd) (stopped : Stopped) (turns : ℕ) (a : SeenSoFar) (form : ℕ × ℕ) (spot : Spot) (n : ℕ) (s r : S) → CodeEndsAs e r (counted (direct false) s) → Unless {A = Unit {0}} e (Err stopped) (NotesByTurns turns a a (λ shows. poll_events spot form n s))
 poll_not_counted (end.Halted cause) stopped turns a form spot n s r k = notes_as turns a a (λ shows. []) (λ shows. poll_events spot form n s) (λ shows. nothing_polled form spot n s r _ k) (notes_none turns a)
 poll_not_counted (end.Faulted u) stopped turns a form spot n s r k = notes_as turns a a (λ shows. []) (λ shows. poll_events spot form n s) (λ shows. nothing_polled form spot n s r _ k) (notes_none turns a)
 poll_not_counted end.OutOfMemory stopped turns a form spot n s r k = tt
@@ -183,7 +183,7 @@ pub function_all : (a b : SeenSoFar) (function : Function) (text n : List ℕ) (
     → b.error_shown ≡ (a.error_shown || has_error (new_line function text n s (end_state (function_result (direct false) function text n s)))) → NotesAll a b (function_events function text n s)
 unfolding function_events
 function_all a b function text n s p c t e =
-    all_then a a b (all_made units) (new_line function text n s r) (units_all a a units refl refl refl refl) (line_all a b (nat_lt s.lines r.lines) (line_of function text n) p c t e)
+    all_then a a b (all_made units) (new_line function text n s r) (units_all a a units refl refl refl refl) (line_all a b (nat_lt s.lines r.lines) (function_line function text n) p c t e)
   where
     r : S
     r = end_state (function_result (direct false) function text n s)
@@ -204,28 +204,28 @@ module _ (turns : ℕ) (a b : SeenSoFar) (function : Function) (text n : List �
   out = function_result (direct false) function text n s
 
   -- a call that came to a value
-  pub function_done : (x : ℕ) → out ≡ Ok (x, r) → b.error_shown ≡ (a.error_shown || is_error_call function n) → b.log ≡ listed_all a.log (function_events function text n s) → Notes turns a b (λ shows. function_events function text n s)
+  pub function_done : (x : ℕ) → out ≡ Ok (x, r) → b.error_shown ≡ (a.error_shown || is_error_call function n) → b.log ≡ lines_after_events a.log (function_events function text n s) → NotesByTurns turns a b (λ shows. function_events function text n s)
   function_done x is e log = record {
     log = log;
     all = function_all a b function text n s p c t (e ∙ ap (λ y. a.error_shown || y) (and_true (is_error_call function n) (came out) (ap came is) ∙ sym (error_is function text n s fits)));
   }
 
-  stopped_so : (x : machine.Over × S) → out ≡ Err x → b.error_shown ≡ a.error_shown → b.log ≡ listed_all a.log (function_events function text n s) → Notes turns a b (λ shows. function_events function text n s)
+  stopped_so : (x : machine.Over × S) → out ≡ Err x → b.error_shown ≡ a.error_shown → b.log ≡ lines_after_events a.log (function_events function text n s) → NotesByTurns turns a b (λ shows. function_events function text n s)
   stopped_so x is e log = record {
     log = log;
     all = function_all a b function text n s p c t (e ∙ or_none a.error_shown _ (error_is function text n s fits ∙ and_right (is_error_call function n) (came out) (ap came is)));
   }
 
   -- a call that did not
-  pub function_stops : (e : LoggedEnd) (stopped : Stopped) → EndsAs e r out → b.error_shown ≡ a.error_shown → Unless {A = ℕ} e (Err stopped) (b.log ≡ listed_all a.log (function_events function text n s))
-      → Unless {A = ℕ} e (Err stopped) (Notes turns a b (λ shows. function_events function text n s))
+  pub function_stops : (e : LoggedEnd) (stopped : Stopped) → CodeEndsAs e r out → b.error_shown ≡ a.error_shown → Unless {A = ℕ} e (Err stopped) (b.log ≡ lines_after_events a.log (function_events function text n s))
+      → Unless {A = ℕ} e (Err stopped) (NotesByTurns turns a b (λ shows. function_events function text n s))
   function_stops (end.Halted cause) stopped is same log = stopped_so _ is same log
   function_stops (end.Faulted u) stopped is same log = stopped_so _ is same log
   function_stops end.OutOfMemory stopped is same log = tt
 
 -- ---- what a poll comes to
 
-pub ends_dropped : (e : LoggedEnd) (now : S) (out : Out ℕ Now ℕ) → EndsAs e now out → EndsAs e now (dropped (direct false) out)
+pub ends_dropped : (e : LoggedEnd) (now : S) (out : Out ℕ Now ℕ) → CodeEndsAs e now out → CodeEndsAs e now (dropped (direct false) out)
 unfolding dropped
 ends_dropped e now out h = ends_on e now out _ h
 
@@ -235,15 +235,15 @@ poll_gives e (Ok x) r q out v is same none = rw is (ap (λ k. Ok (tt, k)) (sym s
 poll_gives e (Err stopped) r q out v is same none = refused_ends e q (dropped (direct false) out) none
 
 module _ (turns : ℕ) (a m : SeenSoFar) (s r : S) (spot : Spot) (count : ℕ) (p : m.places ≡ a.places) (c : m.coverage ≡ a.coverage) (t : m.timed_out ≡ a.timed_out) (e : m.error_shown ≡ a.error_shown) where
-  pub poll_stops : (end : LoggedEnd) (stopped : Stopped) → Unless {A = ℕ} end (Err stopped) (m.log ≡ listed_all a.log (polled_events spot count (units_between s r))) → Unless {A = ℕ} end (Err stopped) (SeenAsPoll s r (Err stopped))
-      → Unless {A = Unit {0}} end (Err stopped) (Notes turns a m (λ shows. polled_events spot count (units_between s r)))
+  pub poll_stops : (end : LoggedEnd) (stopped : Stopped) → Unless {A = ℕ} end (Err stopped) (m.log ≡ lines_after_events a.log (polled_events spot count (units_between s r))) → Unless {A = ℕ} end (Err stopped) (SeenAsPoll s r (Err stopped))
+      → Unless {A = Unit {0}} end (Err stopped) (NotesByTurns turns a m (λ shows. polled_events spot count (units_between s r)))
   poll_stops (end.Halted cause) stopped log seen = record { log = log; all = poll_stopped_all a m s r spot count p c t e stopped seen }
   poll_stops (end.Faulted u) stopped log seen = record { log = log; all = poll_stopped_all a m s r spot count p c t e stopped seen }
   poll_stops end.OutOfMemory stopped log seen = tt
 
-  pub poll_noted : (b : SeenSoFar) (q : S) (last : LoggedEnd) (result : Result (Unit {0}) Stopped) (v : ℕ) → m.log ≡ listed_all a.log (polled_events spot count (units_between s r)) → SeenAsPoll s r (Ok v)
+  pub poll_noted : (b : SeenSoFar) (q : S) (last : LoggedEnd) (result : Result (Unit {0}) Stopped) (v : ℕ) → m.log ≡ lines_after_events a.log (polled_events spot count (units_between s r)) → SeenAsPoll s r (Ok v)
       → OnOk result (q ≡ r) → OnOk result (b.log ≡ m.log) → OnErr result (last ≡ end.OutOfMemory) → OnOk result (NotesAll m b (poll_end spot count (Some (Answered v))))
-      → Unless last result (Notes turns a b (λ shows. polled_events spot count (units_between s q)))
+      → Unless last result (NotesByTurns turns a b (λ shows. polled_events spot count (units_between s q)))
   poll_noted b q last (Ok x) v log seen same kept none h =
-      subst (λ (k : S). Notes turns a b (λ shows. polled_events spot count (units_between s k))) (sym same) (record { log = kept ∙ log; all = poll_all a m s r spot count p c t e b v seen h })
-  poll_noted b q last (Err stopped) v log seen same kept none h = refused (Unit {0}) (Notes turns a b (λ shows. polled_events spot count (units_between s q))) last stopped none
+      subst (λ (k : S). NotesByTurns turns a b (λ shows. polled_events spot count (units_between s k))) (sym same) (record { log = kept ∙ log; all = poll_all a m s r spot count p c t e b v seen h })
+  poll_noted b q last (Err stopped) v log seen same kept none h = refused (Unit {0}) (NotesByTurns turns a b (λ shows. polled_events spot count (units_between s q))) last stopped none

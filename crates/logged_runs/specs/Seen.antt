@@ -7,18 +7,18 @@ use Rattle.function_table.specs.declared.function.Function.TheVariants.{Message}
 use Rattle.sequence_trees.specs.declared.spot.Spot.{Spot}
 use Rattle.run_events.specs.Events.{Event, TimesOut, Writes, places_after}
 use Rattle.run_events.specs.OfRuns.{each_turn}
-use Rattle.log_lines.specs.LogLines.{LogLines, listed_all}
+use Rattle.log_lines.specs.LogLines.{LogLines, lines_after_events}
 use Rattle.run_coverage.specs.declared.coverage.Coverage.{Coverage}
 use Rattle.run_coverage.specs.Covered.{IsOf}
 
 -- a loop makes all turns that its timeout allows
-abbrev pub is_timeout : Event → Bool
-is_timeout (TimesOut spot n) = true
-is_timeout e = false
+abbrev pub is_timeout_event : Event → Bool
+is_timeout_event (TimesOut spot n) = true
+is_timeout_event e = false
 
 -- among the events a loop times out
 abbrev pub has_timeout : List Event → Bool
-has_timeout events = list_any is_timeout events
+has_timeout events = list_any is_timeout_event events
 
 -- the line of a message of type 2, an error
 abbrev pub is_error_line : List ℕ → Bool
@@ -55,17 +55,17 @@ pub record NotesAll (old new : SeenSoFar) (events : List Event) : Type 0 where
   pub error_shown : new.error_shown ≡ (old.error_shown || has_error events)
 
 -- events by the turns that are shown
-abbrev pub Shown : Type 0
-Shown = (ℕ → Bool) → List Event
+abbrev pub ShownEvents : Type 0
+ShownEvents = (ℕ → Bool) → List Event
 
 -- Events were noted: in the log those that are shown, where of each loop so many turns and the last are; elsewhere all of them. What is
 -- seen is given by the turns that are shown.
-pub record Notes (turns : ℕ) (old new : SeenSoFar) (events : Shown) : Type 0 where
-  pub log : new.log ≡ listed_all old.log (events (λ number. nat_le number turns))
+pub record NotesByTurns (turns : ℕ) (old new : SeenSoFar) (events : ShownEvents) : Type 0 where
+  pub log : new.log ≡ lines_after_events old.log (events (λ number. nat_le number turns))
   pub all : NotesAll old new (events each_turn)
 
 -- nothing was seen yet
-pub record IsStart (first : SeenSoFar) : Type 0 where
+pub record HasSeenNothing (first : SeenSoFar) : Type 0 where
   pub log : first.log ≡ record { lines = []; depth = 0 }
   pub places : first.places ≡ []
   pub coverage : IsOf first.coverage []

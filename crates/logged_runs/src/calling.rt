@@ -3,10 +3,10 @@ ghost use Rattle.std.specs.Prelude.{◌≡◌, [], ◌<◌, Some, unwrap_or};
 ghost use Rattle.function_table.specs.declared.function.Function.{Function};
 ghost use Rattle.seq_check.specs.Answers.{checked_trees};
 ghost use Rattle.sequence_trees.specs.Trees.{NoSteps, steps_tree, steps_named};
-ghost use Rattle.logged_runs.specs.OfSteps.{sequence_of, sequence_seen};
-ghost use Rattle.logged_runs.specs.OfValues.{appended_of, argument_of, argument_seen, arguments_of, arguments_seen, call_of};
-ghost use Rattle.logged_runs.specs.OfValues.{call_seen, called_seen, function_of, function_seen, named_seen, value_seen};
-ghost use Rattle.logged_runs.specs.Walk.{CollectsAs, Sees, WalksAs, calls_of};
+ghost use Rattle.logged_runs.specs.OfSteps.{sequence_in_walk, sequence_seen};
+ghost use Rattle.logged_runs.specs.OfValues.{appended_in_walk, argument_in_walk, argument_seen, arguments_in_walk, arguments_seen, call_in_walk};
+ghost use Rattle.logged_runs.specs.OfValues.{call_seen, called_seen, function_in_walk, function_seen, named_seen, value_seen};
+ghost use Rattle.logged_runs.specs.Walk.{CollectsAs, SeesWalk, WalksAs, calls_in_walk};
 
 use crate::runner::LoggedRunner;
 use crate::walked::Walked;
@@ -29,8 +29,8 @@ impl<'a> LoggedRunner<'a> {
         walked: &mut Walked<'a>,
         target: &mut Target,
     ) -> Result<(), Stopped>
-        ensures gives { CollectsAs walked.old target.old walked.new target.new numbers.new.items result (argument_of self.now depth arg.now numbers.old.items) }
-        ensures noted { Sees self.now.turns walked.old target.old walked.new result (argument_seen self.now depth arg.now) }
+        ensures gives { CollectsAs walked.old target.old walked.new target.new numbers.new.items result (argument_in_walk self.now depth arg.now numbers.old.items) }
+        ensures noted { SeesWalk self.now.turns walked.old target.old walked.new result (argument_seen self.now depth arg.now) }
     {
         match arg {
             Arg::Number(_, expr) => self.push_value(expr, numbers, depth, walked, target),
@@ -49,8 +49,8 @@ impl<'a> LoggedRunner<'a> {
         walked: &mut Walked<'a>,
         target: &mut Target,
     ) -> Result<(), Stopped>
-        ensures gives { CollectsAs walked.old target.old walked.new target.new numbers.new.items result (appended_of self.now depth numbers.old.items expr.now) }
-        ensures noted { Sees self.now.turns walked.old target.old walked.new result (value_seen self.now depth expr.now) }
+        ensures gives { CollectsAs walked.old target.old walked.new target.new numbers.new.items result (appended_in_walk self.now depth numbers.old.items expr.now) }
+        ensures noted { SeesWalk self.now.turns walked.old target.old walked.new result (value_seen self.now depth expr.now) }
     {
         let number = self.evaluate(expr, depth, walked, target)?;
         let Ok(()) = numbers.push(number) else {
@@ -71,8 +71,8 @@ impl<'a> LoggedRunner<'a> {
         walked: &mut Walked<'a>,
         target: &mut Target,
     ) -> Result<(), Stopped>
-        ensures gives { CollectsAs walked.old target.old walked.new target.new numbers.new.items result (arguments_of self.now depth args.now numbers.old.items) }
-        ensures noted { Sees self.now.turns walked.old target.old walked.new result (arguments_seen self.now depth args.now numbers.old.items) }
+        ensures gives { CollectsAs walked.old target.old walked.new target.new numbers.new.items result (arguments_in_walk self.now depth args.now numbers.old.items) }
+        ensures noted { SeesWalk self.now.turns walked.old target.old walked.new result (arguments_seen self.now depth args.now numbers.old.items) }
     {
         for arg in args {
             match self.evaluate_argument(arg, numbers, depth, walked, target) {
@@ -94,8 +94,8 @@ impl<'a> LoggedRunner<'a> {
         walked: &mut Walked<'a>,
         target: &mut Target,
     ) -> Result<u64, Stopped>
-        ensures gives { WalksAs walked.old target.old walked.new target.new result (call_of self.now depth called.now.name args.now) }
-        ensures noted { Sees self.now.turns walked.old target.old walked.new result (call_seen self.now depth called.now.name args.now) }
+        ensures gives { WalksAs walked.old target.old walked.new target.new result (call_in_walk self.now depth called.now.name args.now) }
+        ensures noted { SeesWalk self.now.turns walked.old target.old walked.new result (call_seen self.now depth called.now.name args.now) }
     {
         let mut numbers = Vec::new(self.alloc);
         match self.evaluate_arguments(args, &mut numbers, depth, walked, target) {
@@ -124,8 +124,8 @@ impl<'a> LoggedRunner<'a> {
         walked: &mut Walked<'a>,
         target: &mut Target,
     ) -> Result<u64, Stopped>
-        ensures gives { WalksAs walked.old target.old walked.new target.new result (function_of self.now depth function text.now numbers.now) }
-        ensures noted { Sees self.now.turns walked.old target.old walked.new result (function_seen self.now depth function text.now numbers.now) }
+        ensures gives { WalksAs walked.old target.old walked.new target.new result (function_in_walk self.now depth function text.now numbers.now) }
+        ensures noted { SeesWalk self.now.turns walked.old target.old walked.new result (function_seen self.now depth function text.now numbers.now) }
     {
         match function {
             None => Ok(0),
@@ -145,8 +145,8 @@ impl<'a> LoggedRunner<'a> {
         walked: &mut Walked<'a>,
         target: &mut Target,
     ) -> Result<u64, Stopped>
-        ensures gives { WalksAs walked.old target.old walked.new target.new result (function_of self.now depth (Some function) text.now numbers.now) }
-        ensures noted { Sees self.now.turns walked.old target.old walked.new result (function_seen self.now depth (Some function) text.now numbers.now) }
+        ensures gives { WalksAs walked.old target.old walked.new target.new result (function_in_walk self.now depth (Some function) text.now numbers.now) }
+        ensures noted { SeesWalk self.now.turns walked.old target.old walked.new result (function_seen self.now depth (Some function) text.now numbers.now) }
     {
         match function {
             Function::Sequence => self.call_sequence(text, depth, walked, target),
@@ -164,8 +164,8 @@ impl<'a> LoggedRunner<'a> {
         walked: &mut Walked<'a>,
         target: &mut Target,
     ) -> Result<u64, Stopped>
-        ensures gives { WalksAs walked.old target.old walked.new target.new result (function_of self.now depth (Some Function.Sequence) name.now []) }
-        ensures noted { Sees self.now.turns walked.old target.old walked.new result (called_seen self.now depth name.now) }
+        ensures gives { WalksAs walked.old target.old walked.new target.new result (function_in_walk self.now depth (Some Function.Sequence) name.now []) }
+        ensures noted { SeesWalk self.now.turns walked.old target.old walked.new result (called_seen self.now depth name.now) }
     {
         match walked.call(name) {
             Ok(()) => {}
@@ -192,8 +192,8 @@ impl<'a> LoggedRunner<'a> {
         walked: &mut Walked<'a>,
         target: &mut Target,
     ) -> Result<(), Stopped>
-        ensures gives { WalksAs walked.old target.old walked.new target.new result (calls_of self.now depth name.now) }
-        ensures noted { Sees self.now.turns walked.old target.old walked.new result (named_seen self.now depth name.now) }
+        ensures gives { WalksAs walked.old target.old walked.new target.new result (calls_in_walk self.now depth name.now) }
+        ensures noted { SeesWalk self.now.turns walked.old target.old walked.new result (named_seen self.now depth name.now) }
     {
         if depth == 0 {
             return Ok(());
@@ -222,8 +222,8 @@ impl<'a> LoggedRunner<'a> {
         walked: &mut Walked<'a>,
         target: &mut Target,
     ) -> Result<(), Stopped>
-        ensures gives { WalksAs walked.old target.old walked.new target.new result (sequence_of self.now depth steps.now) }
-        ensures noted { Sees self.now.turns walked.old target.old walked.new result (sequence_seen self.now depth name.now steps.now) }
+        ensures gives { WalksAs walked.old target.old walked.new target.new result (sequence_in_walk self.now depth steps.now) }
+        ensures noted { SeesWalk self.now.turns walked.old target.old walked.new result (sequence_seen self.now depth name.now steps.now) }
     {
         let dp = walked.get_global("__dp");
         let ap = walked.get_global("__ap");

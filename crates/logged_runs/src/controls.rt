@@ -2,10 +2,10 @@
 ghost use Rattle.std.specs.Prelude.{◌≡◌, ◌<◌, ◌≤◌, ℕ, Some, false};
 ghost use Rattle.sequence_rules.specs.Direct.{direct};
 ghost use Rattle.sequence_rules.specs.Steps as m;
-ghost use Rattle.logged_runs.specs.OfSteps.{begun_seen, condition_of, condition_seen, control_of, control_seen, inside_of};
-ghost use Rattle.logged_runs.specs.OfSteps.{loop_of, loop_seen, poll_seen, repeat_of, repeat_seen, steps_seen, tested_of};
-ghost use Rattle.logged_runs.specs.OfSteps.{tested_seen, turn_of, turn_seen, turns_of, turns_seen};
-ghost use Rattle.logged_runs.specs.Walk.{Sees, WalksAs, kept};
+ghost use Rattle.logged_runs.specs.OfSteps.{begun_seen, condition_in_walk, condition_seen, control_in_walk, control_seen, inside_in_walk};
+ghost use Rattle.logged_runs.specs.OfSteps.{loop_in_walk, loop_seen, poll_seen, repeat_in_walk, repeat_seen, steps_seen, tested_in_walk};
+ghost use Rattle.logged_runs.specs.OfSteps.{tested_seen, turn_in_walk, turn_seen, turns_in_walk, turns_seen};
+ghost use Rattle.logged_runs.specs.Walk.{SeesWalk, WalksAs, kept};
 
 use crate::runner::LoggedRunner;
 use crate::steps::count_step;
@@ -33,8 +33,8 @@ impl<'a> LoggedRunner<'a> {
         walked: &mut Walked<'a>,
         target: &mut Target,
     ) -> Result<(), Stopped>
-        ensures gives { WalksAs walked.old target.old walked.new target.new result (control_of self.now depth cond.now repeat.now timeout steps.now) }
-        ensures noted { Sees self.now.turns walked.old target.old walked.new result
+        ensures gives { WalksAs walked.old target.old walked.new target.new result (control_in_walk self.now depth cond.now repeat.now timeout steps.now) }
+        ensures noted { SeesWalk self.now.turns walked.old target.old walked.new result
             (control_seen self.now depth sequence.now path.now cond.now repeat.now timeout steps.now) }
     {
         let chosen = match self.test_condition(sequence, path, cond, depth, walked, target) {
@@ -62,8 +62,8 @@ impl<'a> LoggedRunner<'a> {
         walked: &mut Walked<'a>,
         target: &mut Target,
     ) -> Result<bool, Stopped>
-        ensures gives { WalksAs walked.old target.old walked.new target.new result (condition_of self.now depth cond.now) }
-        ensures noted { Sees self.now.turns walked.old target.old walked.new result (condition_seen self.now depth sequence.now path.now cond.now) }
+        ensures gives { WalksAs walked.old target.old walked.new target.new result (condition_in_walk self.now depth cond.now) }
+        ensures noted { SeesWalk self.now.turns walked.old target.old walked.new result (condition_seen self.now depth sequence.now path.now cond.now) }
     {
         match cond {
             None => Ok(true),
@@ -83,8 +83,8 @@ impl<'a> LoggedRunner<'a> {
         walked: &mut Walked<'a>,
         target: &mut Target,
     ) -> Result<bool, Stopped>
-        ensures gives { WalksAs walked.old target.old walked.new target.new result (condition_of self.now depth (Some expr.now)) }
-        ensures noted { Sees self.now.turns walked.old target.old walked.new result (condition_seen self.now depth sequence.now path.now (Some expr.now)) }
+        ensures gives { WalksAs walked.old target.old walked.new target.new result (condition_in_walk self.now depth (Some expr.now)) }
+        ensures noted { SeesWalk self.now.turns walked.old target.old walked.new result (condition_seen self.now depth sequence.now path.now (Some expr.now)) }
     {
         match walked.test(sequence, path, expr) {
             Ok(()) => {}
@@ -115,8 +115,8 @@ impl<'a> LoggedRunner<'a> {
         walked: &mut Walked<'a>,
         target: &mut Target,
     ) -> Result<(), Stopped>
-        ensures gives { WalksAs walked.old target.old walked.new target.new result (repeat_of self.now depth repeat.now timeout steps.now) }
-        ensures noted { Sees self.now.turns walked.old target.old walked.new result (repeat_seen self.now depth sequence.now path.now repeat.now timeout steps.now) }
+        ensures gives { WalksAs walked.old target.old walked.new target.new result (repeat_in_walk self.now depth repeat.now timeout steps.now) }
+        ensures noted { SeesWalk self.now.turns walked.old target.old walked.new result (repeat_seen self.now depth sequence.now path.now repeat.now timeout steps.now) }
     {
         match repeat {
             None => self.run_inside(sequence, path, steps, depth, walked, target),
@@ -148,8 +148,8 @@ impl<'a> LoggedRunner<'a> {
     ) -> Result<(), Stopped>
         requires least { 1 ≤ count }
         requires most { count ≤ 60000000 }
-        ensures gives { WalksAs walked.old target.old walked.new target.new result (loop_of self.now depth expr.now count steps.now) }
-        ensures noted { Sees self.now.turns walked.old target.old walked.new result (begun_seen self.now depth sequence.now path.now expr.now count steps.now) }
+        ensures gives { WalksAs walked.old target.old walked.new target.new result (loop_in_walk self.now depth expr.now count steps.now) }
+        ensures noted { SeesWalk self.now.turns walked.old target.old walked.new result (begun_seen self.now depth sequence.now path.now expr.now count steps.now) }
     {
         match walked.begin_loop(sequence, path, expr, count) {
             Ok(()) => {}
@@ -174,8 +174,8 @@ impl<'a> LoggedRunner<'a> {
     ) -> Result<(), Stopped>
         requires least { 1 ≤ count }
         requires most { count ≤ 60000000 }
-        ensures gives { WalksAs walked.old target.old walked.new target.new result (loop_of self.now depth expr.now count steps.now) }
-        ensures noted { Sees self.now.turns walked.old target.old walked.new result (loop_seen self.now depth sequence.now path.now expr.now count steps.now) }
+        ensures gives { WalksAs walked.old target.old walked.new target.new result (loop_in_walk self.now depth expr.now count steps.now) }
+        ensures noted { SeesWalk self.now.turns walked.old target.old walked.new result (loop_seen self.now depth sequence.now path.now expr.now count steps.now) }
     {
         match poll_of(expr, steps) {
             Some((mask, requested)) => {
@@ -199,8 +199,8 @@ impl<'a> LoggedRunner<'a> {
         walked: &mut Walked<'a>,
         target: &mut Target,
     ) -> Result<(), Stopped>
-        ensures gives { WalksAs walked.old target.old walked.new target.new result (turns_of self.now depth expr.now count steps.now) }
-        ensures noted { Sees self.now.turns walked.old target.old walked.new result (turns_seen self.now depth sequence.now path.now expr.now count steps.now) }
+        ensures gives { WalksAs walked.old target.old walked.new target.new result (turns_in_walk self.now depth expr.now count steps.now) }
+        ensures noted { SeesWalk self.now.turns walked.old target.old walked.new result (turns_seen self.now depth sequence.now path.now expr.now count steps.now) }
     {
         let mut made = 0;
         let mut mark = walked.held.log.mark();
@@ -239,8 +239,8 @@ impl<'a> LoggedRunner<'a> {
         walked: &mut Walked<'a>,
         target: &mut Target,
     ) -> Result<bool, Stopped>
-        ensures gives { WalksAs walked.old target.old walked.new target.new result (turn_of self.now depth expr.now steps.now) }
-        ensures noted { Sees self.now.turns walked.old target.old walked.new result (turn_seen self.now depth sequence.now path.now number expr.now steps.now) }
+        ensures gives { WalksAs walked.old target.old walked.new target.new result (turn_in_walk self.now depth expr.now steps.now) }
+        ensures noted { SeesWalk self.now.turns walked.old target.old walked.new result (turn_seen self.now depth sequence.now path.now number expr.now steps.now) }
     {
         match walked.turn(sequence, path, number) {
             Ok(()) => {}
@@ -266,8 +266,8 @@ impl<'a> LoggedRunner<'a> {
         walked: &mut Walked<'a>,
         target: &mut Target,
     ) -> Result<bool, Stopped>
-        ensures gives { WalksAs walked.old target.old walked.new target.new result (tested_of self.now depth expr.now steps.now) }
-        ensures noted { Sees self.now.turns walked.old target.old walked.new result (tested_seen self.now depth sequence.now path.now expr.now steps.now) }
+        ensures gives { WalksAs walked.old target.old walked.new target.new result (tested_in_walk self.now depth expr.now steps.now) }
+        ensures noted { SeesWalk self.now.turns walked.old target.old walked.new result (tested_seen self.now depth sequence.now path.now expr.now steps.now) }
     {
         let number = match self.evaluate(expr, depth, walked, target) {
             Ok(number) => number,
@@ -299,8 +299,8 @@ impl<'a> LoggedRunner<'a> {
         walked: &mut Walked<'a>,
         target: &mut Target,
     ) -> Result<(), Stopped>
-        ensures gives { WalksAs walked.old target.old walked.new target.new result (inside_of self.now depth steps.now) }
-        ensures noted { Sees self.now.turns walked.old target.old walked.new result (steps_seen self.now depth sequence.now path.now steps.now) }
+        ensures gives { WalksAs walked.old target.old walked.new target.new result (inside_in_walk self.now depth steps.now) }
+        ensures noted { SeesWalk self.now.turns walked.old target.old walked.new result (steps_seen self.now depth sequence.now path.now steps.now) }
     {
         let count = walked.local_count();
         match self.run_steps(sequence, path, steps, depth, walked, target) {
@@ -326,7 +326,7 @@ fn run_poll(
     requires least { 1 ≤ count }
     requires most { count ≤ 60000000 }
     ensures gives { WalksAs walked.old target.old walked.new target.new result (m.poll_result (direct false) (mask, requested) count) }
-    ensures noted { (turns : ℕ) → Sees turns walked.old target.old walked.new result (poll_seen sequence.now path.now (mask, requested) count) }
+    ensures noted { (turns : ℕ) → SeesWalk turns walked.old target.old walked.new result (poll_seen sequence.now path.now (mask, requested) count) }
 {
     match count_step(walked) {
         Ok(()) => {}

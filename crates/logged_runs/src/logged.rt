@@ -2,16 +2,16 @@
 ghost use Rattle.std.specs.Prelude.{◌≡◌, ◌<◌, ℕ, List, IfOk, None, map};
 ghost use Rattle.function_table.specs.Variables.{predefined};
 ghost use Rattle.logged_calls.specs.Held.{Means, Unless};
-ghost use Rattle.run_events.specs.Events.{Event, places_of};
+ghost use Rattle.run_events.specs.Events.{Event, places_reached};
 ghost use Rattle.run_events.specs.OfRuns.{events_in};
 ghost use Rattle.seq_check.specs.Answers.{checked_trees};
 ghost use Rattle.sequence_rules.specs.Machine.{end_state};
 ghost use Rattle.sequence_rules.specs.Runs.{Program, meaning, outcome, program_of, units_of};
 ghost use Rattle.target_calls.specs.World.{start_world};
 ghost use Rattle.target_machine.specs.State.{TargetState};
-ghost use Rattle.logged_runs.specs.Answers.{IsEndOf, IsRun, IsSeen, end_place};
-ghost use Rattle.logged_runs.specs.Seen.{IsStart, Notes, SeenSoFar};
-ghost use Rattle.logged_runs.specs.Walk.{now, seen};
+ghost use Rattle.logged_runs.specs.Answers.{IsEndOf, IsLoggedRun, IsSeenOfRun, end_place};
+ghost use Rattle.logged_runs.specs.Seen.{HasSeenNothing, NotesByTurns, SeenSoFar};
+ghost use Rattle.logged_runs.specs.Walk.{now, seen_so_far};
 
 use crate::places::Places;
 use crate::runner::LoggedRunner;
@@ -87,7 +87,7 @@ fn ending_of(ended: Result<(), Stopped>, held: &Held) -> Result<LoggedEnding, Ou
 
 // The place where a run ended.
 fn place_of_end(ending: LoggedEnding, places: Places) -> Option<Spot>
-    ensures { (seen : List Event) → places ≡ places_of seen → result ≡ end_place ending seen }
+    ensures { (seen : List Event) → places ≡ places_reached seen → result ≡ end_place ending seen }
 {
     match ending {
         LoggedEnding::Done => None,
@@ -98,10 +98,10 @@ fn place_of_end(ending: LoggedEnding, places: Places) -> Option<Spot>
 // What is answered at the end of a run.
 fn answer_run(ended: Result<(), Stopped>, walked: Walked) -> Result<Logged, OutOfMemory>
     ensures answer { (p : Program) (start target : TargetState) → Means walked.entry.held.end ended (now walked.entry target) (meaning (start_world start None) p None)
-        → (end_state (meaning (start_world start None) p None)).units ≡ units_of (outcome p start None) → IfOk result (λ run. IsRun p start target run) }
-    ensures seen { (turns : ℕ) (p : Program) (start : TargetState) (first : SeenSoFar) → IsStart first
-        → Unless walked.entry.held.end ended (Notes turns first (seen walked.entry) (λ shows. events_in shows (start_world start None) p None))
-        → IfOk result (λ run. IsSeen turns p start run) }
+        → (end_state (meaning (start_world start None) p None)).units ≡ units_of (outcome p start None) → IfOk result (λ run. IsLoggedRun p start target run) }
+    ensures seen { (turns : ℕ) (p : Program) (start : TargetState) (first : SeenSoFar) → HasSeenNothing first
+        → Unless walked.entry.held.end ended (NotesByTurns turns first (seen_so_far walked.entry) (λ shows. events_in shows (start_world start None) p None))
+        → IfOk result (λ run. IsSeenOfRun turns p start run) }
 {
     let ending = match ending_of(ended, &walked.held) {
         Ok(ending) => ending,
@@ -148,9 +148,9 @@ pub fn run_logged(
     requires turn { 0 < settings.now.turn_us }
     requires names { map (λ variable. variable.name) settings.now.start ≡ predefined }
     // How it ended, the variables, the calls, the skips and the target are those of the outcome.
-    ensures answer { IfOk result (λ run. IsRun (program_of (checked_trees checked.now) start.now settings.now) target.old target.new run) }
+    ensures answer { IfOk result (λ run. IsLoggedRun (program_of (checked_trees checked.now) start.now settings.now) target.old target.new run) }
     // The log is the text of the events that are shown; the rest is what all events say.
-    ensures seen { IfOk result (λ run. IsSeen turns (program_of (checked_trees checked.now) start.now settings.now) target.old run) }
+    ensures seen { IfOk result (λ run. IsSeenOfRun turns (program_of (checked_trees checked.now) start.now settings.now) target.old run) }
 {
     let mut globals = match make_globals(alloc, settings.start.as_slice()) {
         Ok(globals) => globals,

@@ -3,10 +3,10 @@ ghost use Rattle.std.specs.Prelude.{◌≡◌, ◌∷◌, [], ◌≤◌, ℕ, fa
 ghost use Rattle.expr_grammar.specs.Tree.{stmt_tree, tree};
 ghost use Rattle.logged_calls.specs.Held.{poll_value};
 ghost use Rattle.logged_calls.specs.declared.held.LoggedEnd.TheVariants as end;
-ghost use Rattle.log_lines.specs.Places.{condition_spot, debug_spot, spot_in};
+ghost use Rattle.log_lines.specs.Places.{condition_spot, debug_spot, spot_in_step};
 ghost use Rattle.run_events.specs.Events as e;
 ghost use Rattle.run_events.specs.Events.{units_between};
-ghost use Rattle.run_events.specs.OfSteps.{place_of, poll_end, polled_events};
+ghost use Rattle.run_events.specs.OfSteps.{poll_end, polled_events, statement_place};
 ghost use Rattle.run_events.specs.OfValues.{function_events};
 ghost use Rattle.sequence_rules.specs.Calls.{function_result};
 ghost use Rattle.sequence_rules.specs.Direct.{direct};
@@ -16,7 +16,7 @@ ghost use Rattle.sequence_trees.specs.declared.spot.Spot.{Spot};
 ghost use Rattle.target_machine.specs.Plain.{Answered};
 ghost use Rattle.logged_runs.specs.Seen.{is_error_call};
 ghost use Rattle.logged_runs.specs.OfSteps.{while_spot};
-ghost use Rattle.logged_runs.specs.Walk.{CoversAll, NotesOne, Sees, WalksAs, now};
+ghost use Rattle.logged_runs.specs.Walk.{CoversAll, NotesOne, SeesWalk, WalksAs, now};
 
 use crate::walked::Walked;
 use dap_base::Place;
@@ -32,7 +32,7 @@ const TEXT_START: Place = Place { line: 1, column: 1 };
 
 // Where a statement begins: a declaration at its name.
 fn place_of(statement: &Stmt) -> Place
-    ensures { result ≡ place_of (stmt_tree statement.now) }
+    ensures { result ≡ statement_place (stmt_tree statement.now) }
 {
     match statement {
         Stmt::Empty(at) | Stmt::Plain(at, _) => *at,
@@ -67,7 +67,8 @@ impl<'a> Walked<'a> {
         path: &[u64],
         statement: &'a Stmt,
     ) -> Result<(), Stopped>
-        ensures { NotesOne self.old self.new result (e.Begins (spot_in sequence.now path.now part.Block (place_of (stmt_tree statement.now))) (stmt_tree statement.now)) }
+        ensures { NotesOne self.old self.new result
+            (e.Begins (spot_in_step sequence.now path.now part.Block (statement_place (stmt_tree statement.now))) (stmt_tree statement.now)) }
     {
         let Ok(()) = self.held.log.begin(sequence, path, statement) else {
             return self.refuse();
@@ -86,7 +87,7 @@ impl<'a> Walked<'a> {
 
     /// A declaration of the debug variables begins.
     pub fn begin_debug(&mut self, statement: &'a Stmt) -> Result<(), Stopped>
-        ensures { NotesOne self.old self.new result (e.Begins (debug_spot (place_of (stmt_tree statement.now))) (stmt_tree statement.now)) }
+        ensures { NotesOne self.old self.new result (e.Begins (debug_spot (statement_place (stmt_tree statement.now))) (stmt_tree statement.now)) }
     {
         let Ok(()) = self.held.log.begin_debug(statement) else {
             return self.refuse();
@@ -236,7 +237,7 @@ impl<'a> Walked<'a> {
         target: &mut Target,
     ) -> Result<u64, Stopped>
         ensures gives { WalksAs self.old target.old self.new target.new result (function_result (direct false) function text.now numbers.now) }
-        ensures noted { (turns : ℕ) → Sees turns self.old target.old self.new result (λ s shows. function_events function text.now numbers.now s) }
+        ensures noted { (turns : ℕ) → SeesWalk turns self.old target.old self.new result (λ s shows. function_events function text.now numbers.now s) }
     {
         let value = match make_call(alloc, function, text, numbers, &mut self.held, target) {
             Ok(value) => value,
@@ -293,7 +294,7 @@ impl<'a> Walked<'a> {
         requires least { 1 ≤ count }
         requires most { count ≤ 60000000 }
         ensures gives { WalksAs self.old target.old self.new target.new result (λ s. dropped (direct false) (poll_value (mask, requested) count s)) }
-        ensures noted { (turns : ℕ) → Sees turns self.old target.old self.new result
+        ensures noted { (turns : ℕ) → SeesWalk turns self.old target.old self.new result
             (λ s shows. polled_events (while_spot sequence.now path.now) count (units_between s (now self.new target.new))) }
     {
         let value = match ask_poll(mask, requested, count, &mut self.held, target) {

@@ -1,6 +1,6 @@
 //! The places that a run reached.
 ghost use Rattle.std.specs.Prelude.{◌≡◌, ◌++◌, ◌∷◌, [], drop, take, slice_get, IfOk, OnOk};
-ghost use Rattle.log_lines.specs.Places.{debug_spot, spot_in};
+ghost use Rattle.log_lines.specs.Places.{debug_spot, spot_in_step};
 
 use dap_base::{NameText, OutOfMemory, Place};
 use sequence_trees::{Part, Spot, StepPath, copy_path};
@@ -97,7 +97,7 @@ impl Places {
         part: Part,
         place: Place,
     ) -> Result<(), OutOfMemory>
-        ensures { OnOk result (self.new ≡ spot_in sequence.now path.now part place ∷ drop 1 self.old) }
+        ensures { OnOk result (self.new ≡ spot_in_step sequence.now path.now part place ∷ drop 1 self.old) }
     {
         let (name, steps) = match self.leave() {
             Some(spot) => (spot.sequence, spot.path),

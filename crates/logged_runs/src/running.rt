@@ -1,8 +1,8 @@
 //! Whole runs: the debug variables, and then the sequence that a run starts with.
 ghost use Rattle.std.specs.Prelude.{[]};
 ghost use Rattle.expr_grammar.specs.Tree.{stmt_tree, tree};
-ghost use Rattle.logged_runs.specs.OfSteps.{debugged_of, debugged_seen, run_of, run_seen};
-ghost use Rattle.logged_runs.specs.Walk.{Sees, WalksAs, debugged_one, defined, defined_events, one_events};
+ghost use Rattle.logged_runs.specs.OfSteps.{debug_variables_in_walk, debugged_seen, run_in_walk, run_seen};
+ghost use Rattle.logged_runs.specs.Walk.{SeesWalk, WalksAs, debug_statement_in_walk, defined_events, definition_in_walk, one_events};
 
 use crate::runner::LoggedRunner;
 use crate::walked::Walked;
@@ -21,8 +21,8 @@ impl<'a> LoggedRunner<'a> {
         walked: &mut Walked<'a>,
         target: &mut Target,
     ) -> Result<(), Stopped>
-        ensures gives { WalksAs walked.old target.old walked.new target.new result (defined self.now name.now (tree expr.now)) }
-        ensures noted { Sees self.now.turns walked.old target.old walked.new result (λ s shows. defined_events shows self.now name.now (tree expr.now) s) }
+        ensures gives { WalksAs walked.old target.old walked.new target.new result (definition_in_walk self.now name.now (tree expr.now)) }
+        ensures noted { SeesWalk self.now.turns walked.old target.old walked.new result (λ s shows. defined_events shows self.now name.now (tree expr.now) s) }
     {
         let number = match self.evaluate(expr, 0, walked, target) {
             Ok(number) => number,
@@ -39,8 +39,8 @@ impl<'a> LoggedRunner<'a> {
         walked: &mut Walked<'a>,
         target: &mut Target,
     ) -> Result<(), Stopped>
-        ensures gives { WalksAs walked.old target.old walked.new target.new result (debugged_one self.now (stmt_tree one.now)) }
-        ensures noted { Sees self.now.turns walked.old target.old walked.new result (λ s shows. one_events shows self.now (stmt_tree one.now) s) }
+        ensures gives { WalksAs walked.old target.old walked.new target.new result (debug_statement_in_walk self.now (stmt_tree one.now)) }
+        ensures noted { SeesWalk self.now.turns walked.old target.old walked.new result (λ s shows. one_events shows self.now (stmt_tree one.now) s) }
     {
         match one {
             Stmt::Declare(name, expr) => {
@@ -62,8 +62,8 @@ impl<'a> LoggedRunner<'a> {
         walked: &mut Walked<'a>,
         target: &mut Target,
     ) -> Result<(), Stopped>
-        ensures gives { WalksAs walked.old target.old walked.new target.new result (debugged_of self.now code.now) }
-        ensures noted { Sees self.now.turns walked.old target.old walked.new result (debugged_seen self.now code.now) }
+        ensures gives { WalksAs walked.old target.old walked.new target.new result (debug_variables_in_walk self.now code.now) }
+        ensures noted { SeesWalk self.now.turns walked.old target.old walked.new result (debugged_seen self.now code.now) }
     {
         for one in code {
             match self.define_one(one, walked, target) {
@@ -82,8 +82,8 @@ impl<'a> LoggedRunner<'a> {
         walked: &mut Walked<'a>,
         target: &mut Target,
     ) -> Result<(), Stopped>
-        ensures gives { WalksAs walked.old target.old walked.new target.new result (run_of self.now start.now) }
-        ensures noted { Sees self.now.turns walked.old target.old walked.new result (run_seen self.now start.now) }
+        ensures gives { WalksAs walked.old target.old walked.new target.new result (run_in_walk self.now start.now) }
+        ensures noted { SeesWalk self.now.turns walked.old target.old walked.new result (run_seen self.now start.now) }
     {
         match self.define_all(self.set.debugvars().as_slice(), walked, target) {
             Ok(()) => {}

@@ -3,10 +3,10 @@ ghost use Rattle.std.specs.Prelude.{◌≡◌, [], ◌∷◌, ◌++◌, ◌<◌,
 ghost use Rattle.sequence_rules.specs.Direct.{direct};
 ghost use Rattle.sequence_rules.specs.Steps as m;
 ghost use Rattle.target_machine.specs.State.{TargetState};
-ghost use Rattle.logged_runs.specs.OfSteps.{block_of, block_seen, declared_of, declared_seen, done_seen, dropped_of};
-ghost use Rattle.logged_runs.specs.OfSteps.{dropped_seen, inner_seen, statement_of, statement_seen, step_of, step_seen, steps_of};
+ghost use Rattle.logged_runs.specs.OfSteps.{block_in_walk, block_seen, declaration_in_walk, declared_seen, done_seen, dropped_in_walk};
+ghost use Rattle.logged_runs.specs.OfSteps.{dropped_seen, inner_seen, statement_in_walk, statement_seen, step_in_walk, step_seen, steps_in_walk};
 ghost use Rattle.logged_runs.specs.OfSteps.{steps_seen};
-ghost use Rattle.logged_runs.specs.Walk.{Sees, WalksAs, seen};
+ghost use Rattle.logged_runs.specs.Walk.{SeesWalk, WalksAs, seen_so_far};
 
 use crate::runner::LoggedRunner;
 use crate::walked::Walked;
@@ -31,8 +31,8 @@ impl<'a> LoggedRunner<'a> {
         walked: &mut Walked<'a>,
         target: &mut Target,
     ) -> Result<(), Stopped>
-        ensures gives { WalksAs walked.old target.old walked.new target.new result (steps_of self.now depth steps.now) }
-        ensures noted { Sees self.now.turns walked.old target.old walked.new result (steps_seen self.now depth sequence.now path.now steps.now) }
+        ensures gives { WalksAs walked.old target.old walked.new target.new result (steps_in_walk self.now depth steps.now) }
+        ensures noted { SeesWalk self.now.turns walked.old target.old walked.new result (steps_seen self.now depth sequence.now path.now steps.now) }
     {
         for (number, step) in steps.iter().enumerate() {
             match self.run_inner(sequence, path, number as u64, step, depth, walked, target) {
@@ -55,8 +55,8 @@ impl<'a> LoggedRunner<'a> {
         walked: &mut Walked<'a>,
         target: &mut Target,
     ) -> Result<(), Stopped>
-        ensures gives { WalksAs walked.old target.old walked.new target.new result (step_of self.now depth step.now) }
-        ensures noted { Sees self.now.turns walked.old target.old walked.new result (inner_seen self.now depth sequence.now path.now number step.now) }
+        ensures gives { WalksAs walked.old target.old walked.new target.new result (step_in_walk self.now depth step.now) }
+        ensures noted { SeesWalk self.now.turns walked.old target.old walked.new result (inner_seen self.now depth sequence.now path.now number step.now) }
     {
         let Ok(path) = inner_path(self.alloc, path, number) else {
             walked.held.end = LoggedEnd::OutOfMemory;
@@ -77,8 +77,8 @@ impl<'a> LoggedRunner<'a> {
         walked: &mut Walked<'a>,
         target: &mut Target,
     ) -> Result<(), Stopped>
-        ensures gives { WalksAs walked.old target.old walked.new target.new result (step_of self.now depth step.now) }
-        ensures noted { Sees self.now.turns walked.old target.old walked.new result (step_seen self.now depth sequence.now path.now step.now) }
+        ensures gives { WalksAs walked.old target.old walked.new target.new result (step_in_walk self.now depth step.now) }
+        ensures noted { SeesWalk self.now.turns walked.old target.old walked.new result (step_seen self.now depth sequence.now path.now step.now) }
     {
         match step {
             CheckedStep::Block(code) => {
@@ -115,8 +115,8 @@ impl<'a> LoggedRunner<'a> {
         walked: &mut Walked<'a>,
         target: &mut Target,
     ) -> Result<(), Stopped>
-        ensures gives { WalksAs walked.old target.old walked.new target.new result (block_of self.now depth code.now) }
-        ensures noted { Sees self.now.turns walked.old target.old walked.new result (block_seen self.now depth sequence.now path.now code.now) }
+        ensures gives { WalksAs walked.old target.old walked.new target.new result (block_in_walk self.now depth code.now) }
+        ensures noted { SeesWalk self.now.turns walked.old target.old walked.new result (block_seen self.now depth sequence.now path.now code.now) }
     {
         for one in code {
             match self.run_statement(sequence, path, one, depth, walked, target) {
@@ -139,8 +139,8 @@ impl<'a> LoggedRunner<'a> {
         walked: &mut Walked<'a>,
         target: &mut Target,
     ) -> Result<(), Stopped>
-        ensures gives { WalksAs walked.old target.old walked.new target.new result (statement_of self.now depth one.now) }
-        ensures noted { Sees self.now.turns walked.old target.old walked.new result (statement_seen self.now depth sequence.now path.now one.now) }
+        ensures gives { WalksAs walked.old target.old walked.new target.new result (statement_in_walk self.now depth one.now) }
+        ensures noted { SeesWalk self.now.turns walked.old target.old walked.new result (statement_seen self.now depth sequence.now path.now one.now) }
     {
         match walked.begin(sequence, path, one) {
             Ok(()) => {}
@@ -159,8 +159,8 @@ impl<'a> LoggedRunner<'a> {
         walked: &mut Walked<'a>,
         target: &mut Target,
     ) -> Result<(), Stopped>
-        ensures gives { WalksAs walked.old target.old walked.new target.new result (statement_of self.now depth one.now) }
-        ensures noted { Sees self.now.turns walked.old target.old walked.new result (done_seen self.now depth one.now) }
+        ensures gives { WalksAs walked.old target.old walked.new target.new result (statement_in_walk self.now depth one.now) }
+        ensures noted { SeesWalk self.now.turns walked.old target.old walked.new result (done_seen self.now depth one.now) }
     {
         match one {
             Stmt::Empty(_) => count_step(walked),
@@ -180,8 +180,8 @@ impl<'a> LoggedRunner<'a> {
         walked: &mut Walked<'a>,
         target: &mut Target,
     ) -> Result<(), Stopped>
-        ensures gives { WalksAs walked.old target.old walked.new target.new result (declared_of self.now depth name.now expr.now) }
-        ensures noted { Sees self.now.turns walked.old target.old walked.new result (declared_seen self.now depth name.now expr.now) }
+        ensures gives { WalksAs walked.old target.old walked.new target.new result (declaration_in_walk self.now depth name.now expr.now) }
+        ensures noted { SeesWalk self.now.turns walked.old target.old walked.new result (declared_seen self.now depth name.now expr.now) }
     {
         match count_step(walked) {
             Ok(()) => {}
@@ -208,8 +208,8 @@ impl<'a> LoggedRunner<'a> {
         walked: &mut Walked<'a>,
         target: &mut Target,
     ) -> Result<(), Stopped>
-        ensures gives { WalksAs walked.old target.old walked.new target.new result (dropped_of self.now depth expr.now) }
-        ensures noted { Sees self.now.turns walked.old target.old walked.new result (dropped_seen self.now depth expr.now) }
+        ensures gives { WalksAs walked.old target.old walked.new target.new result (dropped_in_walk self.now depth expr.now) }
+        ensures noted { SeesWalk self.now.turns walked.old target.old walked.new result (dropped_seen self.now depth expr.now) }
     {
         match count_step(walked) {
             Ok(()) => {}
@@ -235,7 +235,7 @@ fn inner_path(alloc: Global, path: &[u64], number: u64) -> Result<SmallVec<u64, 
 #[tactic(auto, unfolding(sequence_rules::specs::Steps::counted))]
 pub(crate) fn count_step(walked: &mut Walked) -> Result<(), Stopped>
     ensures gives { (target : TargetState) → WalksAs walked.old target walked.new target result (m.counted (direct false)) }
-    ensures seen { seen walked.new ≡ seen walked.old }
+    ensures seen { seen_so_far walked.new ≡ seen_so_far walked.old }
 {
     if walked.held.steps >= MOST_STEPS {
         walked.held.end = LoggedEnd::Halted(HaltCause::StepLimit);

@@ -1,9 +1,9 @@
 //! The values of expressions.
 ghost use Rattle.std.specs.Prelude.{◌≡◌, ◌<◌};
 ghost use Rattle.expr_grammar.specs.Arithmetic.{truth};
-ghost use Rattle.logged_runs.specs.OfValues.{and_of, and_seen, assigned_of, assigned_seen, binary_of, binary_seen, choice_of};
-ghost use Rattle.logged_runs.specs.OfValues.{choice_seen, or_of, or_seen, strict_of, strict_seen, unary_of, value_of, value_seen};
-ghost use Rattle.logged_runs.specs.Walk.{Sees, WalksAs};
+ghost use Rattle.logged_runs.specs.OfValues.{and_in_walk, and_seen, assigned_seen, assignment_in_walk, binary_in_walk, binary_seen, choice_in_walk};
+ghost use Rattle.logged_runs.specs.OfValues.{choice_seen, or_in_walk, or_seen, strict_in_walk, strict_seen, unary_in_walk, value_in_walk, value_seen};
+ghost use Rattle.logged_runs.specs.Walk.{SeesWalk, WalksAs};
 
 use crate::runner::LoggedRunner;
 use crate::walked::Walked;
@@ -22,8 +22,8 @@ impl<'a> LoggedRunner<'a> {
         walked: &mut Walked<'a>,
         target: &mut Target,
     ) -> Result<u64, Stopped>
-        ensures gives { WalksAs walked.old target.old walked.new target.new result (value_of self.now depth expr.now) }
-        ensures noted { Sees self.now.turns walked.old target.old walked.new result (value_seen self.now depth expr.now) }
+        ensures gives { WalksAs walked.old target.old walked.new target.new result (value_in_walk self.now depth expr.now) }
+        ensures noted { SeesWalk self.now.turns walked.old target.old walked.new result (value_seen self.now depth expr.now) }
     {
         match expr {
             Expr::Number(number) => Ok(*number),
@@ -52,8 +52,8 @@ impl<'a> LoggedRunner<'a> {
         walked: &mut Walked<'a>,
         target: &mut Target,
     ) -> Result<u64, Stopped>
-        ensures gives { WalksAs walked.old target.old walked.new target.new result (unary_of self.now depth op operand.now) }
-        ensures noted { Sees self.now.turns walked.old target.old walked.new result (value_seen self.now depth operand.now) }
+        ensures gives { WalksAs walked.old target.old walked.new target.new result (unary_in_walk self.now depth op operand.now) }
+        ensures noted { SeesWalk self.now.turns walked.old target.old walked.new result (value_seen self.now depth operand.now) }
     {
         let number = self.evaluate(operand, depth, walked, target)?;
         Ok(unary_value(op, number))
@@ -71,8 +71,8 @@ impl<'a> LoggedRunner<'a> {
         walked: &mut Walked<'a>,
         target: &mut Target,
     ) -> Result<u64, Stopped>
-        ensures gives { WalksAs walked.old target.old walked.new target.new result (strict_of self.now depth op left.now right.now) }
-        ensures noted { Sees self.now.turns walked.old target.old walked.new result (strict_seen self.now depth left.now right.now) }
+        ensures gives { WalksAs walked.old target.old walked.new target.new result (strict_in_walk self.now depth op left.now right.now) }
+        ensures noted { SeesWalk self.now.turns walked.old target.old walked.new result (strict_seen self.now depth left.now right.now) }
     {
         let left = match self.evaluate(left, depth, walked, target) {
             Ok(left) => left,
@@ -102,8 +102,8 @@ impl<'a> LoggedRunner<'a> {
         walked: &mut Walked<'a>,
         target: &mut Target,
     ) -> Result<u64, Stopped>
-        ensures gives { WalksAs walked.old target.old walked.new target.new result (and_of self.now depth left.now right.now) }
-        ensures noted { Sees self.now.turns walked.old target.old walked.new result (and_seen self.now depth left.now right.now) }
+        ensures gives { WalksAs walked.old target.old walked.new target.new result (and_in_walk self.now depth left.now right.now) }
+        ensures noted { SeesWalk self.now.turns walked.old target.old walked.new result (and_seen self.now depth left.now right.now) }
     {
         let left = match self.evaluate(left, depth, walked, target) {
             Ok(left) => left,
@@ -130,8 +130,8 @@ impl<'a> LoggedRunner<'a> {
         walked: &mut Walked<'a>,
         target: &mut Target,
     ) -> Result<u64, Stopped>
-        ensures gives { WalksAs walked.old target.old walked.new target.new result (or_of self.now depth left.now right.now) }
-        ensures noted { Sees self.now.turns walked.old target.old walked.new result (or_seen self.now depth left.now right.now) }
+        ensures gives { WalksAs walked.old target.old walked.new target.new result (or_in_walk self.now depth left.now right.now) }
+        ensures noted { SeesWalk self.now.turns walked.old target.old walked.new result (or_seen self.now depth left.now right.now) }
     {
         let left = match self.evaluate(left, depth, walked, target) {
             Ok(left) => left,
@@ -159,8 +159,8 @@ impl<'a> LoggedRunner<'a> {
         walked: &mut Walked<'a>,
         target: &mut Target,
     ) -> Result<u64, Stopped>
-        ensures gives { WalksAs walked.old target.old walked.new target.new result (binary_of self.now depth op left.now right.now) }
-        ensures noted { Sees self.now.turns walked.old target.old walked.new result (binary_seen self.now depth op left.now right.now) }
+        ensures gives { WalksAs walked.old target.old walked.new target.new result (binary_in_walk self.now depth op left.now right.now) }
+        ensures noted { SeesWalk self.now.turns walked.old target.old walked.new result (binary_seen self.now depth op left.now right.now) }
     {
         match op {
             BinaryOp::And => self.evaluate_and(left, right, depth, walked, target),
@@ -181,8 +181,8 @@ impl<'a> LoggedRunner<'a> {
         walked: &mut Walked<'a>,
         target: &mut Target,
     ) -> Result<u64, Stopped>
-        ensures gives { WalksAs walked.old target.old walked.new target.new result (choice_of self.now depth test.now first.now second.now) }
-        ensures noted { Sees self.now.turns walked.old target.old walked.new result (choice_seen self.now depth test.now first.now second.now) }
+        ensures gives { WalksAs walked.old target.old walked.new target.new result (choice_in_walk self.now depth test.now first.now second.now) }
+        ensures noted { SeesWalk self.now.turns walked.old target.old walked.new result (choice_seen self.now depth test.now first.now second.now) }
     {
         let number = match self.evaluate(test, depth, walked, target) {
             Ok(number) => number,
@@ -206,8 +206,8 @@ impl<'a> LoggedRunner<'a> {
         walked: &mut Walked<'a>,
         target: &mut Target,
     ) -> Result<u64, Stopped>
-        ensures gives { WalksAs walked.old target.old walked.new target.new result (assigned_of self.now depth name.now right.now) }
-        ensures noted { Sees self.now.turns walked.old target.old walked.new result (assigned_seen self.now depth name.now right.now) }
+        ensures gives { WalksAs walked.old target.old walked.new target.new result (assignment_in_walk self.now depth name.now right.now) }
+        ensures noted { SeesWalk self.now.turns walked.old target.old walked.new result (assigned_seen self.now depth name.now right.now) }
     {
         let number = self.evaluate(right, depth, walked, target)?;
         walked.store(name.text.as_str(), number);

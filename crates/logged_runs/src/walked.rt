@@ -8,7 +8,7 @@ ghost use Rattle.sequence_rules.specs.Locals.{locals_of};
 ghost use Rattle.sequence_rules.specs.Machine.{with_locals, with_variables};
 ghost use Rattle.sequence_rules.specs.Shared.{bindings_of};
 ghost use Rattle.sequence_rules.specs.Variables.{bound, set_in, set_visible, value_named, visible};
-ghost use Rattle.logged_runs.specs.Walk.{Changes, now};
+ghost use Rattle.logged_runs.specs.Walk.{ChangesWalk, now};
 
 use crate::places::Places;
 use dap_base::{NameText, OutOfMemory};
@@ -85,7 +85,7 @@ impl<'a> Walked<'a> {
 
     /// Gives a visible variable a value.
     pub fn store(&mut self, name: &str, value: u64)
-        ensures { Changes self.old self.new (set_visible name.now value) }
+        ensures { ChangesWalk self.old self.new (set_visible name.now value) }
     {
         if !self.held.locals.set(name, value) {
             self.held.globals.set(name, value);
@@ -94,7 +94,7 @@ impl<'a> Walked<'a> {
 
     /// Declares a variable of the running sequence.
     pub fn declare(&mut self, alloc: Global, name: &NameText, value: u64) -> Result<(), OutOfMemory>
-        ensures { OnOk result (Changes self.old self.new (λ s. with_locals s (s.locals ++ bound name.now value ∷ []))) }
+        ensures { OnOk result (ChangesWalk self.old self.new (λ s. with_locals s (s.locals ++ bound name.now value ∷ []))) }
     {
         self.held.locals.add(alloc, name.as_str(), value)
     }
@@ -109,34 +109,34 @@ impl<'a> Walked<'a> {
     /// Takes the variables of the running sequence out.
     pub fn take_locals(&mut self, alloc: Global) -> Locals<u64>
         ensures taken { locals_of result ≡ locals_of self.old.held.locals }
-        ensures changes { Changes self.old self.new (λ s. with_locals s []) }
+        ensures changes { ChangesWalk self.old self.new (λ s. with_locals s []) }
     {
         mem::replace(&mut self.held.locals, Locals::new(alloc))
     }
 
     /// Drops the variables of the running sequence after the first `len`.
     pub fn cut_back(&mut self, len: usize)
-        ensures { Changes self.old self.new (λ s. with_locals s (take len s.locals)) }
+        ensures { ChangesWalk self.old self.new (λ s. with_locals s (take len s.locals)) }
     {
         self.held.locals.truncate(len);
     }
 
     // Gives a variable that all sequences share a value.
     fn set_global(&mut self, name: &str, value: u64)
-        ensures { Changes self.old self.new (λ s. with_variables s (set_in s.globals name.now value) s.locals) }
+        ensures { ChangesWalk self.old self.new (λ s. with_variables s (set_in s.globals name.now value) s.locals) }
     {
         self.held.globals.set(name, value);
     }
 
     fn set_locals(&mut self, locals: Locals<u64>)
-        ensures { Changes self.old self.new (λ s. with_locals s (locals_of locals)) }
+        ensures { ChangesWalk self.old self.new (λ s. with_locals s (locals_of locals)) }
     {
         self.held.locals = locals;
     }
 
     /// Returns from a called sequence: gives the caller its `__dp`, `__ap` and `__errorcontrol`, and its own variables.
     pub fn give_back(&mut self, dp: u64, ap: u64, control: u64, locals: Locals<u64>)
-        ensures { Changes self.old self.new
+        ensures { ChangesWalk self.old self.new
             (λ s. with_variables s (set_in (set_in (set_in s.globals (codes "__dp") dp) (codes "__ap") ap) (codes "__errorcontrol") control) (locals_of locals)) }
     {
         self.set_global("__dp", dp);

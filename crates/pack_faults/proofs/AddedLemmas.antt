@@ -23,7 +23,7 @@ use Rattle.pack_faults.specs.declared.sets.SetRef.{SetRef}
 use Rattle.pack_faults.specs.declared.sets.DeviceSets.{DeviceSets}
 use Rattle.pack_faults.specs.Sets.{SetAt, is_requested, sets_at, sets_with, device_sets, devices_sets, has_set}
 use Rattle.pack_faults.specs.Known.{IsKnown}
-use Rattle.pack_faults.specs.Shared.{trimmed, places_in_group, set_ref, AreSetsOf, AreShared, Grown, AreFine, IsReady, AreAdded, AreCounted}
+use Rattle.pack_faults.specs.Shared.{trimmed, places_in_group, set_ref, AreSetsOf, AreShared, Grown, AreFine, IsFineWithShared, AreAdded, DevicesAreCounted}
 use Rattle.pack_faults.specs.Views.{set_view}
 use Rattle.pack_faults.proofs.SetLemmas.{variants_none, variants_some, has_grown}
 use Rattle.pack_faults.proofs.SharedLemmas.{to_trimmed, from_trimmed, grown_itself, grown_then, shared_grown, found_grown, pushed_sets, pushed_found}
@@ -57,7 +57,7 @@ added_new pack r place variant each old known new fine all grown are e = record 
 }
 
 pub added_shared : (pack : Pack) (r : Request) (place : code.DevicePlace) (variant : Option (Bor Variant)) (shared : Option (List PnameSet)) (each : List PnameSet) (old : DeviceSets) (new : List SetRef)
-    → IsReady pack r (path_of pack (place_view place) (option_map (λ v. v.now) variant)) shared old → shared ≡ Some each → new ≡ old.sets ++ map (set_ref place variant) each
+    → IsFineWithShared pack r (path_of pack (place_view place) (option_map (λ v. v.now) variant)) shared old → shared ≡ Some each → new ≡ old.sets ++ map (set_ref place variant) each
     → AreAdded pack r (path_of pack (place_view place) (option_map (λ v. v.now) variant)) (sets_at pack r (place_view place) (option_map (λ v. v.now) variant)) old shared
     (record { sets = new; devices = old.devices; known = old.known })
 added_shared pack r place variant shared each old new ready is e =
@@ -69,7 +69,7 @@ added_shared pack r place variant shared each old new ready is e =
 -- ---- along other levels
 
 pub ready_along : (pack : Pack) (r : Request) (levels other : List LevelAt) (shared : Option (List PnameSet)) (f : DeviceSets) → trimmed levels ≡ trimmed other
-    → IsReady pack r levels shared f → IsReady pack r other shared f
+    → IsFineWithShared pack r levels shared f → IsFineWithShared pack r other shared f
 ready_along pack r levels other shared f same ready = record {
   fine = ready.fine;
   along = subst (λ (ls : List LevelAt). AreShared r f.known ls shared) same ready.along;
@@ -86,7 +86,7 @@ added_along pack r levels other added old shared new same are = record {
 
 -- what others share stays
 pub added_apart : (pack : Pack) (r : Request) (levels other : List LevelAt) (added : List SetAt) (old : DeviceSets) (own shared : Option (List PnameSet)) (new : DeviceSets)
-    → IsReady pack r other shared old → AreAdded pack r levels added old own new → AreAdded pack r other added old shared new
+    → IsFineWithShared pack r other shared old → AreAdded pack r levels added old own new → AreAdded pack r other added old shared new
 added_apart pack r levels other added old own shared new ready are = record {
   sets = are.sets;
   devices = are.devices;
@@ -100,7 +100,7 @@ pub added_as : (pack : Pack) (r : Request) (levels : List LevelAt) (added other 
     → added ≡ other → AreAdded pack r levels added old shared new → AreAdded pack r levels other old shared new
 added_as pack r levels added other old shared new same are = subst (λ (ss : List SetAt). AreAdded pack r levels ss old shared new) same are
 
-pub added_none : (pack : Pack) (r : Request) (levels : List LevelAt) (old : DeviceSets) (shared : Option (List PnameSet)) → IsReady pack r levels shared old → AreAdded pack r levels [] old shared old
+pub added_none : (pack : Pack) (r : Request) (levels : List LevelAt) (old : DeviceSets) (shared : Option (List PnameSet)) → IsFineWithShared pack r levels shared old → AreAdded pack r levels [] old shared old
 added_none pack r levels old shared ready = record { sets = sym (append-nil (map set_view old.sets)); devices = refl; grown = grown_itself old.known; ready = ready }
 
 pub added_then : (pack : Pack) (r : Request) (levels : List LevelAt) (first second : List SetAt) (a b c : DeviceSets) (one two : Option (List PnameSet))
@@ -166,7 +166,7 @@ count_one p x = let e = sum_by-cons (λ y. cond (p y) 1 0) x [] in e ∙ plus (c
 -- a device was counted where the sets have grown
 pub counted_one : (pack : Pack) (r : Request) (levels : List LevelAt) (place : DevicePlace) (old new : DeviceSets) (shared : Option (List PnameSet)) (n before after : ℕ)
     → AreFine pack old → AreAdded pack r levels (device_sets pack r place) old shared new → before ≡ length old.sets → after ≡ length new.sets → n ≡ new.devices + cond (nat_lt before after) 1 0
-    → AreCounted pack r (place ∷ []) old (record { sets = new.sets; devices = n; known = new.known })
+    → DevicesAreCounted pack r (place ∷ []) old (record { sets = new.sets; devices = n; known = new.known })
 counted_one pack r levels place old new shared n before after fine are p q e =
     let same : nat_lt before after ≡ has_set pack r place =
     ap (λ k. nat_lt k after) p ∙ ap (nat_lt (length old.sets)) q ∙ has_grown pack r place old.sets new.sets are.sets in
@@ -188,7 +188,7 @@ counted_one pack r levels place old new shared n before after fine are p q e =
       };
     }
 
-pub counted_none : (pack : Pack) (r : Request) (old : DeviceSets) → AreFine pack old → AreCounted pack r [] old old
+pub counted_none : (pack : Pack) (r : Request) (old : DeviceSets) → AreFine pack old → DevicesAreCounted pack r [] old old
 counted_none pack r old fine = record { sets = sym (append-nil (map set_view old.sets)); devices = (let e : old.devices + 0 ≡ old.devices = omega arith in sym e); fine = fine }
 
 pub devices_sets-append : (pack : Pack) (r : Request) (ps qs : List DevicePlace) → devices_sets pack r (ps ++ qs) ≡ devices_sets pack r ps ++ devices_sets pack r qs
@@ -206,7 +206,7 @@ count_append p (x ∷ xs) ys =
     let rest = count_append p xs ys in
     omega (arith, new, old, rest)
 
-pub counted_then : (pack : Pack) (r : Request) (ps qs : List DevicePlace) (a b c : DeviceSets) → AreCounted pack r ps a b → AreCounted pack r qs b c → AreCounted pack r (ps ++ qs) a c
+pub counted_then : (pack : Pack) (r : Request) (ps qs : List DevicePlace) (a b c : DeviceSets) → DevicesAreCounted pack r ps a b → DevicesAreCounted pack r qs b c → DevicesAreCounted pack r (ps ++ qs) a c
 counted_then pack r ps qs a b c p q = record {
   sets =
       q.sets ∙ ap (λ ss. ss ++ devices_sets pack r qs) p.sets ∙ append_assoc (map set_view a.sets) (devices_sets pack r ps) (devices_sets pack r qs)
@@ -215,8 +215,8 @@ counted_then pack r ps qs a b c p q = record {
   fine = q.fine;
 }
 
-pub counted_as : (pack : Pack) (r : Request) (ps qs : List DevicePlace) (a b : DeviceSets) → ps ≡ qs → AreCounted pack r ps a b → AreCounted pack r qs a b
-counted_as pack r ps qs a b same are = subst (λ (xs : List DevicePlace). AreCounted pack r xs a b) same are
+pub counted_as : (pack : Pack) (r : Request) (ps qs : List DevicePlace) (a b : DeviceSets) → ps ≡ qs → DevicesAreCounted pack r ps a b → DevicesAreCounted pack r qs a b
+counted_as pack r ps qs a b same are = subst (λ (xs : List DevicePlace). DevicesAreCounted pack r xs a b) same are
 
 places_append : (family : Family) (sub : Option SubFamily) (ds es : List Device) → places_of family sub (ds ++ es) ≡ places_of family sub ds ++ places_of family sub es
 places_append family sub [] es = refl

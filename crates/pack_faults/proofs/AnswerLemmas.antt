@@ -22,12 +22,12 @@ use Rattle.pack_faults.specs.declared.lined.LinedSet.{LinedSet}
 use Rattle.pack_faults.specs.declared.sets.SetRef.{SetRef}
 use Rattle.pack_faults.specs.declared.sets.DeviceSets.{DeviceSets}
 use Rattle.pack_faults.specs.Sets.{SetAt, sets_of}
-use Rattle.pack_faults.specs.Merged.{same_found, all_found, each_once, with_sets, merged}
-use Rattle.pack_faults.specs.Answers.{found_in, Checked, IsChecked, AreChecked, is_unread, is_unfinished, ArePackFaults, IsValidAt, AreValid}
+use Rattle.pack_faults.specs.Merged.{same_found, all_found, each_once, with_sets, merged_faults}
+use Rattle.pack_faults.specs.Answers.{found_in, Checked, IsCheckOfSet, AreChecked, is_unread, is_unfinished, ArePackFaults, IsValidAt, AreValid}
 use Rattle.pack_faults.specs.Steps.{with_each, AreDone}
 use Rattle.pack_faults.specs.Known.{IsKnown}
 use Rattle.pack_faults.specs.Lined.{checked_view, checked_of, IsCheckedAt}
-use Rattle.pack_faults.specs.Shared.{IsFound, AreFine}
+use Rattle.pack_faults.specs.Shared.{HasNumberOfSet, AreFine}
 use Rattle.pack_faults.specs.Views.{set_view}
 use Rattle.pack_faults.proofs.SameLemmas.{same_itself}
 use Rattle.pack_faults.proofs.SharedLemmas.{set_along_path}
@@ -36,25 +36,25 @@ use Rattle.pack_faults.proofs.MergeLemmas.{merged_set, has-each_once}
 -- ---- one more set
 
 are_checked-append : (pack : Pack) (sets : List SetAt) (s : SetAt) (checked : List Checked) (c : Checked)
-    → AreChecked pack sets checked → IsChecked pack s c → AreChecked pack (sets ++ s ∷ []) (checked ++ c ∷ [])
+    → AreChecked pack sets checked → IsCheckOfSet pack s c → AreChecked pack (sets ++ s ∷ []) (checked ++ c ∷ [])
 are_checked-append pack [] s checked c are is = (c, [], is, ap (λ cs. cs ++ c ∷ []) are, refl)
 are_checked-append pack (t ∷ sets) s checked c are is =
     (are.0, are.1 ++ c ∷ [], are.2, ap (λ cs. cs ++ c ∷ []) are.3, are_checked-append pack sets s are.1 c are.4 is)
 
 -- the checks of these sets, and of one more
-pub done_one : (pack : Pack) (sets : List SetAt) (s : SetAt) (c : Checked) (old new : Checking) → AreDone pack sets old → IsChecked pack s c
+pub done_one : (pack : Pack) (sets : List SetAt) (s : SetAt) (c : Checked) (old new : Checking) → AreDone pack sets old → IsCheckOfSet pack s c
     → new.phases ≡ old.phases ++ c.phase ∷ [] → new.faults.list.items ≡ with_each (length old.phases) c.found old.faults.list.items → AreDone pack (sets ++ s ∷ []) new
 done_one pack sets s c old new done is phases faults =
     let lists = map (λ x. x.found) done.checked in
     let size : length old.phases ≡ length lists =
     ap length done.phases ∙ length-map done.checked (λ x. x.phase) ∙ sym (length-map done.checked (λ x. x.found)) in
-    let list : new.faults.list.items ≡ merged (lists ++ c.found ∷ []) =
+    let list : new.faults.list.items ≡ merged_faults (lists ++ c.found ∷ []) =
     faults ∙ ap (λ n. with_each n c.found old.faults.list.items) size ∙ ap (with_each (length lists) c.found) done.faults ∙ merged_set lists c.found in
     record {
       checked = done.checked ++ c ∷ [];
       are = are_checked-append pack sets s done.checked c done.are is;
       phases = phases ∙ ap (λ ps. ps ++ c.phase ∷ []) done.phases ∙ sym (map-append (λ x. x.phase) done.checked (c ∷ []));
-      faults = list ∙ ap merged (sym (map-append (λ x. x.found) done.checked (c ∷ [])));
+      faults = list ∙ ap merged_faults (sym (map-append (λ x. x.found) done.checked (c ∷ [])));
     }
 
 -- ---- the sets that were found
@@ -77,19 +77,19 @@ known_at known n k all there =
 
 -- so it is of each of these sets
 all_checked : (pack : Pack) (known : List KnownSet) (lined : List LinedSet) (sets : List SetRef) → map checked_view lined ≡ map checked_of known → All IsKnown known
-    → All (IsFound pack known) sets → All (IsCheckedAt pack lined) sets
-all_checked pack known lined sets views fine found = All-weaker (IsFound pack known) (IsCheckedAt pack lined) at sets found where
-  at : (s : SetRef) → IsFound pack known s → IsCheckedAt pack lined s
+    → All (HasNumberOfSet pack known) sets → All (IsCheckedAt pack lined) sets
+all_checked pack known lined sets views fine found = All-weaker (HasNumberOfSet pack known) (IsCheckedAt pack lined) at sets found where
+  at : (s : SetRef) → HasNumberOfSet pack known s → IsCheckedAt pack lined s
   at s is =
       let found_at = lined_at known lined s.number is.one is.there views in
-      let of_known : IsChecked pack (set_view s) (checked_of is.one) = record {
+      let of_known : IsCheckOfSet pack (set_view s) (checked_of is.one) = record {
         set = is.one.set;
         is_set = set_along_path pack (set_view s).place (set_view s).variant (set_view s).pname is.one.set is.is;
         faults = is.one.found;
         are = (known_at known s.number is.one fine is.there).faults;
         is = refl;
       } in
-      record { one = found_at.0; there = found_at.1; is = subst (IsChecked pack (set_view s)) (sym found_at.2) of_known }
+      record { one = found_at.0; there = found_at.1; is = subst (IsCheckOfSet pack (set_view s)) (sym found_at.2) of_known }
 
 pub numbers_within : (known : List KnownSet) (lined slice : List LinedSet) (sets : List SetRef) → map checked_view lined ≡ map checked_of known → slice ≡ lined
     → All (λ (s : SetRef). s.number < length known) sets → All (λ (s : SetRef). s.number < length slice) sets
@@ -100,7 +100,7 @@ numbers_within known lined slice sets views is within =
 
 pub done_of : (known : List KnownSet) (lined slice : List LinedSet) (sets : List SetRef) (made : Result Checking OutOfMemory) → map checked_view lined ≡ map checked_of known
     → slice ≡ lined → All IsKnown known → IfOk made (λ checking. (p : Pack) → All (IsCheckedAt p slice) sets → AreDone p (map set_view sets) checking)
-    → IfOk made (λ checking. (p : Pack) → All (IsFound p known) sets → AreDone p (map set_view sets) checking)
+    → IfOk made (λ checking. (p : Pack) → All (HasNumberOfSet p known) sets → AreDone p (map set_view sets) checking)
 done_of known lined slice sets (Err e) views is fine done = tt
 done_of known lined slice sets (Ok checking) views is fine done = λ p found. done p (subst (λ (ls : List LinedSet). All (IsCheckedAt p ls) sets) (sym is) (all_checked p known lined sets views fine found))
 
@@ -109,15 +109,15 @@ pub found_within : (pack : Pack) (f : DeviceSets) (known : List KnownSet) (sets 
     → All (λ (s : SetRef). s.number < length known) sets
 found_within pack f known sets same_known same_sets fine =
     let own : All (λ (s : SetRef). s.number < length f.known) f.sets =
-    All-weaker (IsFound pack f.known) (λ (s : SetRef). s.number < length f.known) (λ s is. slice_get_within f.known s.number is.one is.there) f.sets fine.found in
+    All-weaker (HasNumberOfSet pack f.known) (λ (s : SetRef). s.number < length f.known) (λ s is. slice_get_within f.known s.number is.one is.there) f.sets fine.found in
     let these : All (λ (s : SetRef). s.number < length f.known) sets = subst (λ (ss : List SetRef). All (λ (s : SetRef). s.number < length f.known) ss) (sym same_sets) own in
     subst (λ (ks : List KnownSet). All (λ (s : SetRef). s.number < length ks) sets) (sym same_known) these
 
 pub done_found : (pack : Pack) (f : DeviceSets) (known : List KnownSet) (sets : List SetRef) (checking : Checking) → known ≡ f.known → sets ≡ f.sets → AreFine pack f
-    → ((p : Pack) → All (IsFound p known) sets → AreDone p (map set_view sets) checking) → AreDone pack (map set_view f.sets) checking
+    → ((p : Pack) → All (HasNumberOfSet p known) sets → AreDone p (map set_view sets) checking) → AreDone pack (map set_view f.sets) checking
 done_found pack f known sets checking same_known same_sets fine done =
-    let known_done = subst (λ (ks : List KnownSet). (p : Pack) → All (IsFound p ks) sets → AreDone p (map set_view sets) checking) same_known done in
-    let all_done = subst (λ (ss : List SetRef). (p : Pack) → All (IsFound p f.known) ss → AreDone p (map set_view ss) checking) same_sets known_done in
+    let known_done = subst (λ (ks : List KnownSet). (p : Pack) → All (HasNumberOfSet p ks) sets → AreDone p (map set_view sets) checking) same_known done in
+    let all_done = subst (λ (ss : List SetRef). (p : Pack) → All (HasNumberOfSet p f.known) ss → AreDone p (map set_view ss) checking) same_sets known_done in
     all_done pack fine.found
 
 -- ---- counts
@@ -129,7 +129,7 @@ count-map p f (x ∷ xs) =
 
 -- ---- one answer
 
-one_checked : (pack : Pack) (s : SetAt) (c d : Checked) → IsChecked pack s c → IsChecked pack s d → c ≡ d
+one_checked : (pack : Pack) (s : SetAt) (c d : Checked) → IsCheckOfSet pack s c → IsCheckOfSet pack s d → c ≡ d
 one_checked pack s c d p q =
     let set : p.set ≡ q.set = one_set_along pack s.place s.variant s.pname p.set q.set p.is_set q.is_set in
     let are : AreSetFaults q.set p.faults = subst (λ (x : SeqSet). AreSetFaults x p.faults) set p.are in
@@ -161,7 +161,7 @@ pub one_answer : (pack : Pack) (request : Request) (x y : PackFaults) → ArePac
 one_answer pack request x y p q =
     let list : p.checked ≡ q.checked = one_list pack (sets_of pack request) p.checked q.checked p.are q.are in
     same_answer x y (p.devices ∙ sym q.devices) (p.sets ∙ sym q.sets)
-    (p.faults ∙ ap (λ (cs : List Checked). merged (map (λ c. c.found) cs)) list ∙ sym q.faults)
+    (p.faults ∙ ap (λ (cs : List Checked). merged_faults (map (λ c. c.found) cs)) list ∙ sym q.faults)
     (p.unread ∙ ap (λ (cs : List Checked). count_by (λ c. is_unread c.phase) cs) list ∙ sym q.unread)
     (p.unreached ∙ ap (λ (cs : List Checked). count_by (λ c. is_unfinished c.phase) cs) list ∙ sym q.unreached)
 
@@ -181,13 +181,13 @@ none_found (f ∷ fs) e =
     let is : (same_found f f || list_any (same_found f) fs) ≡ false = sym (has-each_once [] (f ∷ fs) f) ∙ ap (list_any (same_found f)) e in
     absurd (true≢false (sym (ap (λ b. b || list_any (same_found f) fs) (same_itself f)) ∙ is))
 
-valid_at : (pack : Pack) (s : SetAt) (c : Checked) → IsChecked pack s c → c.found ≡ [] → IsValidAt pack s
+valid_at : (pack : Pack) (s : SetAt) (c : Checked) → IsCheckOfSet pack s c → c.found ≡ [] → IsValidAt pack s
 valid_at pack s c p e = λ set is.
     let same : p.set ≡ set = one_set_along pack s.place s.variant s.pname p.set set p.is_set is in
     let none : p.faults.faults ≡ [] = map_empty (found_in p.set) p.faults.faults (sym (ap (λ (x : Checked). x.found) p.is) ∙ e) in
     subst (λ (x : SeqSet). IsValid x) same ((faults.empty_where_valid p.set p.faults p.are).0 none)
 
-none_at : (pack : Pack) (s : SetAt) (c : Checked) → IsChecked pack s c → IsValidAt pack s → c.found ≡ []
+none_at : (pack : Pack) (s : SetAt) (c : Checked) → IsCheckOfSet pack s c → IsValidAt pack s → c.found ≡ []
 none_at pack s c p valid =
     let none : p.faults.faults ≡ [] = (faults.empty_where_valid p.set p.faults p.are).1 (valid p.set p.is_set) in
     ap (λ (x : Checked). x.found) p.is ∙ ap (map (found_in p.set)) none

@@ -17,10 +17,10 @@ use Rattle.pack_faults.specs.declared.answer.Found.{Found}
 use Rattle.pack_faults.specs.declared.answer.PackFault.{PackFault}
 use Rattle.pack_faults.specs.declared.keys.FoundKey.{FoundKey}
 use Rattle.pack_faults.specs.declared.lined.LinedFault.{LinedFault}
-use Rattle.pack_faults.specs.Keys.{KeyView, same_view, found_view, key_view, key_cmp, place_in, Knows, noted_at}
+use Rattle.pack_faults.specs.Keys.{KeyView, same_view, found_view, key_view, key_cmp, place_in_faults, KnowsFaultPlaces, fault_noted_at}
 use Rattle.pack_faults.specs.Merged.{same_found}
 use Rattle.pack_faults.specs.Lined.{lined_view}
-use Rattle.pack_faults.specs.Steps.{noted, with_found, with_each}
+use Rattle.pack_faults.specs.Steps.{numbers_with, with_found, with_each}
 use Rattle.pack_faults.proofs.SameLemmas.{and_true, text_itself, number_itself}
 use Rattle.sequence_resolve.proofs.WinnerLemmas.{not_first, later_at}
 
@@ -132,60 +132,60 @@ within_at false (Some j) n i less e =
     let same : suc j ≡ i = same_Some (suc j) i e in
     omega arith
 
-pub place_within : (v : KeyView) (faults : List PackFault) (i : ℕ) → place_in v faults ≡ Some i → i < length faults
+pub place_within : (v : KeyView) (faults : List PackFault) (i : ℕ) → place_in_faults v faults ≡ Some i → i < length faults
 place_within v [] i e = absurd cc
 place_within v (p ∷ faults) i e =
-    let lt : i < length faults + 1 = within_at (same_view v (found_view p.found)) (place_in v faults) (length faults) i (λ j later. place_within v faults j later) e in
+    let lt : i < length faults + 1 = within_at (same_view v (found_view p.found)) (place_in_faults v faults) (length faults) i (λ j later. place_within v faults j later) e in
     omega arith
 
 there_at : (k : ℕ) (x : Found) (p : PackFault) (faults : List PackFault) (i : ℕ) (d : PackFault) (b : Bool) → same_found x p.found ≡ b
-    → ((j : ℕ) → place_in (found_view x) faults ≡ Some j → with_found k x faults ≡ noted_at k faults j d)
-    → cond b (Some 0) (option_map (λ j. suc j) (place_in (found_view x) faults)) ≡ Some i
-    → cond b (record { found = p.found; sets = noted k p.sets } ∷ faults) (p ∷ with_found k x faults) ≡ noted_at k (p ∷ faults) i d
+    → ((j : ℕ) → place_in_faults (found_view x) faults ≡ Some j → with_found k x faults ≡ fault_noted_at k faults j d)
+    → cond b (Some 0) (option_map (λ j. suc j) (place_in_faults (found_view x) faults)) ≡ Some i
+    → cond b (record { found = p.found; sets = numbers_with k p.sets } ∷ faults) (p ∷ with_found k x faults) ≡ fault_noted_at k (p ∷ faults) i d
 there_at k x p faults i d true is later e = rw (← same_Some 0 i e) refl
 there_at k x p faults i d false is later e =
-    let at = later_at (place_in (found_view x) faults) i e in
+    let at = later_at (place_in_faults (found_view x) faults) i e in
     rw at.2 (ap (λ ps. p ∷ ps) (later at.0 at.1))
 
-pub found_there : (k : ℕ) (x : Found) (faults : List PackFault) (i : ℕ) (d : PackFault) → place_in (found_view x) faults ≡ Some i → with_found k x faults ≡ noted_at k faults i d
+pub found_there : (k : ℕ) (x : Found) (faults : List PackFault) (i : ℕ) (d : PackFault) → place_in_faults (found_view x) faults ≡ Some i → with_found k x faults ≡ fault_noted_at k faults i d
 found_there k x [] i d e = absurd cc
 found_there k x (p ∷ faults) i d e = there_at k x p faults i d (same_found x p.found) refl (λ j later. found_there k x faults j d later) e
 
-pub found_last : (k : ℕ) (x : Found) (faults : List PackFault) → place_in (found_view x) faults ≡ None → with_found k x faults ≡ faults ++ record { found = x; sets = k ∷ [] } ∷ []
+pub found_last : (k : ℕ) (x : Found) (faults : List PackFault) → place_in_faults (found_view x) faults ≡ None → with_found k x faults ≡ faults ++ record { found = x; sets = k ∷ [] } ∷ []
 found_last k x [] e = refl
 found_last k x (p ∷ faults) e =
-    let parts = not_first (same_found x p.found) (place_in (found_view x) faults) e in
+    let parts = not_first (same_found x p.found) (place_in_faults (found_view x) faults) e in
     rw parts.0 (ap (λ ps. p ∷ ps) (found_last k x faults parts.1))
 
 -- a change of the sets moves nothing
-place_noted : (v : KeyView) (faults : List PackFault) (i k : ℕ) (d : PackFault) → i < length faults → place_in v (noted_at k faults i d) ≡ place_in v faults
+place_noted : (v : KeyView) (faults : List PackFault) (i k : ℕ) (d : PackFault) → i < length faults → place_in_faults v (fault_noted_at k faults i d) ≡ place_in_faults v faults
 place_noted v [] i k d lt = absurd (omega arith)
 place_noted v (p ∷ faults) zero k d lt = refl
 place_noted v (p ∷ faults) (suc i) k d lt = ap (λ o. cond (same_view v (found_view p.found)) (Some 0) (option_map (λ j. suc j) o)) (place_noted v faults i k d (omega arith))
 
 -- one more at the end
-place_before : (v : KeyView) (faults : List PackFault) (p : PackFault) → same_view v (found_view p.found) ≡ false → place_in v (faults ++ p ∷ []) ≡ place_in v faults
+place_before : (v : KeyView) (faults : List PackFault) (p : PackFault) → same_view v (found_view p.found) ≡ false → place_in_faults v (faults ++ p ∷ []) ≡ place_in_faults v faults
 place_before v [] p e = rw e refl
 place_before v (q ∷ faults) p e = ap (λ o. cond (same_view v (found_view q.found)) (Some 0) (option_map (λ j. suc j) o)) (place_before v faults p e)
 
-place_last : (v : KeyView) (faults : List PackFault) (p : PackFault) → place_in v faults ≡ None → same_view v (found_view p.found) ≡ true → place_in v (faults ++ p ∷ []) ≡ Some (length faults)
+place_last : (v : KeyView) (faults : List PackFault) (p : PackFault) → place_in_faults v faults ≡ None → same_view v (found_view p.found) ≡ true → place_in_faults v (faults ++ p ∷ []) ≡ Some (length faults)
 place_last v [] p none e = rw e refl
 place_last v (q ∷ faults) p none e =
-    let parts = not_first (same_view v (found_view q.found)) (place_in v faults) none in
+    let parts = not_first (same_view v (found_view q.found)) (place_in_faults v faults) none in
     rw (parts.0, place_last v faults p parts.1 e) refl
 
 -- ---- the map
 
 -- one more in the map and in the list
-pub knows_more : (old new : BTreeMap FoundKey ℕ) (faults : List PackFault) (key : FoundKey) (x : Found) (sets : List ℕ) → Knows old faults → key_view key ≡ found_view x
+pub knows_more : (old new : BTreeMap FoundKey ℕ) (faults : List PackFault) (key : FoundKey) (x : Found) (sets : List ℕ) → KnowsFaultPlaces old faults → key_view key ≡ found_view x
     → get key_cmp old key ≡ None → ((other : FoundKey) → get key_cmp new other ≡ cond (is_eq (key_cmp key other)) (Some (length faults)) (get key_cmp old other))
-    → Knows new (faults ++ record { found = x; sets = sets } ∷ [])
+    → KnowsFaultPlaces new (faults ++ record { found = x; sets = sets } ∷ [])
 knows_more old new faults key x sets knows is none updates = λ other. updates other ∙ at other (is_eq (key_cmp key other)) refl where
   at : (other : FoundKey) (b : Bool) → is_eq (key_cmp key other) ≡ b
-      → cond b (Some (length faults)) (get key_cmp old other) ≡ place_in (key_view other) (faults ++ record { found = x; sets = sets } ∷ [])
+      → cond b (Some (length faults)) (get key_cmp old other) ≡ place_in_faults (key_view other) (faults ++ record { found = x; sets = sets } ∷ [])
   at other true tied =
       let same : key_view key ≡ key_view other = view_equal (key_view key) (key_view other) (sym (key_tied key other) ∙ tied) in
-      let absent : place_in (key_view other) faults ≡ None = subst (λ (v : KeyView). place_in v faults ≡ None) same (sym (knows key) ∙ none) in
+      let absent : place_in_faults (key_view other) faults ≡ None = subst (λ (v : KeyView). place_in_faults v faults ≡ None) same (sym (knows key) ∙ none) in
       let here : same_view (key_view other) (found_view x) ≡ true = subst (λ (v : KeyView). same_view v (found_view x) ≡ true) (sym is ∙ same) (view_itself (found_view x)) in
       sym (place_last (key_view other) faults (record { found = x; sets = sets }) absent here)
   at other false tied =
@@ -194,21 +194,21 @@ knows_more old new faults key x sets knows is none updates = λ other. updates o
       subst (λ (v : KeyView). same_view (key_view other) v ≡ false) is (view_turned (key_view key) (key_view other) (same_view (key_view other) (key_view key)) lacks refl) in
       knows other ∙ sym (place_before (key_view other) faults (record { found = x; sets = sets }) apart)
 
-pub knows_noted : (places : BTreeMap FoundKey ℕ) (faults : List PackFault) (i k : ℕ) (d : PackFault) → Knows places faults → i < length faults → Knows places (noted_at k faults i d)
+pub knows_noted : (places : BTreeMap FoundKey ℕ) (faults : List PackFault) (i k : ℕ) (d : PackFault) → KnowsFaultPlaces places faults → i < length faults → KnowsFaultPlaces places (fault_noted_at k faults i d)
 knows_noted places faults i k d knows lt = λ key. knows key ∙ sym (place_noted (key_view key) faults i k d lt)
 
 -- ---- as the code has it
 
-pub there_known : (places : BTreeMap FoundKey ℕ) (faults : List PackFault) (key : FoundKey) (x : Found) (o : Option ℕ) → Knows places faults → key_view key ≡ found_view x → o ≡ get key_cmp places key
-    → place_in (found_view x) faults ≡ o
-there_known places faults key x o knows is e = ap (λ v. place_in v faults) (sym is) ∙ sym (knows key) ∙ sym e
+pub there_known : (places : BTreeMap FoundKey ℕ) (faults : List PackFault) (key : FoundKey) (x : Found) (o : Option ℕ) → KnowsFaultPlaces places faults → key_view key ≡ found_view x → o ≡ get key_cmp places key
+    → place_in_faults (found_view x) faults ≡ o
+there_known places faults key x o knows is e = ap (λ v. place_in_faults v faults) (sym is) ∙ sym (knows key) ∙ sym e
 
-pub noted_same : (faults : List PackFault) (i n : ℕ) (now d : PackFault) (sets : List ℕ) → i < length faults → now ≡ get_or faults i now → sets ≡ noted n now.sets
-    → slice_set faults i (record { found = now.found; sets = sets }) ≡ noted_at n faults i d
+pub noted_same : (faults : List PackFault) (i n : ℕ) (now d : PackFault) (sets : List ℕ) → i < length faults → now ≡ get_or faults i now → sets ≡ numbers_with n now.sets
+    → slice_set faults i (record { found = now.found; sets = sets }) ≡ fault_noted_at n faults i d
 noted_same faults i n now d sets lt at e =
     let same : now ≡ get_or faults i d = at ∙ get_or-default faults i now d lt in
     ap (λ (ns : List ℕ). slice_set faults i (record { found = now.found; sets = ns })) e
-    ∙ ap (λ (p : PackFault). slice_set faults i (record { found = p.found; sets = noted n p.sets })) same where
+    ∙ ap (λ (p : PackFault). slice_set faults i (record { found = p.found; sets = numbers_with n p.sets })) same where
       get_or-default : (xs : List PackFault) (j : ℕ) (a b : PackFault) → j < length xs → get_or xs j a ≡ get_or xs j b
       get_or-default [] j a b less = absurd (omega arith)
       get_or-default (x ∷ xs) zero a b less = refl

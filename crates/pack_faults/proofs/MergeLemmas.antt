@@ -6,8 +6,8 @@ use Rattle.std.proofs.lemmas.List.Folds.{list_any-append}
 use Rattle.std.proofs.Math.Bool.{or-false}
 use Rattle.std.proofs.lemmas.Bool.{or_parts}
 use Rattle.pack_faults.specs.declared.answer.Found.{Found}
-use Rattle.pack_faults.specs.Merged.{same_found, all_found, found_added, each_once, sets_having, with_sets, merged}
-use Rattle.pack_faults.specs.Steps.{is_last, noted, with_found, with_each}
+use Rattle.pack_faults.specs.Merged.{same_found, all_found, found_added, each_once, sets_having, with_sets, merged_faults}
+use Rattle.pack_faults.specs.Steps.{is_last_number, numbers_with, with_found, with_each}
 use Rattle.pack_faults.proofs.SameLemmas.{same_equal, same_itself}
 
 -- ---- tests
@@ -117,10 +117,10 @@ having_under f n end (l ∷ done) e =
 
 -- ---- the last number
 
-is_last-later : (k x y : ℕ) (ns : List ℕ) → is_last k (x ∷ y ∷ ns) ≡ is_last k (y ∷ ns)
+is_last-later : (k x y : ℕ) (ns : List ℕ) → is_last_number k (x ∷ y ∷ ns) ≡ is_last_number k (y ∷ ns)
 is_last-later k x y ns = let e : length (x ∷ y ∷ ns) - 1 ≡ suc (length (y ∷ ns) - 1) = omega arith in rw e refl
 
-is_last-append : (k : ℕ) (ns : List ℕ) → is_last k (ns ++ k ∷ []) ≡ true
+is_last-append : (k : ℕ) (ns : List ℕ) → is_last_number k (ns ++ k ∷ []) ≡ true
 is_last-append k [] = eq-eqb k k refl
 is_last-append k (x ∷ []) = is_last-later k x k [] ∙ eq-eqb k k refl
 is_last-append k (x ∷ y ∷ ns) = is_last-later k x y (ns ++ k ∷ []) ∙ is_last-append k (y ∷ ns)
@@ -128,12 +128,12 @@ is_last-append k (x ∷ y ∷ ns) = is_last-later k x y (ns ++ k ∷ []) ∙ is_
 not_equal : (x k : ℕ) → x < k → x == k ≡ false
 not_equal x k lt = ne_eqb x k (λ (e : x ≡ k). omega arith)
 
-is_last-under : (k : ℕ) (ns : List ℕ) → AllUnder k ns → is_last k ns ≡ false
+is_last-under : (k : ℕ) (ns : List ℕ) → AllUnder k ns → is_last_number k ns ≡ false
 is_last-under k [] all = refl
 is_last-under k (x ∷ []) all = not_equal x k all.0
 is_last-under k (x ∷ y ∷ ns) all = is_last-later k x y ns ∙ is_last-under k (y ∷ ns) all.1
 
-noted_at : (b : Bool) (k : ℕ) (ns : List ℕ) → AllUnder k ns → noted k (ns ++ one_if b k) ≡ ns ++ k ∷ []
+noted_at : (b : Bool) (k : ℕ) (ns : List ℕ) → AllUnder k ns → numbers_with k (ns ++ one_if b k) ≡ ns ++ k ∷ []
 noted_at true k ns all = rw (is_last-append k ns) refl
 noted_at false k ns all = rw (append-nil ns, is_last-under k ns all) refl
 
@@ -154,7 +154,7 @@ has_last found x = list_any-append (same_found x) found (x ∷ []) ∙ at (has x
 has_other : (found : List Found) (x g : Found) → same_found g x ≡ false → has g (found ++ x ∷ []) ≡ has g found
 has_other found x g lacks = list_any-append (same_found g) found (x ∷ []) ∙ ap (λ b. has g found || (b || false)) lacks ∙ or-false (has g found)
 
-sets_noted : (done : Lists) (found : List Found) (x : Found) → sets_having x 0 (after done found x) ≡ noted (length done) (sets_having x 0 (before done found))
+sets_noted : (done : Lists) (found : List Found) (x : Found) → sets_having x 0 (after done found x) ≡ numbers_with (length done) (sets_having x 0 (before done found))
 sets_noted done found x =
     let k : 0 + length done ≡ length done = omega arith in
     let ns = sets_having x 0 done in
@@ -162,7 +162,7 @@ sets_noted done found x =
     sets_having-append x 0 done (found ++ x ∷ []) ∙ ap (λ b. ns ++ one_if b (0 + length done)) (has_last found x) ∙ ap (λ m. ns ++ m ∷ []) k in
     let old : sets_having x 0 (before done found) ≡ ns ++ one_if (has x found) (length done) =
     sets_having-append x 0 done found ∙ ap (λ m. ns ++ one_if (has x found) m) k in
-    new ∙ sym (noted_at (has x found) (length done) ns (having_under x 0 (length done) done k)) ∙ ap (noted (length done)) (sym old)
+    new ∙ sym (noted_at (has x found) (length done) ns (having_under x 0 (length done) done k)) ∙ ap (numbers_with (length done)) (sym old)
 
 sets_other : (done : Lists) (found : List Found) (x g : Found) → same_found g x ≡ false → sets_having g 0 (after done found x) ≡ sets_having g 0 (before done found)
 sets_other done found x g lacks =
@@ -191,14 +191,14 @@ others done found x (g ∷ es) lacks =
 
 present_at : (done : Lists) (found : List Found) (x g : Found) (es : List Found) (b : Bool) → same_found x g ≡ b → has g es ≡ false
     → (b ≡ false → with_found (length done) x (map (with_sets (before done found)) es) ≡ map (with_sets (after done found x)) es)
-    → cond b (record { found = g; sets = noted (length done) (sets_having g 0 (before done found)) } ∷ map (with_sets (before done found)) es)
+    → cond b (record { found = g; sets = numbers_with (length done) (sets_having g 0 (before done found)) } ∷ map (with_sets (before done found)) es)
     (with_sets (before done found) g ∷ with_found (length done) x (map (with_sets (before done found)) es))
     ≡ with_sets (after done found x) g ∷ map (with_sets (after done found x)) es
 present_at done found x g es true is apart rest =
     let equal : x ≡ g = same_equal x g is in
     let lacks : has x es ≡ false = subst (λ (z : Found). has z es ≡ false) (sym equal) apart in
-    let sets : sets_having g 0 (after done found x) ≡ noted (length done) (sets_having g 0 (before done found)) =
-    subst (λ (z : Found). sets_having z 0 (after done found x) ≡ noted (length done) (sets_having z 0 (before done found))) equal (sets_noted done found x) in
+    let sets : sets_having g 0 (after done found x) ≡ numbers_with (length done) (sets_having g 0 (before done found)) =
+    subst (λ (z : Found). sets_having z 0 (after done found x) ≡ numbers_with (length done) (sets_having z 0 (before done found))) equal (sets_noted done found x) in
     let first = with_equal (after done found x) g _ sets in
     ap (λ p. p ∷ map (with_sets (before done found)) es) (sym first) ∙ ap (λ ps. with_sets (after done found x) g ∷ ps) (sym (others done found x es lacks))
 present_at done found x g es false is apart rest =
@@ -227,7 +227,7 @@ either : (done : Lists) (found : List Found) (x : Found) (es : List Found) (b : 
     → with_found (length done) x (map (with_sets (before done found)) es) ≡ map (with_sets (after done found x)) (cond b es (es ++ x ∷ []))
 either done found x es true is apart none = present done found x es is apart
 either done found x es false is apart none =
-    let sets : sets_having x 0 (after done found x) ≡ length done ∷ [] = sets_noted done found x ∙ ap (noted (length done)) (none is) in
+    let sets : sets_having x 0 (after done found x) ≡ length done ∷ [] = sets_noted done found x ∙ ap (numbers_with (length done)) (none is) in
     let last = with_equal (after done found x) x (length done ∷ []) sets in
     absent (length done) (before done found) x es is
     ∙ ap (λ ps. ps ++ record { found = x; sets = length done ∷ [] } ∷ []) (sym (others done found x es is))
@@ -235,7 +235,7 @@ either done found x es false is apart none =
     ∙ sym (map-append (with_sets (after done found x)) es (x ∷ []))
 
 -- one more in the last set
-merged_one : (done : Lists) (found : List Found) (x : Found) → with_found (length done) x (merged (before done found)) ≡ merged (after done found x)
+merged_one : (done : Lists) (found : List Found) (x : Found) → with_found (length done) x (merged_faults (before done found)) ≡ merged_faults (after done found x)
 merged_one done found x =
     let es = each_once [] (all_found (before done found)) in
     let none : has x es ≡ false → sets_having x 0 (before done found) ≡ [] =
@@ -245,20 +245,20 @@ merged_one done found x =
     either done found x es (has x es) refl (apart-each_once [] (all_found (before done found)) tt) none
     ∙ ap (map (with_sets (after done found x))) (sym (ap (each_once []) list ∙ each_once-append [] (all_found (before done found)) x))
 
-merged_more : (done : Lists) (found fs : List Found) → with_each (length done) fs (merged (before done found)) ≡ merged (done ++ (found ++ fs) ∷ [])
-merged_more done found [] = ap (λ l. merged (done ++ l ∷ [])) (sym (append-nil found))
+merged_more : (done : Lists) (found fs : List Found) → with_each (length done) fs (merged_faults (before done found)) ≡ merged_faults (done ++ (found ++ fs) ∷ [])
+merged_more done found [] = ap (λ l. merged_faults (done ++ l ∷ [])) (sym (append-nil found))
 merged_more done found (f ∷ fs) =
-    ap (with_each (length done) fs) (merged_one done found f) ∙ merged_more done (found ++ f ∷ []) fs ∙ ap (λ l. merged (done ++ l ∷ [])) (append_assoc found (f ∷ []) fs)
+    ap (with_each (length done) fs) (merged_one done found f) ∙ merged_more done (found ++ f ∷ []) fs ∙ ap (λ l. merged_faults (done ++ l ∷ [])) (append_assoc found (f ∷ []) fs)
 
 map_same : (lists more : Lists) (es : List Found) → ((f : Found) → sets_having f 0 lists ≡ sets_having f 0 more) → map (with_sets lists) es ≡ map (with_sets more) es
 map_same lists more [] h = refl
 map_same lists more (f ∷ es) h = ap (λ p. p ∷ map (with_sets lists) es) (with_equal lists f _ (h f)) ∙ ap (λ ps. with_sets more f ∷ ps) (map_same lists more es h)
 
-merged_none : (done : Lists) → merged (before done []) ≡ merged done
+merged_none : (done : Lists) → merged_faults (before done []) ≡ merged_faults done
 merged_none done =
     ap (λ fs. map (with_sets (before done [])) (each_once [] fs)) (all_found-append done [] ∙ append-nil (all_found done))
     ∙ map_same (before done []) done (each_once [] (all_found done)) (λ f. sets_having-append f 0 done [] ∙ append-nil (sets_having f 0 done))
 
 -- one more set
-pub merged_set : (done : Lists) (fs : List Found) → with_each (length done) fs (merged done) ≡ merged (done ++ fs ∷ [])
+pub merged_set : (done : Lists) (fs : List Found) → with_each (length done) fs (merged_faults done) ≡ merged_faults (done ++ fs ∷ [])
 merged_set done fs = ap (with_each (length done) fs) (sym (merged_none done)) ∙ merged_more done [] fs

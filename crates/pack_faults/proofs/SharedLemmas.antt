@@ -25,7 +25,7 @@ use Rattle.pack_faults.specs.declared.shared.PnameSet.{PnameSet}
 use Rattle.pack_faults.specs.declared.sets.SetRef.{SetRef}
 use Rattle.pack_faults.specs.Sets.{is_empty, pnames_after, pnames_along, processors_of, set_at, sets_at}
 use Rattle.pack_faults.specs.Equal.{same_set}
-use Rattle.pack_faults.specs.Shared.{is_bare, trimmed, levels_above, IsSetOf, IsThere, IsNumbered, pname_view, AreSetsOf, AreShared, set_ref, IsFound, Grown}
+use Rattle.pack_faults.specs.Shared.{is_bare, trimmed, levels_above, IsSetOf, IsThere, IsKnownSetOf, pname_view, AreSetsOf, AreShared, set_ref, HasNumberOfSet, Grown}
 use Rattle.pack_faults.specs.Views.{set_view}
 use Rattle.pack_faults.proofs.EqualLemmas.{set_equal}
 
@@ -122,14 +122,14 @@ set_of_same ls ms pname set p q s = record {
 }
 
 numbered_of_same : (known : List KnownSet) (ls ms : List LevelAt) (pname : Option (List ℕ)) (n : ℕ) → candidates pname 0 ls ≡ candidates pname 0 ms → deepest [] ls ≡ deepest [] ms
-    → IsNumbered known ls pname n → IsNumbered known ms pname n
+    → IsKnownSetOf known ls pname n → IsKnownSetOf known ms pname n
 numbered_of_same known ls ms pname n p q s = record { one = s.one; there = s.there; is = set_of_same ls ms pname s.one.set p q s.is }
 
 pub to_trimmed : (r : Request) (known : List KnownSet) (ls : List LevelAt) (sets : List PnameSet) → AreSetsOf r known ls sets → AreSetsOf r known (trimmed ls) sets
 to_trimmed r known ls sets are = record {
   pnames = are.pnames ∙ ap (processors_of r.pname) (sym (pnames_trimmed [] ls));
   each =
-      All-weaker (λ (m : PnameSet). IsNumbered known ls (pname_view m) m.number) (λ (m : PnameSet). IsNumbered known (trimmed ls) (pname_view m) m.number)
+      All-weaker (λ (m : PnameSet). IsKnownSetOf known ls (pname_view m) m.number) (λ (m : PnameSet). IsKnownSetOf known (trimmed ls) (pname_view m) m.number)
       (λ m is. numbered_of_same known ls (trimmed ls) (pname_view m) m.number (sym (candidates_trimmed (pname_view m) 0 ls)) (sym (deepest_trimmed [] ls)) is) sets are.each;
 }
 
@@ -137,7 +137,7 @@ pub from_trimmed : (r : Request) (known : List KnownSet) (ls : List LevelAt) (se
 from_trimmed r known ls sets are = record {
   pnames = are.pnames ∙ ap (processors_of r.pname) (pnames_trimmed [] ls);
   each =
-      All-weaker (λ (m : PnameSet). IsNumbered known (trimmed ls) (pname_view m) m.number) (λ (m : PnameSet). IsNumbered known ls (pname_view m) m.number)
+      All-weaker (λ (m : PnameSet). IsKnownSetOf known (trimmed ls) (pname_view m) m.number) (λ (m : PnameSet). IsKnownSetOf known ls (pname_view m) m.number)
       (λ m is. numbered_of_same known (trimmed ls) ls (pname_view m) m.number (candidates_trimmed (pname_view m) 0 ls) (deepest_trimmed [] ls) is) sets are.each;
 }
 
@@ -161,22 +161,22 @@ get_last (z ∷ xs) y = get_last xs y
 pub grown_push : (known : List KnownSet) (k : KnownSet) → Grown known (known ++ k ∷ [])
 grown_push known k = λ n x there. get_pushed known k n x there
 
-numbered_grown : (old new : List KnownSet) (ls : List LevelAt) (pname : Option (List ℕ)) (n : ℕ) → Grown old new → IsNumbered old ls pname n → IsNumbered new ls pname n
+numbered_grown : (old new : List KnownSet) (ls : List LevelAt) (pname : Option (List ℕ)) (n : ℕ) → Grown old new → IsKnownSetOf old ls pname n → IsKnownSetOf new ls pname n
 numbered_grown old new ls pname n grown s = record { one = s.one; there = grown n s.one s.there; is = s.is }
 
 pub each_grown : (old new : List KnownSet) (ls : List LevelAt) (sets : List PnameSet) → Grown old new
-    → All (λ (m : PnameSet). IsNumbered old ls (pname_view m) m.number) sets → All (λ (m : PnameSet). IsNumbered new ls (pname_view m) m.number) sets
+    → All (λ (m : PnameSet). IsKnownSetOf old ls (pname_view m) m.number) sets → All (λ (m : PnameSet). IsKnownSetOf new ls (pname_view m) m.number) sets
 each_grown old new ls sets grown all =
-    All-weaker (λ (m : PnameSet). IsNumbered old ls (pname_view m) m.number) (λ (m : PnameSet). IsNumbered new ls (pname_view m) m.number)
+    All-weaker (λ (m : PnameSet). IsKnownSetOf old ls (pname_view m) m.number) (λ (m : PnameSet). IsKnownSetOf new ls (pname_view m) m.number)
     (λ m is. numbered_grown old new ls (pname_view m) m.number grown is) sets all
 
 pub shared_grown : (r : Request) (old new : List KnownSet) (ls : List LevelAt) (shared : Option (List PnameSet)) → Grown old new → AreShared r old ls shared → AreShared r new ls shared
 shared_grown r old new ls None grown are = tt
 shared_grown r old new ls (Some sets) grown are = record { pnames = are.pnames; each = each_grown old new ls sets grown are.each }
 
-pub found_grown : (pack : Pack) (old new : List KnownSet) (sets : List SetRef) → Grown old new → All (IsFound pack old) sets → All (IsFound pack new) sets
+pub found_grown : (pack : Pack) (old new : List KnownSet) (sets : List SetRef) → Grown old new → All (HasNumberOfSet pack old) sets → All (HasNumberOfSet pack new) sets
 found_grown pack old new sets grown all =
-    All-weaker (IsFound pack old) (IsFound pack new) (λ s is. numbered_grown old new _ _ s.number grown is) sets all
+    All-weaker (HasNumberOfSet pack old) (HasNumberOfSet pack new) (λ s is. numbered_grown old new _ _ s.number grown is) sets all
 
 -- an equal set stands among the known ones
 drop_get : {A : Type 0} (xs : List A) (m i : ℕ) (x : A) → slice_get (drop m xs) i ≡ Some x → slice_get xs (m + i) ≡ Some x
@@ -222,10 +222,10 @@ pushed_sets pack r known place variant each old new are e =
 
 pub pushed_found : (pack : Pack) (r : Request) (known : List KnownSet) (place : code.DevicePlace) (variant : Option (Bor Variant)) (each : List PnameSet) (old new : List SetRef)
     → AreSetsOf r known (path_of pack (place_view place) (option_map (λ v. v.now) variant)) each → new ≡ old ++ map (set_ref place variant) each
-    → All (IsFound pack known) old → All (IsFound pack known) new
+    → All (HasNumberOfSet pack known) old → All (HasNumberOfSet pack known) new
 pushed_found pack r known place variant each old new are e all =
-    subst (λ (ss : List SetRef). All (IsFound pack known) ss) (sym e)
-    (All-append (IsFound pack known) old (map (set_ref place variant) each) all (All-map (IsFound pack known) (set_ref place variant) each are.each))
+    subst (λ (ss : List SetRef). All (HasNumberOfSet pack known) ss) (sym e)
+    (All-append (HasNumberOfSet pack known) old (map (set_ref place variant) each) all (All-map (HasNumberOfSet pack known) (set_ref place variant) each are.each))
 
 -- ---- as the code has it
 
@@ -234,7 +234,7 @@ if_ok P Q (Ok x) f h = f x h
 if_ok P Q (Err e) f h = tt
 
 pub numbered_there : (pack : Pack) (place : DevicePlace) (variant : Option Variant) (pname : Option (List ℕ)) (set : SeqSet) (known : List KnownSet) (n : ℕ)
-    → IsSetAlong pack place variant pname set → IsThere set known n → IsNumbered known (path_of pack place variant) pname n
+    → IsSetAlong pack place variant pname set → IsThere set known n → IsKnownSetOf known (path_of pack place variant) pname n
 numbered_there pack place variant pname set known n along at = record {
   one = at.one;
   there = at.there;
@@ -254,10 +254,10 @@ grown_new old new k e = subst (λ (ks : List KnownSet). Grown old ks) (sym e) (g
 
 -- one more processor
 pub each_more : (old new : List KnownSet) (path : List LevelAt) (sets : List PnameSet) (m : PnameSet) → Grown old new
-    → All (λ (x : PnameSet). IsNumbered old path (pname_view x) x.number) sets → IsNumbered new path (pname_view m) m.number
-    → All (λ (x : PnameSet). IsNumbered new path (pname_view x) x.number) (sets ++ m ∷ [])
+    → All (λ (x : PnameSet). IsKnownSetOf old path (pname_view x) x.number) sets → IsKnownSetOf new path (pname_view m) m.number
+    → All (λ (x : PnameSet). IsKnownSetOf new path (pname_view x) x.number) (sets ++ m ∷ [])
 each_more old new path sets m grown all is =
-    All-push (λ (x : PnameSet). IsNumbered new path (pname_view x) x.number) sets m (each_grown old new path sets grown all) is
+    All-push (λ (x : PnameSet). IsKnownSetOf new path (pname_view x) x.number) sets m (each_grown old new path sets grown all) is
 
 pub map_taken : {A B : Type 0} (f : A → B) (xs : List A) (i : ℕ) (x : A) → i < length xs → x ≡ get_or xs i x → map f (take (i + 1) xs) ≡ map f (take i xs) ++ f x ∷ []
 map_taken f [] i x lt is = absurd (omega arith)

@@ -15,7 +15,7 @@ use Rattle.pack_faults.specs.declared.request.Request.{Request}
 use Rattle.pack_faults.specs.declared.answer.Found.{Found}
 use Rattle.pack_faults.specs.declared.answer.PackFaults.{PackFaults}
 use Rattle.pack_faults.specs.Sets.{SetAt, sets_of, devices_of, has_set, set_name}
-use Rattle.pack_faults.specs.Merged.{merged}
+use Rattle.pack_faults.specs.Merged.{merged_faults}
 
 -- a fault of a set, with its line
 abbrev pub found_in : SeqSet → Fault → Found
@@ -27,7 +27,7 @@ pub record Checked : Type 0 where
   pub found : List Found
 
 -- the set of this device, variant and processor has all these faults, in this order, and no others
-pub record IsChecked (pack : Pack) (s : SetAt) (c : Checked) : Type 0 where
+pub record IsCheckOfSet (pack : Pack) (s : SetAt) (c : Checked) : Type 0 where
   pub set : SeqSet
   pub is_set : IsSetAlong pack s.place s.variant s.pname set
   pub faults : SetFaults
@@ -37,7 +37,7 @@ pub record IsChecked (pack : Pack) (s : SetAt) (c : Checked) : Type 0 where
 -- each of the sets, in order
 abbrev pub AreChecked : Pack → List SetAt → List Checked → Type 0
 AreChecked pack [] checked = checked ≡ []
-AreChecked pack (s ∷ ss) checked = (c : Checked) × (more : List Checked) × IsChecked pack s c × (checked ≡ c ∷ more) × AreChecked pack ss more
+AreChecked pack (s ∷ ss) checked = (c : Checked) × (more : List Checked) × IsCheckOfSet pack s c × (checked ≡ c ∷ more) × AreChecked pack ss more
 
 -- a text could not be read, so that names, arguments and calls were not checked
 abbrev pub is_unread : Phase → Bool
@@ -59,7 +59,7 @@ pub record ArePackFaults (pack : Pack) (r : Request) (answer : PackFaults) : Typ
   pub are : AreChecked pack (sets_of pack r) checked
   pub devices : answer.devices ≡ count_by (has_set pack r) (devices_of pack r)
   pub sets : answer.sets ≡ map set_name (sets_of pack r)
-  pub faults : answer.faults ≡ merged (map (λ c. c.found) checked)
+  pub faults : answer.faults ≡ merged_faults (map (λ c. c.found) checked)
   pub unread : answer.unread ≡ count_by (λ c. is_unread c.phase) checked
   pub unreached : answer.unreached ≡ count_by (λ c. is_unfinished c.phase) checked
 

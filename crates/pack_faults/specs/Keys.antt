@@ -10,7 +10,7 @@ use Rattle.pack_faults.specs.declared.answer.PackFault.{PackFault}
 use Rattle.pack_faults.specs.declared.keys.FoundKey.{FoundKey}
 use Rattle.pack_faults.specs.contracts.keys.FoundKeyOrd.TheImpl as key_ord
 use Rattle.set_lines.specs.Parts.{part_number}
-use Rattle.pack_faults.specs.Steps.{noted}
+use Rattle.pack_faults.specs.Steps.{numbers_with}
 
 -- what distinguishes faults
 pub record KeyView : Type 0 where
@@ -56,15 +56,15 @@ abbrev pub key_cmp : FoundKey → FoundKey → Ordering
 key_cmp = (key_ord.ghosts).cmp
 
 -- the place of the first that is so
-abbrev pub place_in : KeyView → List PackFault → Option ℕ
-place_in v [] = None
-place_in v (p ∷ ps) = if same_view v (found_view p.found) then Some 0 else option_map (λ i. suc i) (place_in v ps)
+abbrev pub place_in_faults : KeyView → List PackFault → Option ℕ
+place_in_faults v [] = None
+place_in_faults v (p ∷ ps) = if same_view v (found_view p.found) then Some 0 else option_map (λ i. suc i) (place_in_faults v ps)
 
 -- the map has the place of each
-abbrev pub Knows : BTreeMap FoundKey ℕ → List PackFault → Type 0
-Knows places faults = (key : FoundKey) → get key_cmp places key ≡ place_in (key_view key) faults
+abbrev pub KnowsFaultPlaces : BTreeMap FoundKey ℕ → List PackFault → Type 0
+KnowsFaultPlaces places faults = (key : FoundKey) → get key_cmp places key ≡ place_in_faults (key_view key) faults
 
 -- the list with the number of a set noted at this place; `other` counts for nothing where the list has the place
-abbrev pub noted_at : ℕ → List PackFault → ℕ → PackFault → List PackFault
-noted_at number faults place other =
-    slice_set faults place (record { found = (slice_index_or faults place other).found; sets = noted number (slice_index_or faults place other).sets })
+abbrev pub fault_noted_at : ℕ → List PackFault → ℕ → PackFault → List PackFault
+fault_noted_at number faults place other =
+    slice_set faults place (record { found = (slice_index_or faults place other).found; sets = numbers_with number (slice_index_or faults place other).sets })

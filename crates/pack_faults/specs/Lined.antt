@@ -6,7 +6,7 @@ use Rattle.pack_faults.specs.declared.known.KnownSet.{KnownSet}
 use Rattle.pack_faults.specs.declared.lined.LinedFault.{LinedFault}
 use Rattle.pack_faults.specs.declared.lined.LinedSet.{LinedSet}
 use Rattle.pack_faults.specs.declared.sets.SetRef.{SetRef}
-use Rattle.pack_faults.specs.Answers.{found_in, Checked, IsChecked}
+use Rattle.pack_faults.specs.Answers.{found_in, Checked, IsCheckOfSet}
 use Rattle.pack_faults.specs.Views.{set_view}
 
 -- a fault and its line
@@ -25,4 +25,4 @@ checked_of k = record { phase = k.found.phase; found = map (found_in k.set) k.fo
 pub record IsCheckedAt (pack : Pack) (found : List LinedSet) (s : SetRef) : Type 0 where
   pub one : LinedSet
   pub there : slice_get found s.number ≡ Some one
-  pub is : IsChecked pack (set_view s) (checked_view one)
+  pub is : IsCheckOfSet pack (set_view s) (checked_view one)

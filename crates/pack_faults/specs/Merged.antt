@@ -42,5 +42,5 @@ abbrev pub with_sets : List (List Found) → Found → PackFault
 with_sets lists f = record { found = f; sets = sets_having f 0 lists }
 
 -- all that is found in sets, each once, in the order of first appearance, with the sets that have it
-abbrev pub merged : List (List Found) → List PackFault
-merged lists = map (with_sets lists) (each_once [] (all_found lists))
+abbrev pub merged_faults : List (List Found) → List PackFault
+merged_faults lists = map (with_sets lists) (each_once [] (all_found lists))

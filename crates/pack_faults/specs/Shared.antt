@@ -59,7 +59,7 @@ pub record IsThere (set : SeqSet) (known : List KnownSet) (number : ℕ) : Type 
   pub is : one.set ≡ set
 
 -- the known set with this number is that of these levels for this processor
-pub record IsNumbered (known : List KnownSet) (path : List LevelAt) (pname : Option (List ℕ)) (number : ℕ) : Type 0 where
+pub record IsKnownSetOf (known : List KnownSet) (path : List LevelAt) (pname : Option (List ℕ)) (number : ℕ) : Type 0 where
   pub one : KnownSet
   pub there : slice_get known number ≡ Some one
   pub is : IsSetOf path pname one.set
@@ -71,7 +71,7 @@ pname_view m = option_map (λ name. name.now) m.pname
 -- the requested processors of these levels, each with the number of its set
 pub record AreSetsOf (r : Request) (known : List KnownSet) (path : List LevelAt) (sets : List PnameSet) : Type 0 where
   pub pnames : map pname_view sets ≡ processors_of r.pname (pnames_along [] path)
-  pub each : All (λ m. IsNumbered known path (pname_view m) m.number) sets
+  pub each : All (λ m. IsKnownSetOf known path (pname_view m) m.number) sets
 
 -- the same, where there are some
 abbrev pub AreShared : Request → List KnownSet → List LevelAt → Option (List PnameSet) → Type 0
@@ -85,8 +85,8 @@ abbrev pub set_ref : code.DevicePlace → Option (Bor Variant) → PnameSet → 
 set_ref place variant m = record { place = place; variant = variant; pname = m.pname; number = m.number }
 
 -- its number is that of its set
-abbrev pub IsFound : Pack → List KnownSet → SetRef → Type 0
-IsFound pack known s = IsNumbered known (path_of pack (set_view s).place (set_view s).variant) (set_view s).pname s.number
+abbrev pub HasNumberOfSet : Pack → List KnownSet → SetRef → Type 0
+HasNumberOfSet pack known s = IsKnownSetOf known (path_of pack (set_view s).place (set_view s).variant) (set_view s).pname s.number
 
 -- the known sets keep their numbers
 abbrev pub Grown : List KnownSet → List KnownSet → Type 0
@@ -96,10 +96,10 @@ Grown old new = (number : ℕ) (k : KnownSet) → slice_get old number ≡ Some 
 pub record AreFine (pack : Pack) (f : DeviceSets) : Type 0 where
   pub few : f.devices ≤ length f.sets
   pub known : All IsKnown f.known
-  pub found : All (IsFound pack f.known) f.sets
+  pub found : All (HasNumberOfSet pack f.known) f.sets
 
 -- the same, with the sets that are shared along these levels
-pub record IsReady (pack : Pack) (r : Request) (levels : List LevelAt) (shared : Option (List PnameSet)) (f : DeviceSets) : Type 0 where
+pub record IsFineWithShared (pack : Pack) (r : Request) (levels : List LevelAt) (shared : Option (List PnameSet)) (f : DeviceSets) : Type 0 where
   pub fine : AreFine pack f
   pub along : AreShared r f.known (trimmed levels) shared
 
@@ -109,10 +109,10 @@ pub record AreAdded (pack : Pack) (r : Request) (levels : List LevelAt) (added :
   pub sets : map set_view new.sets ≡ map set_view old.sets ++ added
   pub devices : new.devices ≡ old.devices
   pub grown : Grown old.known new.known
-  pub ready : IsReady pack r levels shared new
+  pub ready : IsFineWithShared pack r levels shared new
 
 -- the sets of these devices were added, and those of them that have one were counted
-pub record AreCounted (pack : Pack) (r : Request) (places : List DevicePlace) (old new : DeviceSets) : Type 0 where
+pub record DevicesAreCounted (pack : Pack) (r : Request) (places : List DevicePlace) (old new : DeviceSets) : Type 0 where
   pub sets : map set_view new.sets ≡ map set_view old.sets ++ devices_sets pack r places
   pub devices : new.devices ≡ old.devices + count_by (has_set pack r) places
   pub fine : AreFine pack new

@@ -6,21 +6,21 @@ use Rattle.pack_faults.specs.declared.answer.Found.{Found}
 use Rattle.pack_faults.specs.declared.answer.PackFault.{PackFault}
 use Rattle.pack_faults.specs.declared.checking.Checking.{Checking}
 use Rattle.pack_faults.specs.Sets.{SetAt}
-use Rattle.pack_faults.specs.Merged.{same_found, merged}
+use Rattle.pack_faults.specs.Merged.{same_found, merged_faults}
 use Rattle.pack_faults.specs.Answers.{Checked, AreChecked}
 
 -- whether this number is the last
-abbrev pub is_last : ℕ → List ℕ → Bool
-is_last number numbers = option_map_or (λ last. last == number) (slice_get numbers (length numbers - 1)) false
+abbrev pub is_last_number : ℕ → List ℕ → Bool
+is_last_number number numbers = option_map_or (λ last. last == number) (slice_get numbers (length numbers - 1)) false
 
 -- the numbers, and this one after them unless it is the last
-abbrev pub noted : ℕ → List ℕ → List ℕ
-noted number numbers = if is_last number numbers then numbers else numbers ++ number ∷ []
+abbrev pub numbers_with : ℕ → List ℕ → List ℕ
+numbers_with number numbers = if is_last_number number numbers then numbers else numbers ++ number ∷ []
 
 -- what was found, and this one of the set with this number
 abbrev pub with_found : ℕ → Found → List PackFault → List PackFault
 with_found number f [] = record { found = f; sets = number ∷ [] } ∷ []
-with_found number f (p ∷ ps) = if same_found f p.found then record { found = p.found; sets = noted number p.sets } ∷ ps else p ∷ with_found number f ps
+with_found number f (p ∷ ps) = if same_found f p.found then record { found = p.found; sets = numbers_with number p.sets } ∷ ps else p ∷ with_found number f ps
 
 -- what was found, and each of these faults of the set with this number
 abbrev pub with_each : ℕ → List Found → List PackFault → List PackFault
@@ -32,4 +32,4 @@ pub record AreDone (pack : Pack) (sets : List SetAt) (c : Checking) : Type 0 whe
   pub checked : List Checked
   pub are : AreChecked pack sets checked
   pub phases : c.phases ≡ map (λ x. x.phase) checked
-  pub faults : c.faults.list.items ≡ merged (map (λ x. x.found) checked)
+  pub faults : c.faults.list.items ≡ merged_faults (map (λ x. x.found) checked)

@@ -2,11 +2,11 @@
 ghost use Rattle.std.specs.Prelude.{◌≡◌, ◌<◌, ◌∷◌, ◌++◌, [], List, IfOk, OnOk, map, length};
 ghost use Rattle.device_tree.specs.declared.pack.Pack.{Pack};
 ghost use Rattle.std.specs.List.{All};
-ghost use Rattle.pack_faults.specs.Answers.{IsChecked};
-ghost use Rattle.pack_faults.specs.Keys.{Knows};
+ghost use Rattle.pack_faults.specs.Answers.{IsCheckOfSet};
+ghost use Rattle.pack_faults.specs.Keys.{KnowsFaultPlaces};
 ghost use Rattle.pack_faults.specs.Known.{IsKnown};
 ghost use Rattle.pack_faults.specs.Lined.{checked_view, IsCheckedAt};
-ghost use Rattle.pack_faults.specs.Shared.{IsFound};
+ghost use Rattle.pack_faults.specs.Shared.{HasNumberOfSet};
 ghost use Rattle.pack_faults.specs.Sets.{SetAt};
 ghost use Rattle.pack_faults.specs.Views.{set_view};
 ghost use Rattle.pack_faults.specs.Steps.{AreDone};
@@ -32,10 +32,10 @@ fn note<'k>(
     found: &LinedSet<'k>,
     checking: &mut Checking<'k>,
 ) -> Result<(), OutOfMemory>
-    requires { Knows checking.old.faults.places checking.old.faults.list.items }
-    ensures ok { OnOk result ((pack : Pack) (sets : List SetAt) (s : SetAt) → IsChecked pack s (checked_view found.now)
+    requires { KnowsFaultPlaces checking.old.faults.places checking.old.faults.list.items }
+    ensures ok { OnOk result ((pack : Pack) (sets : List SetAt) (s : SetAt) → IsCheckOfSet pack s (checked_view found.now)
         → AreDone pack sets checking.old → AreDone pack (sets ++ s ∷ []) checking.new) }
-    ensures knows { OnOk result (Knows checking.new.faults.places checking.new.faults.list.items) }
+    ensures knows { OnOk result (KnowsFaultPlaces checking.new.faults.places checking.new.faults.list.items) }
 {
     let number = checking.phases.len();
     add_faults(alloc, found.faults.as_slice(), number, &mut checking.faults)?;
@@ -70,7 +70,7 @@ pub fn faults_of_sets<'k>(
 ) -> Result<Checking<'k>, OutOfMemory>
     requires known { All IsKnown known.now }
     requires within { All (λ s. s.number < length known.now) sets.now }
-    ensures { IfOk result (λ checking. (pack : Pack) → All (IsFound pack known.now) sets.now → AreDone pack (map set_view sets.now) checking) }
+    ensures { IfOk result (λ checking. (pack : Pack) → All (HasNumberOfSet pack known.now) sets.now → AreDone pack (map set_view sets.now) checking) }
 {
     let lined = lined_sets(alloc, known)?;
     faults_at(alloc, lined.as_slice(), sets)

@@ -4,9 +4,9 @@ ghost use Rattle.std.specs.Ordering.{is_eq};
 ghost use Rattle.std.specs.BTreeMap.{get};
 ghost use Rattle.pack_faults.specs.declared.answer.PackFault.{PackFault};
 ghost use Rattle.pack_faults.specs.declared.keys.FoundKey.{FoundKey};
-ghost use Rattle.pack_faults.specs.Keys.{key_cmp, key_view, found_view, noted_at, Knows};
+ghost use Rattle.pack_faults.specs.Keys.{key_cmp, key_view, found_view, fault_noted_at, KnowsFaultPlaces};
 ghost use Rattle.pack_faults.specs.Lined.{lined_view};
-ghost use Rattle.pack_faults.specs.Steps.{noted, with_found, with_each};
+ghost use Rattle.pack_faults.specs.Steps.{numbers_with, with_found, with_each};
 
 use crate::answer::{Found, PackFault};
 use crate::keys::{FoundKey, key_of};
@@ -30,7 +30,7 @@ impl<'k> Faults<'k> {
     /// No faults.
     pub fn new(alloc: Global) -> Faults<'k>
         ensures list { result.list.items ≡ [] }
-        ensures knows { Knows result.places result.list.items }
+        ensures knows { KnowsFaultPlaces result.places result.list.items }
     {
         Faults {
             list: Vec::new(alloc),
@@ -56,7 +56,7 @@ fn copy_fault(alloc: Global, fault: &Fault) -> Result<Fault, OutOfMemory>
 
 // Adds the number of a set unless it is the last.
 fn note(sets: &mut ItemList<usize>, number: usize) -> Result<(), OutOfMemory>
-    ensures { OnOk result (sets.new ≡ noted number sets.old) }
+    ensures { OnOk result (sets.new ≡ numbers_with number sets.old) }
 {
     match sets.as_slice().last() {
         Some(last) if *last == number => Ok(()),
@@ -67,7 +67,7 @@ fn note(sets: &mut ItemList<usize>, number: usize) -> Result<(), OutOfMemory>
 // Adds the number of a set at this place of the list.
 fn note_at(list: &mut Vec<PackFault>, place: usize, number: usize) -> Result<(), OutOfMemory>
     requires { place < length list.old.items }
-    ensures { OnOk result ((other : PackFault) → list.new.items ≡ noted_at number list.old.items place other) }
+    ensures { OnOk result ((other : PackFault) → list.new.items ≡ fault_noted_at number list.old.items place other) }
 {
     note(&mut list[place].sets, number)
 }
@@ -125,10 +125,10 @@ fn add_first<'k>(
 ) -> Result<(), OutOfMemory>
     requires key { key_view key ≡ found_view (record { fault = fault.now; line = option_map (λ w. w.now) line }) }
     requires first { get key_cmp faults.old.places key ≡ None }
-    requires knows { Knows faults.old.places faults.old.list.items }
+    requires knows { KnowsFaultPlaces faults.old.places faults.old.list.items }
     ensures list { OnOk result (faults.new.list.items
         ≡ with_found number (record { fault = fault.now; line = option_map (λ w. w.now) line.entry }) faults.old.list.items) }
-    ensures knows { OnOk result (Knows faults.new.places faults.new.list.items) }
+    ensures knows { OnOk result (KnowsFaultPlaces faults.new.places faults.new.list.items) }
 {
     let place = faults.list.len();
     note_place(&mut faults.places, key, place)?;
@@ -143,10 +143,10 @@ fn add_found<'k>(
     number: usize,
     faults: &mut Faults<'k>,
 ) -> Result<(), OutOfMemory>
-    requires { Knows faults.old.places faults.old.list.items }
+    requires { KnowsFaultPlaces faults.old.places faults.old.list.items }
     ensures list { OnOk result (faults.new.list.items
         ≡ with_found number (record { fault = fault.now; line = option_map (λ w. w.now) line.entry }) faults.old.list.items) }
-    ensures knows { OnOk result (Knows faults.new.places faults.new.list.items) }
+    ensures knows { OnOk result (KnowsFaultPlaces faults.new.places faults.new.list.items) }
 {
     let key = key_of(fault, line);
     match place_of(&faults.places, &key) {
@@ -162,9 +162,9 @@ pub fn add_faults<'k>(
     number: usize,
     faults: &mut Faults<'k>,
 ) -> Result<(), OutOfMemory>
-    requires { Knows faults.old.places faults.old.list.items }
+    requires { KnowsFaultPlaces faults.old.places faults.old.list.items }
     ensures list { OnOk result (faults.new.list.items ≡ with_each number (map lined_view found.now) faults.old.list.items) }
-    ensures knows { OnOk result (Knows faults.new.places faults.new.list.items) }
+    ensures knows { OnOk result (KnowsFaultPlaces faults.new.places faults.new.list.items) }
 {
     for one in found {
         add_found(alloc, one.fault, one.line, number, faults)?;

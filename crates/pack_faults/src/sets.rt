@@ -5,7 +5,7 @@ ghost use Rattle.sequence_resolve.specs.Levels.{LevelAt, path_of};
 ghost use Rattle.pack_faults.specs.declared.shared.PnameSet.{PnameSet};
 ghost use Rattle.sequence_resolve.specs.Views.{place_view};
 ghost use Rattle.pack_faults.specs.Sets.{is_requested, is_device, sets_at, sets_with, device_sets, devices_sets, has_set};
-ghost use Rattle.pack_faults.specs.Shared.{levels_above, places_in_group, set_ref, AreFine, IsReady, AreAdded, AreCounted};
+ghost use Rattle.pack_faults.specs.Shared.{levels_above, places_in_group, set_ref, AreFine, IsFineWithShared, AreAdded, DevicesAreCounted};
 ghost use Rattle.pack_faults.specs.Views.{set_view};
 
 use crate::devices::is_requested;
@@ -99,7 +99,7 @@ fn push_sets<'a>(
     shared: &mut Shared<'a>,
     found: &mut DeviceSets<'a>,
 ) -> Result<(), OutOfMemory>
-    requires { IsReady pack.now request.now (path_of pack.now (place_view place) (option_map (λ v. v.now) variant)) shared.old found.old }
+    requires { IsFineWithShared pack.now request.now (path_of pack.now (place_view place) (option_map (λ v. v.now) variant)) shared.old found.old }
     ensures { OnOk result (AreAdded pack.now request.now (path_of pack.now (place_view place.entry) (option_map (λ v. v.now) variant.entry))
         (sets_at pack.now request.now (place_view place.entry) (option_map (λ v. v.now) variant.entry)) found.old shared.new found.new) }
 {
@@ -120,7 +120,7 @@ fn push_variant<'a>(
     shared: &mut Shared<'a>,
     found: &mut DeviceSets<'a>,
 ) -> Result<(), OutOfMemory>
-    requires { IsReady pack.now request.now (path_of pack.now (place_view place) None) shared.old found.old }
+    requires { IsFineWithShared pack.now request.now (path_of pack.now (place_view place) None) shared.old found.old }
     ensures { OnOk result (AreAdded pack.now request.now (path_of pack.now (place_view place.entry) None)
         (sets_at pack.now request.now (place_view place.entry) (Some variant.now)) found.old shared.new found.new) }
 {
@@ -141,7 +141,7 @@ fn push_requested<'a>(
     shared: &mut Shared<'a>,
     found: &mut DeviceSets<'a>,
 ) -> Result<(), OutOfMemory>
-    requires { IsReady pack.now request.now (path_of pack.now (place_view place) None) shared.old found.old }
+    requires { IsFineWithShared pack.now request.now (path_of pack.now (place_view place) None) shared.old found.old }
     ensures { OnOk result (AreAdded pack.now request.now (path_of pack.now (place_view place.entry) None)
         (if is_requested request.now.variant variant.now.name then sets_at pack.now request.now (place_view place.entry) (Some variant.now) else [])
         found.old shared.new found.new) }
@@ -161,7 +161,7 @@ fn push_variants<'a>(
     shared: &mut Shared<'a>,
     found: &mut DeviceSets<'a>,
 ) -> Result<(), OutOfMemory>
-    requires { IsReady pack.now request.now (path_of pack.now (place_view place) None) shared.old found.old }
+    requires { IsFineWithShared pack.now request.now (path_of pack.now (place_view place) None) shared.old found.old }
     ensures { OnOk result (AreAdded pack.now request.now (path_of pack.now (place_view place.entry) None) (sets_with pack.now request.now (place_view place.entry)
         (map (λ v. Some v) (filter (λ v. is_requested request.now.variant v.name) (place_view place.entry).device.variants))) found.old shared.new found.new) }
 {
@@ -181,7 +181,7 @@ fn push_every<'a>(
     found: &mut DeviceSets<'a>,
 ) -> Result<(), OutOfMemory>
     requires all { request.now.variant ≡ None }
-    requires ready { IsReady pack.now request.now (path_of pack.now (place_view place) None) shared.old found.old }
+    requires ready { IsFineWithShared pack.now request.now (path_of pack.now (place_view place) None) shared.old found.old }
     ensures { OnOk result (AreAdded pack.now request.now (path_of pack.now (place_view place.entry) None)
         (device_sets pack.now request.now (place_view place.entry)) found.old shared.new found.new) }
 {
@@ -198,7 +198,7 @@ fn push_device<'a>(
     shared: &mut Shared<'a>,
     found: &mut DeviceSets<'a>,
 ) -> Result<(), OutOfMemory>
-    requires { IsReady pack.now request.now (path_of pack.now (place_view place) None) shared.old found.old }
+    requires { IsFineWithShared pack.now request.now (path_of pack.now (place_view place) None) shared.old found.old }
     ensures { OnOk result (AreAdded pack.now request.now (path_of pack.now (place_view place.entry) None)
         (device_sets pack.now request.now (place_view place.entry)) found.old shared.new found.new) }
 {
@@ -217,7 +217,7 @@ fn push_own<'a>(
     found: &mut DeviceSets<'a>,
 ) -> Result<(), OutOfMemory>
     requires { AreFine pack.now found.old }
-    ensures { OnOk result ((levels : List LevelAt) (shared : Option (List PnameSet)) → IsReady pack.now request.now levels shared found.old
+    ensures { OnOk result ((levels : List LevelAt) (shared : Option (List PnameSet)) → IsFineWithShared pack.now request.now levels shared found.old
         → AreAdded pack.now request.now levels (device_sets pack.now request.now (place_view place.entry)) found.old shared found.new) }
 {
     let mut shared = None;
@@ -233,7 +233,7 @@ fn push_in_group<'a>(
     shared: &mut Shared<'a>,
     found: &mut DeviceSets<'a>,
 ) -> Result<(), OutOfMemory>
-    requires { IsReady pack.now request.now (levels_above pack.now (place_view place).family (place_view place).sub_family) shared.old found.old }
+    requires { IsFineWithShared pack.now request.now (levels_above pack.now (place_view place).family (place_view place).sub_family) shared.old found.old }
     ensures { OnOk result (AreAdded pack.now request.now (levels_above pack.now (place_view place.entry).family (place_view place.entry).sub_family)
         (device_sets pack.now request.now (place_view place.entry)) found.old shared.new found.new) }
 {
@@ -260,9 +260,9 @@ fn push_counted<'a>(
     shared: &mut Shared<'a>,
     found: &mut DeviceSets<'a>,
 ) -> Result<(), OutOfMemory>
-    requires { IsReady pack.now request.now (levels_above pack.now (place_view place).family (place_view place).sub_family) shared.old found.old }
-    ensures counted { OnOk result (AreCounted pack.now request.now (place_view place.entry ∷ []) found.old found.new) }
-    ensures ready { OnOk result (IsReady pack.now request.now
+    requires { IsFineWithShared pack.now request.now (levels_above pack.now (place_view place).family (place_view place).sub_family) shared.old found.old }
+    ensures counted { OnOk result (DevicesAreCounted pack.now request.now (place_view place.entry ∷ []) found.old found.new) }
+    ensures ready { OnOk result (IsFineWithShared pack.now request.now
         (levels_above pack.now (place_view place.entry).family (place_view place.entry).sub_family) shared.new found.new) }
 {
     let before = found.sets.len();
@@ -280,10 +280,10 @@ fn push_if_requested<'a>(
     shared: &mut Shared<'a>,
     found: &mut DeviceSets<'a>,
 ) -> Result<(), OutOfMemory>
-    requires { IsReady pack.now request.now (levels_above pack.now (place_view place).family (place_view place).sub_family) shared.old found.old }
-    ensures counted { OnOk result (AreCounted pack.now request.now
+    requires { IsFineWithShared pack.now request.now (levels_above pack.now (place_view place).family (place_view place).sub_family) shared.old found.old }
+    ensures counted { OnOk result (DevicesAreCounted pack.now request.now
         (if is_device request.now.device (place_view place.entry) then place_view place.entry ∷ [] else []) found.old found.new) }
-    ensures ready { OnOk result (IsReady pack.now request.now
+    ensures ready { OnOk result (IsFineWithShared pack.now request.now
         (levels_above pack.now (place_view place.entry).family (place_view place.entry).sub_family) shared.new found.new) }
 {
     if is_requested(name_of(&request.device), place.device.name.as_str()) {
@@ -301,7 +301,7 @@ fn push_group<'a>(
     found: &mut DeviceSets<'a>,
 ) -> Result<(), OutOfMemory>
     requires { AreFine pack.now found.old }
-    ensures { OnOk result (AreCounted pack.now request.now (filter (is_device request.now.device) (places_in_group group.now)) found.old found.new) }
+    ensures { OnOk result (DevicesAreCounted pack.now request.now (filter (is_device request.now.device) (places_in_group group.now)) found.old found.new) }
 {
     let mut shared = None;
     for device in group.devices {

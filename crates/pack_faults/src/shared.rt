@@ -6,7 +6,7 @@ ghost use Rattle.sequence_resolve.specs.Levels.{path_of};
 ghost use Rattle.sequence_resolve.specs.Resolving.{IsSetAlong};
 ghost use Rattle.sequence_resolve.specs.Views.{place_view};
 ghost use Rattle.pack_faults.specs.Known.{IsKnown};
-ghost use Rattle.pack_faults.specs.Shared.{is_bare, pname_view, IsThere, IsNumbered, AreSetsOf, Grown};
+ghost use Rattle.pack_faults.specs.Shared.{is_bare, pname_view, IsThere, IsKnownSetOf, AreSetsOf, Grown};
 ghost use Rattle.pack_faults.specs.Views.{options_view};
 
 use crate::known::{KnownSet, check_new, known_equal};
@@ -78,7 +78,7 @@ fn number_along(
     known: &mut ItemList<KnownSet>,
 ) -> Result<usize, OutOfMemory>
     requires { All IsKnown known.old }
-    ensures number { IfOk result (IsNumbered known.new (path_of pack.now (place_view place.now) (option_map (λ v. v.now) variant.entry))
+    ensures number { IfOk result (IsKnownSetOf known.new (path_of pack.now (place_view place.now) (option_map (λ v. v.now) variant.entry))
         (option_map (λ name. name.now) pname.entry)) }
     ensures known { OnOk result (All IsKnown known.new) }
     ensures grown { OnOk result (Grown known.old known.new) }
@@ -98,7 +98,7 @@ fn sets_for<'a>(
 ) -> Result<ItemList<PnameSet<'a>>, OutOfMemory>
     requires { All IsKnown known.old }
     ensures pnames { IfOk result (λ sets. map pname_view sets ≡ options_view pnames.now) }
-    ensures each { IfOk result (All (λ m. IsNumbered known.new (path_of pack.now (place_view place.now) (option_map (λ v. v.now) variant.entry))
+    ensures each { IfOk result (All (λ m. IsKnownSetOf known.new (path_of pack.now (place_view place.now) (option_map (λ v. v.now) variant.entry))
         (pname_view m) m.number)) }
     ensures known { OnOk result (All IsKnown known.new) }
     ensures grown { OnOk result (Grown known.old known.new) }

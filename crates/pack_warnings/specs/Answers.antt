@@ -10,11 +10,11 @@ use Rattle.pack_faults.specs.Sets.{SetAt, sets_of}
 use Rattle.set_lines.specs.Lines.{line_of}
 use Rattle.pack_warnings.specs.declared.answer.FoundWarning.{FoundWarning}
 use Rattle.pack_warnings.specs.declared.answer.PackWarning.{PackWarning}
-use Rattle.pack_warnings.specs.Merged.{merged}
+use Rattle.pack_warnings.specs.Merged.{merged_warnings}
 
 -- a warning of a set, with its line
-abbrev pub found_in : SeqSet → Warning → FoundWarning
-found_in set w = record { warning = w; line = line_of set w.spot }
+abbrev pub warning_found_in : SeqSet → Warning → FoundWarning
+warning_found_in set w = record { warning = w; line = line_of set w.spot }
 
 -- the set of this device, variant and processor has all these warnings, in this order, and no others
 pub record AreFound (pack : Pack) (s : SetAt) (found : List FoundWarning) : Type 0 where
@@ -22,7 +22,7 @@ pub record AreFound (pack : Pack) (s : SetAt) (found : List FoundWarning) : Type
   pub is_set : IsSetAlong pack s.place s.variant s.pname set
   pub warnings : List Warning
   pub are : AreSetWarnings set warnings
-  pub is : found ≡ map (found_in set) warnings
+  pub is : found ≡ map (warning_found_in set) warnings
 
 -- each of the sets, in order
 abbrev pub AreFoundIn : Pack → List SetAt → List (List FoundWarning) → Type 0
@@ -34,7 +34,7 @@ AreFoundIn pack (s ∷ ss) lists =
 pub record ArePackWarnings (pack : Pack) (r : Request) (warnings : List PackWarning) : Type 0 where
   pub lists : List (List FoundWarning)
   pub are : AreFoundIn pack (sets_of pack r) lists
-  pub is : warnings ≡ merged lists
+  pub is : warnings ≡ merged_warnings lists
 
 -- ---- what private contracts cite
 
@@ -42,4 +42,4 @@ pub record ArePackWarnings (pack : Pack) (r : Request) (warnings : List PackWarn
 pub record AreMerged (pack : Pack) (sets : List SetAt) (warnings : List PackWarning) : Type 0 where
   pub lists : List (List FoundWarning)
   pub are : AreFoundIn pack sets lists
-  pub is : warnings ≡ merged lists
+  pub is : warnings ≡ merged_warnings lists

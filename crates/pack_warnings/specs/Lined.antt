@@ -11,7 +11,7 @@ use Rattle.pack_warnings.specs.declared.answer.FoundWarning.{FoundWarning}
 use Rattle.pack_warnings.specs.declared.lined.WarnedSet.{WarnedSet}
 use Rattle.pack_warnings.specs.declared.lined.LinedWarning.{LinedWarning}
 use Rattle.pack_warnings.specs.declared.lined.LinedSet.{LinedSet}
-use Rattle.pack_warnings.specs.Answers.{found_in, AreFound}
+use Rattle.pack_warnings.specs.Answers.{warning_found_in, AreFound}
 
 -- the warnings are all warnings of the set, whose names are distinct
 pub record IsWarned (w : WarnedSet) : Type 0 where
@@ -20,15 +20,15 @@ pub record IsWarned (w : WarnedSet) : Type 0 where
 
 -- the warnings of the set, each with its line
 abbrev pub found_of : WarnedSet → List FoundWarning
-found_of w = map (found_in w.set.now) w.warnings
+found_of w = map (warning_found_in w.set.now) w.warnings
 
 -- a warning and its line
-abbrev pub lined_view : LinedWarning → FoundWarning
-lined_view l = record { warning = l.warning.now; line = option_map (λ w. w.now) l.line }
+abbrev pub lined_warning_view : LinedWarning → FoundWarning
+lined_warning_view l = record { warning = l.warning.now; line = option_map (λ w. w.now) l.line }
 
 -- warnings and their lines
-abbrev pub found_view : LinedSet → List FoundWarning
-found_view l = map lined_view l.warnings
+abbrev pub lined_set_view : LinedSet → List FoundWarning
+lined_set_view l = map lined_warning_view l.warnings
 
 -- a set stands at its number, with its warnings
 pub record IsWarnedAt (pack : Pack) (warned : List WarnedSet) (s : SetRef) : Type 0 where
@@ -40,4 +40,4 @@ pub record IsWarnedAt (pack : Pack) (warned : List WarnedSet) (s : SetRef) : Typ
 pub record IsFoundAt (pack : Pack) (found : List LinedSet) (s : SetRef) : Type 0 where
   pub one : LinedSet
   pub there : slice_get found s.number ≡ Some one
-  pub is : AreFound pack (set_view s) (found_view one)
+  pub is : AreFound pack (set_view s) (lined_set_view one)

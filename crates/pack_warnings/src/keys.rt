@@ -1,6 +1,6 @@
 //! What distinguishes warnings, as a key of a map.
 ghost use Rattle.std.specs.Prelude.{◌≡◌, option_map};
-ghost use Rattle.pack_warnings.specs.Keys.{key_view, found_view};
+ghost use Rattle.pack_warnings.specs.Keys.{warning_key_view, warning_found_view};
 ghost use Rattle.pack_warnings.specs.Merged.{kind_number};
 
 use set_lines::{name_of, part_number};
@@ -28,7 +28,7 @@ fn kind_number(kind: WarningKind) -> u8
 
 /// The key of a warning in this line.
 pub fn key_of<'k>(warning: &'k Warning, line: Option<&'k str>) -> WarningKey<'k>
-    ensures { key_view result ≡ found_view (record { warning = warning.now; line = option_map (λ w. w.now) line.entry }) }
+    ensures { warning_key_view result ≡ warning_found_view (record { warning = warning.now; line = option_map (λ w. w.now) line.entry }) }
 {
     WarningKey {
         kind: kind_number(warning.kind),

@@ -3,8 +3,8 @@ ghost use Rattle.std.specs.Prelude.{◌≡◌, IfOk, map};
 ghost use Rattle.std.specs.List.{All, IsDistinct};
 ghost use Rattle.std.specs.Str.{bytes_eq};
 ghost use Rattle.pack_faults.specs.Known.{IsKnown};
-ghost use Rattle.pack_warnings.specs.Answers.{found_in};
-ghost use Rattle.pack_warnings.specs.Lined.{IsWarned, found_of, lined_view, found_view};
+ghost use Rattle.pack_warnings.specs.Answers.{warning_found_in};
+ghost use Rattle.pack_warnings.specs.Lined.{IsWarned, found_of, lined_warning_view, lined_set_view};
 
 use dap_base::{ItemList, OutOfMemory};
 use pack_faults::KnownSet;
@@ -68,7 +68,7 @@ fn lined_warnings<'w>(
     warnings: &'w [Warning],
 ) -> Result<ItemList<LinedWarning<'w>>, OutOfMemory>
     requires { IsDistinct bytes_eq (map (λ e. e.name) set.now.entries) }
-    ensures { IfOk result (λ lined. map lined_view lined ≡ map (found_in set.now) warnings.now) }
+    ensures { IfOk result (λ lined. map lined_warning_view lined ≡ map (warning_found_in set.now) warnings.now) }
 {
     let mut lines = Lines::new(set);
     let mut lined = ItemList::new(alloc);
@@ -81,7 +81,7 @@ fn lined_warnings<'w>(
 
 fn lined_set<'w>(alloc: Global, warned: &'w WarnedSet) -> Result<LinedSet<'w>, OutOfMemory>
     requires { IsWarned warned.now }
-    ensures { IfOk result (λ lined. found_view lined ≡ found_of warned.now) }
+    ensures { IfOk result (λ lined. lined_set_view lined ≡ found_of warned.now) }
 {
     let warnings = lined_warnings(alloc, warned.set, warned.warnings.as_slice())?;
     Ok(LinedSet { warnings })
@@ -93,7 +93,7 @@ pub fn lined_sets<'w>(
     warned: &'w [WarnedSet],
 ) -> Result<ItemList<LinedSet<'w>>, OutOfMemory>
     requires { All IsWarned warned.now }
-    ensures { IfOk result (λ sets. map found_view sets ≡ map found_of warned.now) }
+    ensures { IfOk result (λ sets. map lined_set_view sets ≡ map found_of warned.now) }
 {
     let mut sets = ItemList::with_room(alloc, warned.len())?;
     for one in warned {

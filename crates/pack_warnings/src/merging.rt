@@ -2,12 +2,12 @@
 ghost use Rattle.std.specs.Prelude.{◌≡◌, ◌<◌, ◌∷◌, ◌++◌, [], None, Some, IfOk, OnOk, option_map, map, length, if◌then◌else◌};
 ghost use Rattle.std.specs.Ordering.{is_eq};
 ghost use Rattle.std.specs.BTreeMap.{get};
-ghost use Rattle.pack_faults.specs.Steps.{noted};
+ghost use Rattle.pack_faults.specs.Steps.{numbers_with};
 ghost use Rattle.pack_warnings.specs.declared.answer.PackWarning.{PackWarning};
 ghost use Rattle.pack_warnings.specs.declared.keys.WarningKey.{WarningKey};
-ghost use Rattle.pack_warnings.specs.Keys.{key_cmp, key_view, found_view, noted_at, Knows};
-ghost use Rattle.pack_warnings.specs.Lined.{lined_view};
-ghost use Rattle.pack_warnings.specs.Merged.{with_warning, with_each};
+ghost use Rattle.pack_warnings.specs.Keys.{warning_key_cmp, warning_key_view, warning_found_view, warning_noted_at, KnowsWarningPlaces};
+ghost use Rattle.pack_warnings.specs.Lined.{lined_warning_view};
+ghost use Rattle.pack_warnings.specs.Merged.{with_warning, with_each_warning};
 
 use crate::answer::{FoundWarning, PackWarning};
 use crate::keys::{WarningKey, key_of};
@@ -31,7 +31,7 @@ impl<'k> Warnings<'k> {
     /// No warnings.
     pub fn new(alloc: Global) -> Warnings<'k>
         ensures list { result.list.items ≡ [] }
-        ensures knows { Knows result.places result.list.items }
+        ensures knows { KnowsWarningPlaces result.places result.list.items }
     {
         Warnings {
             list: Vec::new(alloc),
@@ -58,7 +58,7 @@ fn copy_warning(alloc: Global, warning: &Warning) -> Result<Warning, OutOfMemory
 
 // Adds the number of a set unless it is the last.
 fn note(sets: &mut ItemList<usize>, number: usize) -> Result<(), OutOfMemory>
-    ensures { OnOk result (sets.new ≡ noted number sets.old) }
+    ensures { OnOk result (sets.new ≡ numbers_with number sets.old) }
 {
     match sets.as_slice().last() {
         Some(last) if *last == number => Ok(()),
@@ -69,13 +69,13 @@ fn note(sets: &mut ItemList<usize>, number: usize) -> Result<(), OutOfMemory>
 // Adds the number of a set at this place of the list.
 fn note_at(list: &mut Vec<PackWarning>, place: usize, number: usize) -> Result<(), OutOfMemory>
     requires { place < length list.old.items }
-    ensures { OnOk result ((other : PackWarning) → list.new.items ≡ noted_at number list.old.items place other) }
+    ensures { OnOk result ((other : PackWarning) → list.new.items ≡ warning_noted_at number list.old.items place other) }
 {
     note(&mut list[place].sets, number)
 }
 
 fn place_of<'k>(places: &BTreeMap<WarningKey<'k>, usize>, key: &WarningKey<'k>) -> Option<usize>
-    ensures { result ≡ get key_cmp places.now key.now }
+    ensures { result ≡ get warning_key_cmp places.now key.now }
 {
     places.get(key).copied()
 }
@@ -86,8 +86,8 @@ fn note_place<'k>(
     key: WarningKey<'k>,
     place: usize,
 ) -> Result<(), OutOfMemory>
-    ensures { OnOk result ((other : WarningKey) → get key_cmp places.new other
-        ≡ (if is_eq (key_cmp key.entry other) then Some place else get key_cmp places.old other)) }
+    ensures { OnOk result ((other : WarningKey) → get warning_key_cmp places.new other
+        ≡ (if is_eq (warning_key_cmp key.entry other) then Some place else get warning_key_cmp places.old other)) }
 {
     if places.insert(key, place).is_err() {
         return Err(OutOfMemory);
@@ -125,12 +125,12 @@ fn add_first<'k>(
     number: usize,
     warnings: &mut Warnings<'k>,
 ) -> Result<(), OutOfMemory>
-    requires key { key_view key ≡ found_view (record { warning = warning.now; line = option_map (λ w. w.now) line }) }
-    requires first { get key_cmp warnings.old.places key ≡ None }
-    requires knows { Knows warnings.old.places warnings.old.list.items }
+    requires key { warning_key_view key ≡ warning_found_view (record { warning = warning.now; line = option_map (λ w. w.now) line }) }
+    requires first { get warning_key_cmp warnings.old.places key ≡ None }
+    requires knows { KnowsWarningPlaces warnings.old.places warnings.old.list.items }
     ensures list { OnOk result (warnings.new.list.items
         ≡ with_warning number (record { warning = warning.now; line = option_map (λ w. w.now) line.entry }) warnings.old.list.items) }
-    ensures knows { OnOk result (Knows warnings.new.places warnings.new.list.items) }
+    ensures knows { OnOk result (KnowsWarningPlaces warnings.new.places warnings.new.list.items) }
 {
     let place = warnings.list.len();
     note_place(&mut warnings.places, key, place)?;
@@ -145,10 +145,10 @@ fn add_found<'k>(
     number: usize,
     warnings: &mut Warnings<'k>,
 ) -> Result<(), OutOfMemory>
-    requires { Knows warnings.old.places warnings.old.list.items }
+    requires { KnowsWarningPlaces warnings.old.places warnings.old.list.items }
     ensures list { OnOk result (warnings.new.list.items
         ≡ with_warning number (record { warning = warning.now; line = option_map (λ w. w.now) line.entry }) warnings.old.list.items) }
-    ensures knows { OnOk result (Knows warnings.new.places warnings.new.list.items) }
+    ensures knows { OnOk result (KnowsWarningPlaces warnings.new.places warnings.new.list.items) }
 {
     let key = key_of(warning, line);
     match place_of(&warnings.places, &key) {
@@ -164,9 +164,9 @@ pub fn add_warnings<'k>(
     number: usize,
     warnings: &mut Warnings<'k>,
 ) -> Result<(), OutOfMemory>
-    requires { Knows warnings.old.places warnings.old.list.items }
-    ensures list { OnOk result (warnings.new.list.items ≡ with_each number (map lined_view found.now) warnings.old.list.items) }
-    ensures knows { OnOk result (Knows warnings.new.places warnings.new.list.items) }
+    requires { KnowsWarningPlaces warnings.old.places warnings.old.list.items }
+    ensures list { OnOk result (warnings.new.list.items ≡ with_each_warning number (map lined_warning_view found.now) warnings.old.list.items) }
+    ensures knows { OnOk result (KnowsWarningPlaces warnings.new.places warnings.new.list.items) }
 {
     for one in found {
         add_found(alloc, one.warning, one.line, number, warnings)?;

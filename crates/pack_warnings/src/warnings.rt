@@ -5,7 +5,7 @@ ghost use Rattle.device_tree.specs.declared.pack.Pack.{Pack};
 ghost use Rattle.pack_faults.specs.declared.request.PackRefusal.TheVariants as refusals;
 ghost use Rattle.pack_faults.specs.Known.{IsKnown};
 ghost use Rattle.pack_faults.specs.Sets.{refusal};
-ghost use Rattle.pack_faults.specs.Shared.{IsFound};
+ghost use Rattle.pack_faults.specs.Shared.{HasNumberOfSet};
 ghost use Rattle.pack_faults.specs.Views.{set_view};
 ghost use Rattle.pack_warnings.specs.Answers.{ArePackWarnings, AreMerged};
 ghost use Rattle.pack_warnings.specs.Lined.{IsWarned, IsWarnedAt, IsFoundAt};
@@ -58,7 +58,7 @@ fn warnings_of_sets(
 ) -> Result<ItemList<PackWarning>, OutOfMemory>
     requires known { All IsKnown known.now }
     requires within { All (λ s. s.number < length known.now) sets.now }
-    ensures { IfOk result (λ list. (pack : Pack) → All (IsFound pack known.now) sets.now → AreMerged pack (map set_view sets.now) list) }
+    ensures { IfOk result (λ list. (pack : Pack) → All (HasNumberOfSet pack known.now) sets.now → AreMerged pack (map set_view sets.now) list) }
 {
     let warned = warned_sets(alloc, known)?;
     list_from(alloc, warned.as_slice(), sets)

@@ -26,8 +26,8 @@ use Rattle.flight_laws.proofs.SendLemmas.{action_sends}
 use Rattle.access_calls.specs.Standing.{WhereObservable}
 use Rattle.batch_packer.specs.Flying.{CanFly}
 use Rattle.packed_access.specs.Begun.{HasIssued, IsIssuing, most_weight}
-use Rattle.bench_flights.specs.Flown.{CanCommand, CanCount, HasDone}
-use Rattle.packed_access.specs.Actions.{entry_of, log_done}
+use Rattle.bench_flights.specs.Flown.{CanCommand, CanCount, HasDoneWhole}
+use Rattle.packed_access.specs.Actions.{entry_of_call, log_done}
 use Rattle.packed_access.specs.Logs.{LogState}
 use Rattle.packed_access.specs.Marks.{unmarked_append, unmarked_last}
 use Rattle.packed_access.proofs.CameLemmas.{HaveCome, have_come}
@@ -55,22 +55,22 @@ and_false : (b : Bool) → b ≡ false → (b && true) ≡ false
 and_false true h = cc
 and_false false h = refl
 
-module _ (p : Planner) (log : LogState) (calls : List Ask) (ask : Ask) (x : Action) (word : ℕ) (m0 m o : BenchState) (h : IsIssuing p log [] (entry_of calls x ∷ []) m0 m) (d : HasDone x word m o) (are : log.calls ≡ calls ++ ask ∷ []) (came : log.came ≡ length calls)
+module _ (p : Planner) (log : LogState) (calls : List Ask) (ask : Ask) (x : Action) (word : ℕ) (m0 m o : BenchState) (h : IsIssuing p log [] (entry_of_call calls x ∷ []) m0 m) (d : HasDoneWhole x word m o) (are : log.calls ≡ calls ++ ask ∷ []) (came : log.came ≡ length calls)
     (steps : length (issue_of p (target_by p (target_of m0.probe) calls) (kept_by p (target_of m0.probe) calls) ask).steps ≡ 1) (unmarked : ask.settled ≡ false) (mild : is_forgiving ask ≡ false)
     (large : small_now (start_world (target_of m0.probe) None) calls ask ≡ false) (light : weight (target_of m.probe) x ≤ most_weight) (long : length log.results ≡ length log.calls) (bounded : length log.entries < 2 ^ 32) where
   abbrev t0 : TargetState
   t0 = target_of m0.probe
 
   abbrev e : Entry
-  e = entry_of calls x
+  e = entry_of_call calls x
 
-  rest_is : IsSending p log.calls log.confirmed log.came [] (entry_of calls x ∷ []) [] (take log.known log.results) m0 m
-  rest_is = at_rest p log (entry_of calls x ∷ []) m0 m h
+  rest_is : IsSending p log.calls log.confirmed log.came [] (entry_of_call calls x ∷ []) [] (take log.known log.results) m0 m
+  rest_is = at_rest p log (entry_of_call calls x ∷ []) m0 m h
 
   here : log.confirmed ≡ length log.entries
-  here = at_rest_count p log (entry_of calls x ∷ []) m0 m h
+  here = at_rest_count p log (entry_of_call calls x ∷ []) m0 m h
 
-  unforgiven : is_unforgiven (target_of m.probe) (entry_of calls x) ≡ false
+  unforgiven : is_unforgiven (target_of m.probe) (entry_of_call calls x) ≡ false
   unforgiven = and_false (is_fault (acted (target_of m.probe) x).outcome) d.good
 
   counts : CanCount x m
@@ -80,7 +80,7 @@ module _ (p : Planner) (log : LogState) (calls : List Ask) (ask : Ask) (x : Acti
   work_there = (let f = h.few in let w = (d.does counts).work in omega (arith, f, w, light))
 
   sent : IsSending p log.calls (log.confirmed + 1) log.came [] [] [] (take log.known log.results) m0 o
-  sent = action_sends p log.calls log.confirmed log.came (entry_of calls x) [] (take log.known log.results) m0 m o rest_is (d.does counts) unforgiven (let w = work_there in omega (arith, w, bounded))
+  sent = action_sends p log.calls log.confirmed log.came (entry_of_call calls x) [] (take log.known log.results) m0 m o rest_is (d.does counts) unforgiven (let w = work_there in omega (arith, w, bounded))
 
   all_there : issued p t0 log.calls ≡ sent.made
   all_there = sent.on.are ∙ append-nil sent.made
@@ -122,8 +122,8 @@ module _ (p : Planner) (log : LogState) (calls : List Ask) (ask : Ask) (x : Acti
   stop_there : stop (start_world t0 None) (calls ++ ask ∷ []) ≡ None
   stop_there = subst (λ (l : List Ask). stop (start_world t0 None) l ≡ None) (first_all ∙ are) (come.none_stops.stops None tt)
 
-  seam : issued p t0 log.calls ≡ h.sending.made ++ entry_of calls x ∷ []
-  seam = h.sending.on.are ∙ ap (λ (l : List Entry). h.sending.made ++ (l ++ entry_of calls x ∷ [])) (none_flying h.flying h.sending.on.flight)
+  seam : issued p t0 log.calls ≡ h.sending.made ++ entry_of_call calls x ∷ []
+  seam = h.sending.on.are ∙ ap (λ (l : List Entry). h.sending.made ++ (l ++ entry_of_call calls x ∷ [])) (none_flying h.flying h.sending.on.flight)
 
   made_before : length h.sending.made ≡ length log.entries
   made_before = h.sending.confirmed_is ∙ here
@@ -139,7 +139,7 @@ module _ (p : Planner) (log : LogState) (calls : List Ask) (ask : Ask) (x : Acti
   last_is : get_or (results (start_world t0 None) log.calls) (length calls) 0 ≡ result_of ask.call word
   last_is =
       ap (λ (l : List Ask). slice_index (results (start_world t0 None) l) (length calls)) are
-      ∙ result_given p t0 calls ask [] h.sending.made (entry_of calls x) [] h.sending.fresh (subst AreAskable are h.sending.askable) stop_there mild large (ap (issued p t0) (sym are) ∙ seam) (let g = grown in let b = made_before in omega (arith, g, b))
+      ∙ result_given p t0 calls ask [] h.sending.made (entry_of_call calls x) [] h.sending.fresh (subst AreAskable are h.sending.askable) stop_there mild large (ap (issued p t0) (sym are) ∙ seam) (let g = grown in let b = made_before in omega (arith, g, b))
       ∙ ap (λ (t : TargetState). result_of ask.call (given (acted t x).outcome)) (sym h.sending.on.target)
       ∙ ap (result_of ask.call) (sym d.word_is)
 
@@ -162,20 +162,20 @@ module _ (p : Planner) (log : LogState) (calls : List Ask) (ask : Ask) (x : Acti
       omega (arith, e, z, k, b, a)
 
   entry_is : Issued
-  entry_is = kept_of (entry_of calls x)
+  entry_is = kept_of (entry_of_call calls x)
 
-  entries_now : log.entries ++ kept_of (entry_of calls x) ∷ [] ≡ map kept_of (take (length (log.entries ++ kept_of (entry_of calls x) ∷ [])) (issued p t0 log.calls))
+  entries_now : log.entries ++ kept_of (entry_of_call calls x) ∷ [] ≡ map kept_of (take (length (log.entries ++ kept_of (entry_of_call calls x) ∷ [])) (issued p t0 log.calls))
   entries_now =
-      let t = take_more h.sending.made (entry_of calls x) [] (issued p t0 log.calls) (length log.entries) seam made_before in
-      (λ j. (h.entries_are ∙ ap (map kept_of) t.0) j ++ kept_of (entry_of calls x) ∷ [])
-      ∙ sym (map-append kept_of h.sending.made (entry_of calls x ∷ []))
+      let t = take_more h.sending.made (entry_of_call calls x) [] (issued p t0 log.calls) (length log.entries) seam made_before in
+      (λ j. (h.entries_are ∙ ap (map kept_of) t.0) j ++ kept_of (entry_of_call calls x) ∷ [])
+      ∙ sym (map-append kept_of h.sending.made (entry_of_call calls x ∷ []))
       ∙ ap (map kept_of) (sym t.1)
-      ∙ ap (λ n. map kept_of (take n (issued p t0 log.calls))) (sym (length-append log.entries (kept_of (entry_of calls x) ∷ [])))
+      ∙ ap (λ n. map kept_of (take n (issued p t0 log.calls))) (sym (length-append log.entries (kept_of (entry_of_call calls x) ∷ [])))
 
-  more_entries : length (log.entries ++ kept_of (entry_of calls x) ∷ []) ≡ length log.entries + 1
-  more_entries = length-append log.entries (kept_of (entry_of calls x) ∷ [])
+  more_entries : length (log.entries ++ kept_of (entry_of_call calls x) ∷ []) ≡ length log.entries + 1
+  more_entries = length-append log.entries (kept_of (entry_of_call calls x) ∷ [])
 
-  pub action_came : IsIssuing p (log_done log (kept_of (entry_of calls x)) (length calls) (result_of ask.call word)) [] [] m0 o
+  pub action_came : IsIssuing p (log_done log (kept_of (entry_of_call calls x)) (length calls) (result_of ask.call word)) [] [] m0 o
   action_came = record {
     flying = [];
     sending = record {
@@ -211,18 +211,18 @@ where_flies None (Some o) call Q h = h
 where_flies (Some m) None call Q h = h
 where_flies (Some m) (Some o) call Q h = λ flies. h (inl flies)
 
-came_where : (p : Planner) (x y : Option BenchState) (log new : LogState) (calls : List Ask) (ask : Ask) (action : Action) (word : ℕ) (m0 : BenchState) → WhereObservable x (λ m. IsIssuing p log [] (entry_of calls action ∷ []) m0 m) → StepsTo (λ m o. CanFly m → HasDone action word m o) x y →
+came_where : (p : Planner) (x y : Option BenchState) (log new : LogState) (calls : List Ask) (ask : Ask) (action : Action) (word : ℕ) (m0 : BenchState) → WhereObservable x (λ m. IsIssuing p log [] (entry_of_call calls action ∷ []) m0 m) → StepsTo (λ m o. CanFly m → HasDoneWhole action word m o) x y →
     log.calls ≡ calls ++ ask ∷ [] → log.came ≡ length calls → length (issue_of p (target_by p (target_of m0.probe) calls) (kept_by p (target_of m0.probe) calls) ask).steps ≡ 1 → ask.settled ≡ false → is_forgiving ask ≡ false →
     small_now (start_world (target_of m0.probe) None) calls ask ≡ false → ((m : BenchState) → weight (target_of m.probe) action ≤ most_weight) → length log.results ≡ length log.calls → length log.entries < 2 ^ 32 →
-    WhereObservable y (λ o. IsIssuing p (log_done log (kept_of (entry_of calls action)) (length calls) (result_of ask.call word)) [] [] m0 o)
+    WhereObservable y (λ o. IsIssuing p (log_done log (kept_of (entry_of_call calls action)) (length calls) (result_of ask.call word)) [] [] m0 o)
 came_where p None y log new calls ask action word m0 h d are came steps unmarked mild large light long bounded = absurd h
 came_where p (Some m) None log new calls ask action word m0 h d are came steps unmarked mild large light long bounded = absurd d
 came_where p (Some m) (Some o) log new calls ask action word m0 h d are came steps unmarked mild large light long bounded = action_came p log calls ask action word m0 m o h (d h.flies) are came steps unmarked mild large (light m) long bounded
 
 -- where the bench is observable
-pub action_has_come : (p : Planner) (x y : Option BenchState) (log new : LogState) (calls : List Ask) (ask : Ask) (action : Action) (word : ℕ) (m0 : BenchState) → HasIssued p x log [] (entry_of calls action ∷ []) m0 → StepsTo (λ m o. CanFly m → HasDone action word m o) x y →
+pub action_has_come : (p : Planner) (x y : Option BenchState) (log new : LogState) (calls : List Ask) (ask : Ask) (action : Action) (word : ℕ) (m0 : BenchState) → HasIssued p x log [] (entry_of_call calls action ∷ []) m0 → StepsTo (λ m o. CanFly m → HasDoneWhole action word m o) x y →
     log.calls ≡ calls ++ ask ∷ [] → log.came ≡ length calls → length (issue_of p (target_by p (target_of m0.probe) calls) (kept_by p (target_of m0.probe) calls) ask).steps ≡ 1 → ask.settled ≡ false → is_forgiving ask ≡ false →
     small_now (start_world (target_of m0.probe) None) calls ask ≡ false → ((m : BenchState) → weight (target_of m.probe) action ≤ most_weight) → length log.results ≡ length log.calls → length log.entries < 2 ^ 32 →
-    new ≡ log_done log (kept_of (entry_of calls action)) (length calls) (result_of ask.call word) → HasIssued p y new [] [] m0
+    new ≡ log_done log (kept_of (entry_of_call calls action)) (length calls) (result_of ask.call word) → HasIssued p y new [] [] m0
 action_has_come p x y log new calls ask action word m0 h d are came steps unmarked mild large light long bounded is =
     subst (λ (l : LogState). HasIssued p y l [] [] m0) (sym is) (record { so = came_where p x y log new calls ask action word m0 h.so d are came steps unmarked mild large light long bounded })

@@ -28,9 +28,9 @@ use Rattle.access_calls.specs.Answers.{AtCut, StopsCalls}
 use Rattle.access_calls.specs.Reported.{world_from}
 use Rattle.access_calls.specs.declared.stop.Stop.{Stop}
 use Rattle.access_calls.specs.declared.stop.Stop.TheVariants as stops
-use Rattle.packed_access.specs.Begun.{HasBegun, HasIssued, IsGivenAt, IsIssuing, IsOpenAt, StopsThere, own_entries}
+use Rattle.packed_access.specs.Begun.{HasBegun, HasIssued, IsGivenAt, IsIssuing, IsOpenAt, StopsAfterLines, entries_for_call}
 use Rattle.packed_access.proofs.BegunLemmas.{issued_begun, open_facts, open_where, stops_calls}
-use Rattle.packed_access.specs.Logs.{LogState, all_issued, reported_by, with_call}
+use Rattle.packed_access.specs.Logs.{LogState, all_issued, log_with_call, reported_by}
 use Rattle.packed_access.specs.Marks.{unmarked_append, unmarked_last}
 use Rattle.packed_access.specs.Stands.{came_there, open_flying}
 use Rattle.access_regs.specs.declared.planner.Planner.{Planner}
@@ -73,8 +73,8 @@ module _ (p : Planner) (bench : BenchReported) (state : Option BenchState) (sent
       let i = f.issued_is in
       omega (arith, l, k, n, i)
 
-  sending_is : IsSending p (log.calls ++ ask ∷ []) log.confirmed log.came flying_is.flying (own_entries p t0 log.calls kept ask) accesses (take log.known (log.results ++ 0 ∷ [])) m0 m
-  sending_is = subst (λ (came : List ℕ). IsSending p (log.calls ++ ask ∷ []) log.confirmed log.came flying_is.flying (own_entries p t0 log.calls kept ask) accesses came m0 m) (sym same_results)
+  sending_is : IsSending p (log.calls ++ ask ∷ []) log.confirmed log.came flying_is.flying (entries_for_call p t0 log.calls kept ask) accesses (take log.known (log.results ++ 0 ∷ [])) m0 m
+  sending_is = subst (λ (came : List ℕ). IsSending p (log.calls ++ ask ∷ []) log.confirmed log.came flying_is.flying (entries_for_call p t0 log.calls kept ask) accesses came m0 m) (sym same_results)
       (call_sends p a kept accesses (take log.known log.results) ask m0 m flying_is ok unmarked)
 
   own_first : (n : ℕ) → n ≤ length log.calls → length (issued p t0 (take n (unmarked_last (log.calls ++ ask ∷ [])))) ≡ length (issued p t0 (take n log.calls))
@@ -113,7 +113,7 @@ module _ (p : Planner) (bench : BenchReported) (state : Option BenchState) (sent
       let g1 = g.1 in
       (omega (arith, g0, same), omega (arith, g1, same))
 
-  pub call_asked : IsIssuing p (with_call log ask room) accesses (own_entries p t0 log.calls kept ask) m0 m
+  pub call_asked : IsIssuing p (log_with_call log ask room) accesses (entries_for_call p t0 log.calls kept ask) m0 m
   call_asked = record {
     flying = flying_is.flying;
     sending = sending_is;
@@ -239,19 +239,19 @@ module _ (p : Planner) (log : LogState) (accesses : List RegAccess) (calls : Lis
 -- ---- where the bench is observable
 
 asked_where : (p : Planner) (x : Option BenchState) (bench : BenchReported) (state : Option BenchState) (sent got : List ℕ) (log : LogState) (kept : Kept) (accesses : List RegAccess) (ask : Ask) (room : ℕ) (m0 : BenchState) → WhereObservable x (λ m. IsOpenAt p log kept accesses m0 m) → IsAskable ask → ask.settled ≡ false →
-    length log.results ≡ length log.calls → length log.places ≡ length log.calls → WhereObservable x (λ m. IsIssuing p (with_call log ask room) accesses (own_entries p (target_of m0.probe) log.calls kept ask) m0 m)
+    length log.results ≡ length log.calls → length log.places ≡ length log.calls → WhereObservable x (λ m. IsIssuing p (log_with_call log ask room) accesses (entries_for_call p (target_of m0.probe) log.calls kept ask) m0 m)
 asked_where p None bench state sent got log kept accesses ask room m0 h ok unmarked long places = h
 asked_where p (Some m) bench state sent got log kept accesses ask room m0 h ok unmarked long places = call_asked p bench state sent got log kept accesses ask room m0 m h ok unmarked long places
 
 -- a call is asked
 pub begun_asked : (p : Planner) (bench : BenchReported) (state : Option BenchState) (log new : LogState) (sent got : List ℕ) (kept : Kept) (accesses : List RegAccess) (ask : Ask) (m0 : BenchState) → HasBegun p bench state log sent got kept accesses m0 → log.end ≡ None → IsAskable ask → ask.settled ≡ false →
-    length log.results ≡ length log.calls → length log.places ≡ length log.calls → new ≡ with_call log ask new.room → HasIssued p state new accesses (own_entries p (target_of m0.probe) log.calls kept ask) m0
+    length log.results ≡ length log.calls → length log.places ≡ length log.calls → new ≡ log_with_call log ask new.room → HasIssued p state new accesses (entries_for_call p (target_of m0.probe) log.calls kept ask) m0
 begun_asked p bench state log new sent got kept accesses ask m0 h none ok unmarked long places is =
-    subst (λ (l : LogState). HasIssued p state l accesses (own_entries p (target_of m0.probe) log.calls kept ask) m0) (sym is)
+    subst (λ (l : LogState). HasIssued p state l accesses (entries_for_call p (target_of m0.probe) log.calls kept ask) m0) (sym is)
     (record { so = asked_where p state bench state sent got log kept accesses ask new.room m0 (open_where p bench state log sent got kept accesses m0 h none) ok unmarked long places })
 
 -- nothing settles after it
-pub stops_asked : (m0 : BenchState) (n : Option ℕ) (calls : List Ask) (ask : Ask) (lines : ℕ) (s : Stop) → ask.settled ≡ false → StopsThere m0 n (calls ++ ask ∷ []) lines s → StopsCalls (world_from m0 n) (calls ++ ask ∷ []) lines s
+pub stops_asked : (m0 : BenchState) (n : Option ℕ) (calls : List Ask) (ask : Ask) (lines : ℕ) (s : Stop) → ask.settled ≡ false → StopsAfterLines m0 n (calls ++ ask ∷ []) lines s → StopsCalls (world_from m0 n) (calls ++ ask ∷ []) lines s
 stops_asked m0 n calls ask lines s unmarked there = stops_calls m0 n (calls ++ ask ∷ []) lines s (not_settled s) there
   where
     not_settled : (s : Stop) → AtCut s (λ r. is_settled (calls ++ ask ∷ []) ≡ true → ⊥)

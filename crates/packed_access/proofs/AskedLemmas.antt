@@ -34,8 +34,8 @@ use Rattle.access_regs.proofs.EntryLemmas.{journal_grows, askable_first}
 use Rattle.access_calls.specs.declared.stop.Stop.{Stop}
 use Rattle.flight_laws.proofs.CfgLemmas.{small_by_cfg}
 use Rattle.flight_laws.proofs.SmallLemmas.{never_small}
-use Rattle.packed_access.specs.Begun.{HasAsked, HasBegun, HasIssued, IsIssuing, IsNoPoll, entries_of, own_entries, steps_left, target_issued}
-use Rattle.packed_access.specs.Logs.{LogState, asks_of, with_call, with_needs}
+use Rattle.packed_access.specs.Begun.{HasBegun, HasIssued, IsIssuing, IsNoPoll, LogHasAsked, entries_for_call, steps_left, strict_entries, target_issued}
+use Rattle.packed_access.specs.Logs.{LogState, asks_of, log_with_call, with_needs}
 use Rattle.packed_access.specs.Planned.{HasShown, reads_before, settle_before, settled_before, target_before}
 use Rattle.packed_access.proofs.AskLemmas.{begun_asked}
 use Rattle.packed_access.proofs.BegunLemmas.{fact_of, open_facts}
@@ -49,7 +49,7 @@ use Rattle.access_regs.specs.Journal.{is_alone}
 -- ---- a call is asked
 
 pub begins_asked : (p : Planner) (bench : BenchReported) (state : Option BenchState) (log new : LogState) (sent got : List ℕ) (kept : Kept) (accesses : List RegAccess) (ask : Ask) (m0 : BenchState) → HasBegun p bench state log sent got kept accesses m0 → log.end ≡ None → IsAskable ask → ask.settled ≡ false →
-    length log.results ≡ length log.calls → length log.places ≡ length log.calls → new ≡ with_call log ask new.room → HasAsked p state new accesses kept log.calls ask m0
+    length log.results ≡ length log.calls → length log.places ≡ length log.calls → new ≡ log_with_call log ask new.room → LogHasAsked p state new accesses kept log.calls ask m0
 begins_asked p bench state log new sent got kept accesses ask m0 h none ok unmarked long places is = record {
   are = ap (λ (l : LogState). l.calls) is;
   unmarked = unmarked;
@@ -65,20 +65,20 @@ pub record AreSound (t : TargetState) (calls : List Ask) (ask : Ask) : Type 0 wh
   pub askable : AreAskable calls
   pub last : IsAskable ask
 
-pub asked_sound : (p : Planner) (x : Option BenchState) (log : LogState) (accesses : List RegAccess) (k : Kept) (calls : List Ask) (ask : Ask) (m0 : BenchState) → HasAsked p x log accesses k calls ask m0 → AreSound (target_of m0.probe) calls ask
+pub asked_sound : (p : Planner) (x : Option BenchState) (log : LogState) (accesses : List RegAccess) (k : Kept) (calls : List Ask) (ask : Ask) (m0 : BenchState) → LogHasAsked p x log accesses k calls ask m0 → AreSound (target_of m0.probe) calls ask
 asked_sound p x log accesses k calls ask m0 h =
-    fact_of x (λ m. IsIssuing p log accesses (own_entries p (target_of m0.probe) calls k ask) m0 m) (AreSound (target_of m0.probe) calls ask)
+    fact_of x (λ m. IsIssuing p log accesses (entries_for_call p (target_of m0.probe) calls k ask) m0 m) (AreSound (target_of m0.probe) calls ask)
     (λ m i. (let all : AreAskable (calls ++ ask ∷ []) = subst AreAskable h.are i.sending.askable in record { fresh = i.sending.fresh; askable = askable_first calls (ask ∷ []) all; last = askable_last calls ask all })) h.issued.so
 
 -- the target that the call finds
-pub asked_target : (p : Planner) (x : Option BenchState) (log : LogState) (accesses : List RegAccess) (k : Kept) (calls : List Ask) (ask : Ask) (m0 : BenchState) → HasAsked p x log accesses k calls ask m0 → target_issued p log m0 ≡ target_by p (target_of m0.probe) calls
+pub asked_target : (p : Planner) (x : Option BenchState) (log : LogState) (accesses : List RegAccess) (k : Kept) (calls : List Ask) (ask : Ask) (m0 : BenchState) → LogHasAsked p x log accesses k calls ask m0 → target_issued p log m0 ≡ target_by p (target_of m0.probe) calls
 asked_target p x log accesses k calls ask m0 h =
-    let grown : issued p (target_of m0.probe) log.calls ≡ issued p (target_of m0.probe) calls ++ own_entries p (target_of m0.probe) calls k ask =
+    let grown : issued p (target_of m0.probe) log.calls ≡ issued p (target_of m0.probe) calls ++ entries_for_call p (target_of m0.probe) calls k ask =
     ap (issued p (target_of m0.probe)) h.are ∙ (journal_grows p (target_of m0.probe) calls ask h.unmarked).0
-    ∙ ap (λ (q : Kept). issued p (target_of m0.probe) calls ++ own_entries p (target_of m0.probe) calls q ask) h.kept_is in
+    ∙ ap (λ (q : Kept). issued p (target_of m0.probe) calls ++ entries_for_call p (target_of m0.probe) calls q ask) h.kept_is in
     ap (target_after (target_of m0.probe))
-    (cancel_back (take (length log.entries) (issued p (target_of m0.probe) log.calls)) (issued p (target_of m0.probe) calls) (own_entries p (target_of m0.probe) calls k ask)
-    (sym (seam_of p x log accesses (own_entries p (target_of m0.probe) calls k ask) m0 h.issued.so).0 ∙ grown))
+    (cancel_back (take (length log.entries) (issued p (target_of m0.probe) log.calls)) (issued p (target_of m0.probe) calls) (entries_for_call p (target_of m0.probe) calls k ask)
+    (sym (seam_of p x log accesses (entries_for_call p (target_of m0.probe) calls k ask) m0 h.issued.so).0 ∙ grown))
 
 -- what a call that forgives nothing issues
 pub planned_issue : (p : Planner) (t : TargetState) (k : Kept) (ask : Ask) (asked : AccessUnit) → ask.call ≡ Access asked → is_forgiving ask ≡ false → (is_alone p false && may_forgive (Access asked)) ≡ false → issue_of p t k ask ≡ planned t k asked
@@ -93,7 +93,7 @@ planned_issue p t k ask asked is mild apart =
 -- which units are made alone
 
 -- what is left then
-pub planned_left : (p : Planner) (x : Option BenchState) (log : LogState) (accesses : List RegAccess) (k : Kept) (calls : List Ask) (ask : Ask) (asked : AccessUnit) (m0 : BenchState) → ask.call ≡ Access asked → is_forgiving ask ≡ false → (is_alone p false && may_forgive (Access asked)) ≡ false → HasAsked p x log accesses k calls ask m0 →
+pub planned_left : (p : Planner) (x : Option BenchState) (log : LogState) (accesses : List RegAccess) (k : Kept) (calls : List Ask) (ask : Ask) (asked : AccessUnit) (m0 : BenchState) → ask.call ≡ Access asked → is_forgiving ask ≡ false → (is_alone p false && may_forgive (Access asked)) ≡ false → LogHasAsked p x log accesses k calls ask m0 →
     HasIssued p x log accesses (steps_left log (planned (target_issued p log m0) k asked).steps) m0
 planned_left p x log accesses k calls ask asked m0 is mild apart h =
     let count : length calls ≡ length log.calls - 1 = (let l = ap length h.are ∙ length-append calls (ask ∷ []) in omega (arith, l)) in
@@ -103,7 +103,7 @@ planned_left p x log accesses k calls ask asked m0 is mild apart h =
 
 -- ---- the settling
 
-pub settles_numbered : (units : ℕ) (xs : List RegAccess) → numbered units false (steps_of Settles xs) ≡ entries_of units Settles xs
+pub settles_numbered : (units : ℕ) (xs : List RegAccess) → numbered units false (steps_of Settles xs) ≡ strict_entries units Settles xs
 settles_numbered units [] = refl
 settles_numbered units (x ∷ xs) = ap (λ l. record { unit = units; part = Settles; forgiving = false; action = Makes x } ∷ l) (settles_numbered units xs)
 
@@ -132,17 +132,17 @@ settle_is : (t : TargetState) (k : Kept) (asked : AccessUnit) → needs_settle k
 settle_is t k asked needs = ap (λ (b : Bool). cond b (after_settling t k (λ u l. by_cfg u l asked)) (by_cfg t k asked)) needs
 
 pub settle_left : (p : Planner) (x : Option BenchState) (log : LogState) (accesses : List RegAccess) (t : TargetState) (k : Kept) (asked : AccessUnit) (units : ℕ) (m0 : BenchState) → units ≡ length log.calls - 1 → needs_settle k asked ≡ true → HasIssued p x log accesses (steps_left log (planned t k asked).steps) m0 →
-    HasIssued p x log accesses (entries_of units Settles (settle k) ++ steps_left log (by_cfg (after t (making (settle k))) (settled k) asked).steps) m0
+    HasIssued p x log accesses (strict_entries units Settles (settle k) ++ steps_left log (by_cfg (after t (making (settle k))) (settled k) asked).steps) m0
 settle_left p x log accesses t k asked units m0 same needs h =
-    let is : steps_left log (planned t k asked).steps ≡ entries_of units Settles (settle k) ++ steps_left log (by_cfg (after t (making (settle k))) (settled k) asked).steps =
+    let is : steps_left log (planned t k asked).steps ≡ strict_entries units Settles (settle k) ++ steps_left log (by_cfg (after t (making (settle k))) (settled k) asked).steps =
     ap (λ (i : Issue). steps_left log i.steps) (settle_is t k asked needs)
     ∙ map-append _ (steps_of Settles (settle k)) (by_cfg (after t (making (settle k))) (settled k) asked).steps
     ∙ ap (λ (l : List Entry). l ++ steps_left log (by_cfg (after t (making (settle k))) (settled k) asked).steps) (settles_numbered (length log.calls - 1) (settle k))
-    ∙ ap (λ (n : ℕ). entries_of n Settles (settle k) ++ steps_left log (by_cfg (after t (making (settle k))) (settled k) asked).steps) (sym same) in
+    ∙ ap (λ (n : ℕ). strict_entries n Settles (settle k) ++ steps_left log (by_cfg (after t (making (settle k))) (settled k) asked).steps) (sym same) in
     subst (λ (l : List Entry). HasIssued p x log accesses l m0) is h
 
 pub settled_ready : (p : Planner) (x y : Option BenchState) (old mid : LogState) (accesses accesses' : List RegAccess) (k k' : Kept) (asked : AccessUnit) (units : ℕ) (m0 : BenchState) → needs_settle k asked ≡ true →
-    HasIssued p x old accesses (entries_of units Settles (settle k) ++ steps_left old (by_cfg (after (target_issued p old m0) (making (settle k))) (settled k) asked).steps) m0 →
+    HasIssued p x old accesses (strict_entries units Settles (settle k) ++ steps_left old (by_cfg (after (target_issued p old m0) (making (settle k))) (settled k) asked).steps) m0 →
     HasIssued p y mid accesses' (steps_left old (by_cfg (after (target_issued p old m0) (making (settle k))) (settled k) asked).steps) m0 → mid.calls ≡ old.calls → k' ≡ settled k → IsReady p y old mid accesses' k k' asked m0
 settled_ready p x y old mid accesses accesses' k k' asked units m0 needs first there calls kept =
     let at = target_moves p x y old mid accesses accesses' units Settles (settle k) (steps_left old (by_cfg (after (target_issued p old m0) (making (settle k))) (settled k) asked).steps) m0 first there calls in
@@ -160,7 +160,7 @@ settled_ready p x y old mid accesses accesses' k k' asked units m0 needs first t
     planned_kept false = refl
 
 -- before the first call nothing is unsettled
-pub first_calm : (p : Planner) (x : Option BenchState) (log : LogState) (accesses : List RegAccess) (k : Kept) (calls : List Ask) (ask : Ask) (asked : AccessUnit) (m0 : BenchState) → HasAsked p x log accesses k calls ask m0 → length log.calls - 1 ≡ 0 → needs_settle k asked ≡ false
+pub first_calm : (p : Planner) (x : Option BenchState) (log : LogState) (accesses : List RegAccess) (k : Kept) (calls : List Ask) (ask : Ask) (asked : AccessUnit) (m0 : BenchState) → LogHasAsked p x log accesses k calls ask m0 → length log.calls - 1 ≡ 0 → needs_settle k asked ≡ false
 first_calm p x log accesses k calls ask asked m0 h none = by_calls calls h.kept_is (let l = ap length h.are ∙ length-append calls (ask ∷ []) in omega (arith, l, none))
   where
     by_calls : (xs : List Ask) → kept_by p (target_of m0.probe) xs ≡ k → length xs ≡ 0 → needs_settle k asked ≡ false
@@ -254,7 +254,7 @@ small_shown p t calls asked forgive small fresh ok range h = by_needs (needs_cfg
     by_needs false e = never e
     by_needs true e = small_read p t calls asked forgive small fresh ok range h e
 
-pub small_is : (p : Planner) (x y : Option BenchState) (log mid : LogState) (accesses accesses' : List RegAccess) (k k' : Kept) (calls : List Ask) (ask : Ask) (asked : AccessUnit) (small : Bool) (m0 : BenchState) → ask.call ≡ Access asked → HasAsked p x log accesses k calls ask m0 →
+pub small_is : (p : Planner) (x y : Option BenchState) (log mid : LogState) (accesses accesses' : List RegAccess) (k k' : Kept) (calls : List Ask) (ask : Ask) (asked : AccessUnit) (small : Bool) (m0 : BenchState) → ask.call ≡ Access asked → LogHasAsked p x log accesses k calls ask m0 →
     IsReady p y log mid accesses' k k' asked m0 → HasShown (target_of m0.probe) calls (target_issued p mid m0) k' asked small → small ≡ small_now (start_world (target_of m0.probe) None) calls ask
 small_is p x y log mid accesses accesses' k k' calls ask asked small m0 is h r shown =
     let t0 : TargetState = target_of m0.probe in
@@ -306,7 +306,7 @@ planned_cost_is Plain t calls ask asked' is mild no_poll apart =
     none_read (unit.Poll mask value turns) may h = absurd h
 
 pub needs_is : (p : Planner) (x y : Option BenchState) (log mid new : LogState) (accesses accesses' : List RegAccess) (k k' : Kept) (calls : List Ask) (ask : Ask) (asked' : AccessUnit) (m0 : BenchState) → ask.call ≡ Access asked' → is_forgiving ask ≡ false → IsNoPoll asked' →
-    (is_alone p false && may_forgive (Access asked')) ≡ false → HasAsked p x log accesses k calls ask m0 →
+    (is_alone p false && may_forgive (Access asked')) ≡ false → LogHasAsked p x log accesses k calls ask m0 →
     IsReady p y log mid accesses' k k' asked' m0 → asks_of mid ≡ asks_of log → asks_of new ≡ asks_of (with_needs mid (reads_before (target_issued p mid m0) k' asked') (length mid.calls - 1)) →
     asks_of new ≡ asked (cost_by p (target_of m0.probe) calls ask) ask (record { calls = calls; needs = log.needs; fence = log.fence })
 needs_is p x y log mid new accesses accesses' k k' calls ask asked' m0 is mild no_poll apart h r same here =
@@ -324,7 +324,7 @@ needs_is p x y log mid new accesses accesses' k k' calls ask asked' m0 is mild n
 
 -- ---- what is known after it
 
-pub kept_is : (p : Planner) (x y : Option BenchState) (log mid : LogState) (accesses accesses' : List RegAccess) (k k' k'' : Kept) (calls : List Ask) (ask : Ask) (asked : AccessUnit) (m0 : BenchState) → ask.call ≡ Access asked → is_forgiving ask ≡ false → (is_alone p false && may_forgive (Access asked)) ≡ false → HasAsked p x log accesses k calls ask m0 →
+pub kept_is : (p : Planner) (x y : Option BenchState) (log mid : LogState) (accesses accesses' : List RegAccess) (k k' k'' : Kept) (calls : List Ask) (ask : Ask) (asked : AccessUnit) (m0 : BenchState) → ask.call ≡ Access asked → is_forgiving ask ≡ false → (is_alone p false && may_forgive (Access asked)) ≡ false → LogHasAsked p x log accesses k calls ask m0 →
     IsReady p y log mid accesses' k k' asked m0 → k'' ≡ (by_cfg (target_issued p mid m0) k' asked).kept → k'' ≡ (issue_of p (target_by p (target_of m0.probe) calls) k ask).kept
 kept_is p x y log mid accesses accesses' k k' k'' calls ask asked m0 is mild apart h r here =
     here ∙ r.kept ∙ ap (λ (i : Issue). i.kept) (ap (λ (t : TargetState). planned t k asked) (asked_target p x log accesses k calls ask m0 h) ∙ sym (planned_issue p (target_by p (target_of m0.probe) calls) k ask asked is mild apart))

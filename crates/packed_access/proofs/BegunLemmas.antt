@@ -27,7 +27,7 @@ use Rattle.access_calls.specs.declared.stop.StopCause.{StopCause}
 use Rattle.access_calls.specs.declared.stop.StopCause.TheVariants.{Faulted, NoAnswer}
 use Rattle.flight_laws.specs.Ending.{IsEnded, StopsBy}
 use Rattle.flight_laws.proofs.EndLemmas.{begun_came, results_few}
-use Rattle.packed_access.specs.Begun.{HasBegun, HasEnded, HasIssued, IsIssuing, IsOpenAt, IsSince, StopsThere}
+use Rattle.packed_access.specs.Begun.{HasBegun, HasIssued, IsIssuing, IsOpenAt, IsSince, LogHasEnded, StopsAfterLines}
 use Rattle.packed_access.specs.Logs.{LogState, all_confirmed, all_taken, reported_by, result_at}
 use Rattle.packed_access.specs.Stands.{is_begun, none_flying}
 use Rattle.access_regs.specs.declared.planner.Planner.{Planner}
@@ -71,7 +71,7 @@ issued_begun p bench state log sent got kept accesses m0 h none whole kept_is ca
     }
 
 -- an access that has ended
-pub ended_begun : (p : Planner) (bench : BenchReported) (state : Option BenchState) (log : LogState) (sent got : List ℕ) (kept : Kept) (accesses : List RegAccess) (m0 : BenchState) (s : Stop) → HasEnded p s (reported_by bench state log sent got) log m0 → log.end ≡ Some s →
+pub ended_begun : (p : Planner) (bench : BenchReported) (state : Option BenchState) (log : LogState) (sent got : List ℕ) (kept : Kept) (accesses : List RegAccess) (m0 : BenchState) (s : Stop) → LogHasEnded p s (reported_by bench state log sent got) log m0 → log.end ≡ Some s →
     HasBegun p bench state log sent got kept accesses m0
 ended_begun p bench state log sent got kept accesses m0 s h is =
     record { so = subst (λ (e : Option Stop). WhereObservable state (λ m. IsSince p e (reported_by bench state log sent got) log kept accesses m0 m)) (sym is) h.so }
@@ -99,7 +99,7 @@ clash_settled [] is less = omega (arith, less)
 clash_settled (x ∷ xs) is less = cc
 
 -- where nothing settles they stop right after those that have their lines before it
-pub stops_calls : (m0 : BenchState) (n : Option ℕ) (calls : List Ask) (lines : ℕ) (s : Stop) → AtCut s (λ r. is_settled calls ≡ true → ⊥) → StopsThere m0 n calls lines s → StopsCalls (world_from m0 n) calls lines s
+pub stops_calls : (m0 : BenchState) (n : Option ℕ) (calls : List Ask) (lines : ℕ) (s : Stop) → AtCut s (λ r. is_settled calls ≡ true → ⊥) → StopsAfterLines m0 n calls lines s → StopsCalls (world_from m0 n) calls lines s
 stops_calls m0 n calls lines (stops.Cut r) not h = record { so = by_cause r.cause h.so }
   where
     by_cause : (x : StopCause) → StopsBy x (world_from m0 n) calls lines → stop (world_from m0 n) calls ≡ Some (lines + 1)
@@ -112,7 +112,7 @@ stops_calls m0 n calls lines stops.OutOfMemory not h = record { so = tt }
 
 -- a flight that is cut has accesses
 pub stops_flushed : (p : Planner) (bench : BenchReported) (state : Option BenchState) (log : LogState) (sent got : List ℕ) (kept : Kept) (accesses : List RegAccess) (m0 : BenchState) (n : Option ℕ) (lines : ℕ) (s : Stop) → HasBegun p bench state log sent got kept accesses m0 →
-    log.end ≡ None → AtCut s (λ r. 0 < length accesses) → StopsThere m0 n log.calls lines s → StopsCalls (world_from m0 n) log.calls lines s
+    log.end ≡ None → AtCut s (λ r. 0 < length accesses) → StopsAfterLines m0 n log.calls lines s → StopsCalls (world_from m0 n) log.calls lines s
 stops_flushed p bench state log sent got kept accesses m0 n lines s h none some there = stops_calls m0 n log.calls lines s (not_settled s some) there
   where
     not_settled : (s : Stop) → AtCut s (λ r. 0 < length accesses) → AtCut s (λ r. is_settled log.calls ≡ true → ⊥)

@@ -11,7 +11,7 @@ use Rattle.probe_core.specs.declared.job.Limits.{Limits}
 use Rattle.target_machine.specs.Counts.{one_if}
 use Rattle.target_calls.specs.Journal.{Entry, actions_in}
 use Rattle.access_regs.specs.Journal.{making}
-use Rattle.access_calls.specs.Bounds.{block_words, capacity}
+use Rattle.access_calls.specs.Bounds.{block_words, flight_capacity}
 use Rattle.flight_forms.specs.Forms.{all_write_drw, writes_drw}
 use Rattle.flight_laws.specs.Packets.{drw_writes_in, is_drw_write}
 use Rattle.flight_laws.proofs.FlightLemmas.{flight_length, head_makes}
@@ -201,7 +201,7 @@ module _ (full : ℕ) (limits : Limits) (made flying rest : List Entry) (e : Ent
     all = (let a = h.all in omega (arith, a));
     written = (let w = h.written in let b = writes_both in omega (arith, w, b));
     changing = (let c = h.changing in let f = further in omega (arith, c, f));
-    others = (let o = h.others in let b = others_both in let d : (h.bare + 1) * capacity limits ≡ h.bare * capacity limits + capacity limits = omega arith in let l = size in let many = is_full.many in omega (arith, o, b, none, d, l, many));
+    others = (let o = h.others in let b = others_both in let d : (h.bare + 1) * flight_capacity limits ≡ h.bare * flight_capacity limits + flight_capacity limits = omega arith in let l = size in let many = is_full.many in omega (arith, o, b, none, d, l, many));
     sizes = (let z = h.sizes in let a = writes_both in let b = others_both in let k = all_kinds flying in let l = size in let m = is_full.wide in let d : (h.mixed + (h.bare + 1)) * transfer_accesses limits ≡ (h.mixed + h.bare) * transfer_accesses limits + transfer_accesses limits = omega arith in omega (arith, z, a, b, k, l, m, d));
   }
 

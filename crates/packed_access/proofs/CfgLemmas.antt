@@ -24,7 +24,7 @@ use Rattle.access_regs.specs.Kept.{Kept}
 use Rattle.access_regs.specs.Plan.{cfg_plan, learned_cfg, needs_cfg, needs_csw}
 use Rattle.access_regs.proofs.Seams.{after_split}
 use Rattle.access_calls.specs.Standing.{WhereObservable}
-use Rattle.packed_access.specs.Begun.{HasIssued, IsIssuing, entries_of, steps_left, target_issued}
+use Rattle.packed_access.specs.Begun.{HasIssued, IsIssuing, steps_left, strict_entries, target_issued}
 use Rattle.packed_access.specs.Logs.{LogState, asks_of, with_needs}
 use Rattle.packed_access.specs.Planned.{HasShown, reads_before}
 use Rattle.packed_access.proofs.ActionLemmas.{at_rest_count}
@@ -53,15 +53,15 @@ issued_between p x y old new accesses accesses' own rest m0 h k calls =
 
 -- the target moves by the accesses that were issued
 pub target_moves : (p : Planner) (x y : Option BenchState) (old new : LogState) (accesses accesses' : List RegAccess) (unit : ℕ) (part : Part) (xs : List RegAccess) (rest : List Entry) (m0 : BenchState) →
-    HasIssued p x old accesses (entries_of unit part xs ++ rest) m0 → HasIssued p y new accesses' rest m0 → new.calls ≡ old.calls → target_issued p new m0 ≡ after (target_issued p old m0) (making xs)
+    HasIssued p x old accesses (strict_entries unit part xs ++ rest) m0 → HasIssued p y new accesses' rest m0 → new.calls ≡ old.calls → target_issued p new m0 ≡ after (target_issued p old m0) (making xs)
 target_moves p x y old new accesses accesses' unit part xs rest m0 h k calls =
-    ap (target_after (target_of m0.probe)) (issued_between p x y old new accesses accesses' (entries_of unit part xs) rest m0 h k calls)
-    ∙ after_split (target_of m0.probe) (take (length old.entries) (issued p (target_of m0.probe) old.calls)) (entries_of unit part xs)
+    ap (target_after (target_of m0.probe)) (issued_between p x y old new accesses accesses' (strict_entries unit part xs) rest m0 h k calls)
+    ∙ after_split (target_of m0.probe) (take (length old.entries) (issued p (target_of m0.probe) old.calls)) (strict_entries unit part xs)
     ∙ ap (after (target_issued p old m0)) (actions_of_entries unit part xs)
 
 -- ---- accesses that pass
 
-pass_to : (u : TargetState) (unit : ℕ) (part : Part) (xs : List RegAccess) → Passes u (entries_of unit part xs) → PassTo u (making xs) (after u (making xs))
+pass_to : (u : TargetState) (unit : ℕ) (part : Part) (xs : List RegAccess) → Passes u (strict_entries unit part xs) → PassTo u (making xs) (after u (making xs))
 pass_to u unit part [] h = refl
 pass_to u unit part (a ∷ xs) h = (clear_of (is_fault (acted u (Makes a)).outcome) h.0, pass_to (acted u (Makes a)).next unit part xs h.1)
 
@@ -80,13 +80,13 @@ rest_passes p (Some m) log rest m0 h =
 
 -- accesses that came do not fault
 pub came_good : (p : Planner) (x y : Option BenchState) (old new : LogState) (accesses : List RegAccess) (unit : ℕ) (part : Part) (xs : List RegAccess) (rest : List Entry) (m0 : BenchState) →
-    HasIssued p x old accesses (entries_of unit part xs ++ rest) m0 → HasIssued p y new [] rest m0 → new.calls ≡ old.calls → is_fault (in_order (target_issued p old m0) (making xs)).outcome ≡ false
+    HasIssued p x old accesses (strict_entries unit part xs ++ rest) m0 → HasIssued p y new [] rest m0 → new.calls ≡ old.calls → is_fault (in_order (target_issued p old m0) (making xs)).outcome ≡ false
 came_good p x y old new accesses unit part xs rest m0 h k calls =
     let first : List Entry = take (length old.entries) (issued p (target_of m0.probe) old.calls) in
-    let all : Passes (target_of m0.probe) (take (length old.entries) (issued p (target_of m0.probe) old.calls) ++ entries_of unit part xs) =
-    subst (Passes (target_of m0.probe)) (issued_between p x y old new accesses [] (entries_of unit part xs) rest m0 h k calls) (rest_passes p y new rest m0 k.so) in
+    let all : Passes (target_of m0.probe) (take (length old.entries) (issued p (target_of m0.probe) old.calls) ++ strict_entries unit part xs) =
+    subst (Passes (target_of m0.probe)) (issued_between p x y old new accesses [] (strict_entries unit part xs) rest m0 h k calls) (rest_passes p y new rest m0 k.so) in
     order_good (done (target_issued p old m0)) (after (target_issued p old m0) (making xs)) (making xs) refl
-    (pass_to (target_issued p old m0) unit part xs (pass_rest (target_of m0.probe) first (entries_of unit part xs) all))
+    (pass_to (target_issued p old m0) unit part xs (pass_rest (target_of m0.probe) first (strict_entries unit part xs) all))
 
 -- and no call stops before the last one
 pub whole_before : (p : Planner) (log : LogState) (rest : List Entry) (calls : List Ask) (ask : Ask) (m0 m : BenchState) → IsIssuing p log [] rest m0 m → log.calls ≡ calls ++ ask ∷ [] → log.whole + 1 ≡ length log.calls → stop (start_world (target_of m0.probe) None) calls ≡ None
@@ -118,15 +118,15 @@ cfg_kept t k asked needs = ap (λ (x : Issue). x.kept) (cfg_is t k asked needs)
 
 pub cfg_left : (p : Planner) (x : Option BenchState) (log : LogState) (accesses : List RegAccess) (t : TargetState) (k : Kept) (asked : AccessUnit) (m0 : BenchState) → log.whole + 1 ≡ length log.calls → needs_cfg k asked ≡ true →
     HasIssued p x log accesses (steps_left log (by_cfg t k asked).steps) m0 →
-    HasIssued p x log accesses (entries_of (length log.calls) Leads (cfg_plan k (port_of asked)) ++ steps_left log (after_cfg t k asked).steps) m0
+    HasIssued p x log accesses (strict_entries (length log.calls) Leads (cfg_plan k (port_of asked)) ++ steps_left log (after_cfg t k asked).steps) m0
 cfg_left p x log accesses t k asked m0 whole needs h =
     let units : ℕ = length log.calls - 1 in
     let same : (length log.calls - 1) + 1 ≡ length log.calls = omega (arith, whole) in
-    let is : steps_left log (by_cfg t k asked).steps ≡ entries_of (length log.calls) Leads (cfg_plan k (port_of asked)) ++ steps_left log (after_cfg t k asked).steps =
+    let is : steps_left log (by_cfg t k asked).steps ≡ strict_entries (length log.calls) Leads (cfg_plan k (port_of asked)) ++ steps_left log (after_cfg t k asked).steps =
     ap (λ (x : Issue). steps_left log x.steps) (cfg_is t k asked needs)
     ∙ map-append _ (steps_of Leads (cfg_plan k (port_of asked))) (after_cfg t k asked).steps
     ∙ ap (λ (l : List Entry). l ++ steps_left log (after_cfg t k asked).steps) (leads_numbered (length log.calls - 1) (cfg_plan k (port_of asked)))
-    ∙ ap (λ (n : ℕ). entries_of n Leads (cfg_plan k (port_of asked)) ++ steps_left log (after_cfg t k asked).steps) same in
+    ∙ ap (λ (n : ℕ). strict_entries n Leads (cfg_plan k (port_of asked)) ++ steps_left log (after_cfg t k asked).steps) same in
     subst (λ (l : List Entry). HasIssued p x log accesses l m0) is h
 
 -- it shows no large addresses
@@ -154,7 +154,7 @@ pub record IsLarge (p : Planner) (y : Option BenchState) (old mid : LogState) (a
   pub kept : (by_csw (target_issued p mid m0) k' asked).kept ≡ (by_cfg (target_issued p old m0) k asked).kept
 
 pub large_left : (p : Planner) (x y : Option BenchState) (old mid : LogState) (accesses accesses' : List RegAccess) (k k' : Kept) (asked : AccessUnit) (m0 : BenchState) → needs_cfg k asked ≡ true → has_bit (gives (target_issued p old m0) (cfg_plan k (port_of asked))) 2 ≡ true →
-    HasIssued p x old accesses (entries_of (length old.calls) Leads (cfg_plan k (port_of asked)) ++ steps_left old (after_cfg (target_issued p old m0) k asked).steps) m0 → HasIssued p y mid [] (steps_left old (after_cfg (target_issued p old m0) k asked).steps) m0 →
+    HasIssued p x old accesses (strict_entries (length old.calls) Leads (cfg_plan k (port_of asked)) ++ steps_left old (after_cfg (target_issued p old m0) k asked).steps) m0 → HasIssued p y mid [] (steps_left old (after_cfg (target_issued p old m0) k asked).steps) m0 →
     mid.calls ≡ old.calls → accesses' ≡ [] → k' ≡ learned_cfg k (port_of asked) (gives (target_issued p old m0) (cfg_plan k (port_of asked))) → IsLarge p y old mid accesses' k k' asked m0
 large_left p x y old mid accesses accesses' k k' asked m0 needs bit first there calls empty kept =
     let at = target_moves p x y old mid accesses [] (length old.calls) Leads (cfg_plan k (port_of asked)) (steps_left old (after_cfg (target_issued p old m0) k asked).steps) m0 first there calls in

@@ -16,13 +16,13 @@ use Rattle.target_calls.specs.declared.journal.Part.TheVariants.{Ends}
 use Rattle.access_calls.specs.Issued.{kept_of}
 use Rattle.access_calls.specs.declared.issued.Issued.{Issued}
 use Rattle.flight_laws.proofs.SmallLemmas.{not_small}
-use Rattle.packed_access.specs.Actions.{entry_of, log_done}
+use Rattle.packed_access.specs.Actions.{entry_of_call, log_done}
 use Rattle.packed_access.specs.Begun.{most_weight}
 use Rattle.access_regs.specs.Costs.{command_cost, cost_by}
 use Rattle.access_regs.specs.declared.planner.Planner.{Planner}
 use Rattle.access_regs.specs.declared.planner.Planner.TheVariants.{Managed, Plain}
 use Rattle.packed_access.specs.Logs.{LogState, asks_of, result_at, result_for, with_needs}
-use Rattle.packed_access.specs.Sparing.{counted}
+use Rattle.packed_access.specs.Sparing.{managed_points}
 use Rattle.packed_access.proofs.NeedLemmas.{needs_more}
 use Rattle.packed_access.proofs.AskLemmas.{set_here}
 
@@ -50,7 +50,7 @@ last_there (c ∷ calls) ask = last_there calls ask
 -- what is kept after it
 pub command_log : (log new : LogState) (calls : List Ask) (call : ProbeCall) (word : ℕ) → log.calls ≡ calls ++ probe_ask call ∷ [] → log.came ≡ length calls →
     new ≡ log_done log (record { unit = length log.calls; part = Ends }) log.came (result_for (slice_get log.calls log.came) word) →
-    new ≡ log_done log (kept_of (entry_of calls (Commands call))) (length calls) (result_of (Probe call) word)
+    new ≡ log_done log (kept_of (entry_of_call calls (Commands call))) (length calls) (result_of (Probe call) word)
 command_log log new calls call word are came is =
     let count : length log.calls ≡ length calls + 1 = ap length are ∙ length-append calls (probe_ask call ∷ []) in
     let there : slice_get log.calls log.came ≡ Some (probe_ask call) = (λ j. slice_get (are j) (came j)) ∙ last_there calls (probe_ask call) in
@@ -65,12 +65,12 @@ done_result log new entry index result is less long =
 
 -- ---- need points
 
-command_cost_is : (p : Planner) (t : TargetState) (calls : List Ask) (call : ProbeCall) → record { before = 0; after = counted p (command_cost call) } ≡ cost_by p t calls (probe_ask call)
+command_cost_is : (p : Planner) (t : TargetState) (calls : List Ask) (call : ProbeCall) → record { before = 0; after = managed_points p (command_cost call) } ≡ cost_by p t calls (probe_ask call)
 command_cost_is Managed t calls call = refl
 command_cost_is Plain t calls call = refl
 
-pub command_needs : (p : Planner) (t : TargetState) (calls : List Ask) (call : ProbeCall) (points count needs fence : ℕ) (log new : LogState) → points ≡ counted p (command_cost call) → new ≡ with_needs log points count → count ≡ length log.calls →
+pub command_needs : (p : Planner) (t : TargetState) (calls : List Ask) (call : ProbeCall) (points count needs fence : ℕ) (log new : LogState) → points ≡ managed_points p (command_cost call) → new ≡ with_needs log points count → count ≡ length log.calls →
     asks_of log ≡ record { calls = calls ++ probe_ask call ∷ []; needs = needs; fence = fence } → asks_of new ≡ asked (cost_by p t calls (probe_ask call)) (probe_ask call) (record { calls = calls; needs = needs; fence = fence })
 command_needs p t calls call points count needs fence log new points_are is at asks =
-    ap asks_of is ∙ (λ j. asks_of (with_needs log (points_are j) (at j))) ∙ needs_more log (counted p (command_cost call)) ∙ ap (needed_more (counted p (command_cost call))) asks
+    ap asks_of is ∙ (λ j. asks_of (with_needs log (points_are j) (at j))) ∙ needs_more log (managed_points p (command_cost call)) ∙ ap (needed_more (managed_points p (command_cost call))) asks
     ∙ ap (λ (c : Cost). asked c (probe_ask call) (record { calls = calls; needs = needs; fence = fence })) (command_cost_is p t calls call)

@@ -12,7 +12,7 @@ use Rattle.access_calls.specs.Numbers.{HasNumbers, attempted_by}
 use Rattle.access_calls.specs.declared.issued.Issued.{Issued}
 use Rattle.access_calls.specs.declared.stop.Report.{Report}
 use Rattle.access_calls.proofs.IssuedLemmas.{kept_numbers}
-use Rattle.packed_access.specs.Counted.{AreFew, IsCountOf}
+use Rattle.packed_access.specs.Counted.{AreFew, CountsConfirmed}
 use Rattle.packed_access.specs.declared.confirmed.Confirmed.{Confirmed}
 
 -- no more units than entries
@@ -24,7 +24,7 @@ kept_few f (i ∷ kept) =
     let more = kept_few f kept in
     omega (arith, here, one, more)
 
-pub counted_few : (c : Confirmed) (first : List Issued) → IsCountOf c first → AreFew c
+pub counted_few : (c : Confirmed) (first : List Issued) → CountsConfirmed c first → AreFew c
 counted_few c first h =
     let n = h.entries in
     let a = h.attempted in
@@ -35,7 +35,7 @@ counted_few c first h =
 
 -- the numbers of more entries
 pub counted_more : (c d : Confirmed) (entries first : List Issued) → d.entries ≡ c.entries + length entries → d.attempted ≡ c.attempted + attempted_by_kept entries → d.skipped ≡ c.skipped + skipped_by_kept entries
-    → IsCountOf c first → IsCountOf d (first ++ entries)
+    → CountsConfirmed c first → CountsConfirmed d (first ++ entries)
 counted_more c d entries first more attempts skips h = record {
   entries = more ∙ ap (λ (n : ℕ). n + length entries) h.entries ∙ sym (length-append first entries);
   attempted = attempts ∙ ap (λ (n : ℕ). n + attempted_by_kept entries) h.attempted ∙ sym (sum_by-append (λ (i : Issued). one_if (completes i.part)) first entries);
@@ -55,7 +55,7 @@ sum_after f first entries k = ap (λ xs. sum_by (λ (i : Issued). one_if (f i.pa
     ∙ sum_by-append (λ (i : Issued). one_if (f i.part)) first (take k entries)
 
 -- The numbers of a stop are those that the numbers of the first entries and what is kept of the others give.
-pub kept_after : (c : Confirmed) (first : List Issued) (all : List Entry) (entries : List Issued) (calls : List Ask) (i : Issued) (performed confirmed : ℕ) (r : Report) (skipped lines : ℕ) → IsCountOf c first
+pub kept_after : (c : Confirmed) (first : List Issued) (all : List Entry) (entries : List Issued) (calls : List Ask) (i : Issued) (performed confirmed : ℕ) (r : Report) (skipped lines : ℕ) → CountsConfirmed c first
     → AreKeptOf all (first ++ entries) → slice_get entries confirmed ≡ Some i → r.confirmed ≡ c.entries + confirmed → r.accesses ≡ c.entries + performed
     → r.unit ≡ i.unit → r.attempted ≡ attempted_by r.cause i.unit (c.attempted + attempted_by_kept (take performed entries)) → skipped ≡ c.skipped + skipped_by_kept (take performed entries) → lines ≡ lines_before_kept i
     → option_map (λ ask. ask.call) (slice_get calls (r.unit - 1)) ≡ Some r.what → HasNumbers all calls skipped lines r

@@ -26,9 +26,9 @@ use Rattle.batch_packer.specs.declared.ends.FlightEnd.TheVariants as ends
 use Rattle.flight_laws.specs.Ending.{EndsCut, IsCutOff, IsEnded, IsStrictAt, response_of_cause}
 use Rattle.flight_laws.proofs.EndLemmas.{flight_ends, flight_fails}
 use Rattle.flight_laws.proofs.FlightLemmas.{flight_length}
-use Rattle.packed_access.specs.Begun.{HasEnded, HasIssued, IsIssuing, StopsThere}
-use Rattle.bench_flights.specs.Flown.{BrokeOff, MayHaveFlown, WasCut}
-use Rattle.packed_access.specs.Logs.{IsCause, IsStopped, LogState, reported_by}
+use Rattle.packed_access.specs.Begun.{HasIssued, IsIssuing, LogHasEnded, StopsAfterLines}
+use Rattle.bench_flights.specs.Flown.{BrokeOff, MayHaveDonePart, WasCut}
+use Rattle.packed_access.specs.Logs.{IsCause, LogIsStopped, LogState, reported_by}
 use Rattle.packed_access.proofs.WholeLemmas.{take_first}
 use Rattle.access_regs.specs.declared.planner.Planner.{Planner}
 
@@ -98,7 +98,7 @@ module _ (p : Planner) (bench : BenchReported) (state : Option BenchState) (sent
   abbrev failed : LogState
   failed = record log { end = Some (stop.BenchFault (length log.entries) log.confirmed) }
 
-  pub bench_ends : length accesses ≤ flight_accesses bench.limits → MayHaveFlown accesses m o → IsEnded p (stop.BenchFault (length log.entries) log.confirmed) (reported_by bench state (record log { end = Some (stop.BenchFault (length log.entries) log.confirmed) }) sent got) (take log.known log.results) m0 o
+  pub bench_ends : length accesses ≤ flight_accesses bench.limits → MayHaveDonePart accesses m o → IsEnded p (stop.BenchFault (length log.entries) log.confirmed) (reported_by bench state (record log { end = Some (stop.BenchFault (length log.entries) log.confirmed) }) sent got) (take log.known log.results) m0 o
   bench_ends held broke =
       subst (λ (n : ℕ). IsEnded p (stop.BenchFault n log.confirmed) (reported_by bench state (record log { end = Some (stop.BenchFault n log.confirmed) }) sent got) (take log.known log.results) m0 o) h.count
       (flight_fails p log.confirmed log.came h.flying rest accesses (take log.known log.results) m0 m o broke.part
@@ -110,10 +110,10 @@ module _ (p : Planner) (bench : BenchReported) (state : Option BenchState) (sent
 -- what is so after an end
 pub record IsBrokenOff (p : Planner) (s : Stop) (a : AccessView) (log : LogState) (calls : List Ask) (m0 o : BenchState) : Type 0 where
   pub ended : IsEnded p s a (take log.known log.results) m0 o
-  pub stops : (n : Option ℕ) → IsLeft a n → StopsThere m0 n calls log.lines s
+  pub stops : (n : Option ℕ) → IsLeft a n → StopsAfterLines m0 n calls log.lines s
 
 module _ (p : Planner) (bench : BenchReported) (state : Option BenchState) (sent got : List ℕ) (log : LogState) (accesses : List RegAccess) (rest : List Entry) (m0 m o : BenchState) (h : IsIssuing p log accesses rest m0 m) where
-  pub broken_off : length accesses ≤ flight_accesses bench.limits → (end : FlightEnd) (s : Stop) (new : LogState) → BrokeOff end accesses m o → IsStopped end log new s → IsBrokenOff p s (reported_by bench state new sent got) new log.calls m0 o
+  pub broken_off : length accesses ≤ flight_accesses bench.limits → (end : FlightEnd) (s : Stop) (new : LogState) → BrokeOff end accesses m o → LogIsStopped end log new s → IsBrokenOff p s (reported_by bench state new sent got) new log.calls m0 o
   broken_off held (ends.Cut cut) (stop.Cut r) new broke is =
       let e = cut_ends p bench state sent got log accesses rest m0 m o h cut r new.lines new.skipped broke is.cause is.accesses is.confirmed_is is.numbers in
       subst (λ (x : LogState). IsBrokenOff p (stop.Cut r) (reported_by bench state x sent got) x log.calls m0 o) (sym is.next)
@@ -130,7 +130,7 @@ module _ (p : Planner) (bench : BenchReported) (state : Option BenchState) (sent
   broken_off held ends.ReplyBad s new broke is = absurd broke
 
 broken_where : (p : Planner) (x y : Option BenchState) (bench : BenchReported) (sent got : List ℕ) (log : LogState) (accesses : List RegAccess) (rest : List Entry) (m0 : BenchState) (end : FlightEnd) (s : Stop) (new : LogState) →
-    length accesses ≤ flight_accesses bench.limits → WhereObservable x (λ m. IsIssuing p log accesses rest m0 m) → StepsTo (λ m o. CanFly m → BrokeOff end accesses m o) x y → IsStopped end log new s →
+    length accesses ≤ flight_accesses bench.limits → WhereObservable x (λ m. IsIssuing p log accesses rest m0 m) → StepsTo (λ m o. CanFly m → BrokeOff end accesses m o) x y → LogIsStopped end log new s →
     WhereObservable y (λ o. IsBrokenOff p s (reported_by bench y new sent got) new log.calls m0 o)
 broken_where p None y bench sent got log accesses rest m0 end s new held h broke is = absurd h
 broken_where p (Some m) None bench sent got log accesses rest m0 end s new held h broke is = absurd broke
@@ -140,19 +140,19 @@ pub ended_in : (p : Planner) (y : Option BenchState) (s : Stop) (a : AccessView)
 ended_in p None s a log calls m0 h = h
 ended_in p (Some o) s a log calls m0 h = h.ended
 
-pub stops_in : (p : Planner) (y : Option BenchState) (s : Stop) (a : AccessView) (log : LogState) (calls : List Ask) (m0 : BenchState) (n : Option ℕ) → WhereObservable y (λ o. IsBrokenOff p s a log calls m0 o) → IsLeft a n → StopsThere m0 n calls log.lines s
+pub stops_in : (p : Planner) (y : Option BenchState) (s : Stop) (a : AccessView) (log : LogState) (calls : List Ask) (m0 : BenchState) (n : Option ℕ) → WhereObservable y (λ o. IsBrokenOff p s a log calls m0 o) → IsLeft a n → StopsAfterLines m0 n calls log.lines s
 stops_in p None s a log calls m0 n h left = absurd h
 stops_in p (Some o) s a log calls m0 n h left = h.stops n left
 
 -- where the bench is observable, the access has ended so
 pub has_ended : (p : Planner) (x y : Option BenchState) (bench : BenchReported) (sent got : List ℕ) (log : LogState) (accesses : List RegAccess) (rest : List Entry) (m0 : BenchState) (end : FlightEnd) (s : Stop) (new : LogState) →
-    length accesses ≤ flight_accesses bench.limits → HasIssued p x log accesses rest m0 → StepsTo (λ m o. CanFly m → BrokeOff end accesses m o) x y → IsStopped end log new s →
-    HasEnded p s (reported_by bench y new sent got) new m0
+    length accesses ≤ flight_accesses bench.limits → HasIssued p x log accesses rest m0 → StepsTo (λ m o. CanFly m → BrokeOff end accesses m o) x y → LogIsStopped end log new s →
+    LogHasEnded p s (reported_by bench y new sent got) new m0
 has_ended p x y bench sent got log accesses rest m0 end s new held h broke is = record { so = ended_in p y s (reported_by bench y new sent got) new log.calls m0 (broken_where p x y bench sent got log accesses rest m0 end s new held h.so broke is) }
 
 -- and there the calls stop
 pub stops_there : (p : Planner) (x y : Option BenchState) (bench : BenchReported) (sent got : List ℕ) (log : LogState) (accesses : List RegAccess) (rest : List Entry) (m0 : BenchState) (end : FlightEnd) (s : Stop) (new : LogState) (n : Option ℕ) →
-    length accesses ≤ flight_accesses bench.limits → HasIssued p x log accesses rest m0 → StepsTo (λ m o. CanFly m → BrokeOff end accesses m o) x y → IsStopped end log new s →
-    IsLeft (reported_by bench y new sent got) n → StopsThere m0 n log.calls new.lines s
+    length accesses ≤ flight_accesses bench.limits → HasIssued p x log accesses rest m0 → StepsTo (λ m o. CanFly m → BrokeOff end accesses m o) x y → LogIsStopped end log new s →
+    IsLeft (reported_by bench y new sent got) n → StopsAfterLines m0 n log.calls new.lines s
 stops_there p x y bench sent got log accesses rest m0 end s new n held h broke is left =
     stops_in p y s (reported_by bench y new sent got) new log.calls m0 n (broken_where p x y bench sent got log accesses rest m0 end s new held h.so broke is) left

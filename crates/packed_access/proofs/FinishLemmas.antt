@@ -31,7 +31,7 @@ use Rattle.flight_laws.specs.Ending.{StopsBy}
 use Rattle.flight_laws.specs.Flying.{IsFlying}
 use Rattle.flight_laws.specs.Sending.{IsSending}
 use Rattle.flight_laws.proofs.SendLemmas.{finish_sends}
-use Rattle.packed_access.specs.Begun.{HasBegun, HasIssued, IsGivenAt, IsIssuing, IsOpenAt, StopsThere, entries_of}
+use Rattle.packed_access.specs.Begun.{HasBegun, HasIssued, IsGivenAt, IsIssuing, IsOpenAt, StopsAfterLines, strict_entries}
 use Rattle.packed_access.specs.Logs.{LogState, reported_by}
 use Rattle.packed_access.specs.Marks.{unmarked_last, unmarked_marked}
 use Rattle.packed_access.specs.Stands.{open_flying}
@@ -93,7 +93,7 @@ module _ (p : Planner) (bench : BenchReported) (state : Option BenchState) (sent
       let i = f.issued_is in
       omega (arith, l, k, n, i)
 
-  sending_is : IsSending p (settled_last log.calls) log.confirmed log.came flying_is.flying (entries_of (length log.calls) Settles (settle kept)) accesses (take log.known log.results) m0 m
+  sending_is : IsSending p (settled_last log.calls) log.confirmed log.came flying_is.flying (strict_entries (length log.calls) Settles (settle kept)) accesses (take log.known log.results) m0 m
   sending_is =
       subst (λ (rest : List Entry). IsSending p (settled_last log.calls) log.confirmed log.came flying_is.flying rest accesses (take log.known log.results) m0 m) (settles_numbered (length log.calls) (settle kept))
       (finish_sends p (reported_by bench state log sent got) kept accesses (take log.known log.results) m0 m flying_is)
@@ -101,7 +101,7 @@ module _ (p : Planner) (bench : BenchReported) (state : Option BenchState) (sent
   own_calls : (n : ℕ) → length (issued p t0 (take n (unmarked_last (settled_last log.calls)))) ≡ length (issued p t0 (take n (unmarked_last log.calls)))
   own_calls n = ap (λ (l : List Ask). length (issued p t0 (take n l))) (unmarked_marked log.calls)
 
-  pub finish_made : IsIssuing p (record log { calls = settled_last log.calls }) accesses (entries_of (length log.calls) Settles (settle kept)) m0 m
+  pub finish_made : IsIssuing p (record log { calls = settled_last log.calls }) accesses (strict_entries (length log.calls) Settles (settle kept)) m0 m
   finish_made = record {
     flying = flying_is.flying;
     sending = sending_is;
@@ -126,17 +126,17 @@ module _ (p : Planner) (bench : BenchReported) (state : Option BenchState) (sent
 -- ---- where the bench is observable
 
 finish_where : (p : Planner) (x : Option BenchState) (bench : BenchReported) (state : Option BenchState) (sent got : List ℕ) (log : LogState) (kept : Kept) (accesses : List RegAccess) (m0 : BenchState) → WhereObservable x (λ m. IsOpenAt p log kept accesses m0 m) →
-    WhereObservable x (λ m. IsIssuing p (record log { calls = settled_last log.calls }) accesses (entries_of (length log.calls) Settles (settle kept)) m0 m)
+    WhereObservable x (λ m. IsIssuing p (record log { calls = settled_last log.calls }) accesses (strict_entries (length log.calls) Settles (settle kept)) m0 m)
 finish_where p None bench state sent got log kept accesses m0 h = h
 finish_where p (Some m) bench state sent got log kept accesses m0 h = finish_made p bench state sent got log kept accesses m0 m h
 
 -- the last call is marked
 pub begun_marked : (p : Planner) (bench : BenchReported) (state : Option BenchState) (log new : LogState) (sent got : List ℕ) (kept : Kept) (accesses : List RegAccess) (count : ℕ) (m0 : BenchState) → HasBegun p bench state log sent got kept accesses m0 → log.end ≡ None →
-    new ≡ record log { calls = settled_last log.calls } → count ≡ length new.calls → HasIssued p state new accesses (entries_of count Settles (settle kept) ++ []) m0
+    new ≡ record log { calls = settled_last log.calls } → count ≡ length new.calls → HasIssued p state new accesses (strict_entries count Settles (settle kept) ++ []) m0
 begun_marked p bench state log new sent got kept accesses count m0 h none is number =
     let counts : length log.calls ≡ count = sym (number ∙ ap (λ (l : LogState). length l.calls) is ∙ length_marked log.calls) in
-    subst (λ (l : LogState). HasIssued p state l accesses (entries_of count Settles (settle kept) ++ []) m0) (sym is)
-    (subst (λ (rest : List Entry). HasIssued p state (record log { calls = settled_last log.calls }) accesses rest m0) (ap (λ (n : ℕ). entries_of n Settles (settle kept)) counts ∙ sym (append-nil (entries_of count Settles (settle kept))))
+    subst (λ (l : LogState). HasIssued p state l accesses (strict_entries count Settles (settle kept) ++ []) m0) (sym is)
+    (subst (λ (rest : List Entry). HasIssued p state (record log { calls = settled_last log.calls }) accesses rest m0) (ap (λ (n : ℕ). strict_entries n Settles (settle kept)) counts ∙ sym (append-nil (strict_entries count Settles (settle kept))))
     (record { so = finish_where p state bench state sent got log kept accesses m0 (open_where p bench state log sent got kept accesses m0 h none) }))
 
 -- all came
@@ -155,7 +155,7 @@ finished_whole p bench' state' log new sent' got' m0 n there calls none came lef
     sym (stop_marked (world_from m0 n) log.calls) ∙ ap (stop (world_from m0 n)) (sym calls) ∙ none_stopped p bench' state' new sent' got' [] m0 n there refl none came left
 
 -- At a cut the calls stop, or it came in the settling.
-pub stops_finished : (m0 : BenchState) (n : Option ℕ) (calls marked : List Ask) (lines : ℕ) (s : Stop) → marked ≡ settled_last calls → StopsThere m0 n marked lines s → StopsSettling (world_from m0 n) calls lines s
+pub stops_finished : (m0 : BenchState) (n : Option ℕ) (calls marked : List Ask) (lines : ℕ) (s : Stop) → marked ≡ settled_last calls → StopsAfterLines m0 n marked lines s → StopsSettling (world_from m0 n) calls lines s
 stops_finished m0 n calls marked lines (stops.Cut r) is h = record { so = by_cause r.cause h.so }
   where
     same : stop (world_from m0 n) calls ≡ stop (world_from m0 n) marked

@@ -4,8 +4,8 @@ use Rattle.probe_core.specs.Bench.{BenchState}
 use Rattle.probe_core.specs.Bench.{Reported as BenchReported}
 use Rattle.probe_core.proofs.StateSteps.{runs_self}
 use Rattle.target_calls.specs.World.{AtLeast}
-use Rattle.access_calls.specs.Causes.{EndedBy, code_of_cause}
-use Rattle.access_calls.specs.GoesOn.{GoesOn, StaysEnded}
+use Rattle.access_calls.specs.Causes.{HasStopCause, code_of_cause}
+use Rattle.access_calls.specs.GoesOn.{AccessGoesOn, StaysEnded}
 use Rattle.access_calls.specs.Left.{IsLeftAt, IsLeftCut}
 use Rattle.access_calls.specs.Reported.{AccessView}
 use Rattle.access_calls.specs.declared.stop.Stop.{Stop}
@@ -31,9 +31,9 @@ left_cut NoAnswer n lines came k same le left = subst (λ (x : Option ℕ). AtLe
 -- ---- a flight that came
 
 pub goes_sent : (b b' : BenchReported) (x y : Option BenchState) (old new : LogState) (packet reply packet' reply' : List ℕ) (values : List (Option ℕ)) → BenchGoesOn b b' x y → b'.faults ≡ b.faults →
-    old.end ≡ None → old.known ≤ old.whole → old.came ≤ old.whole → new ≡ all_confirmed (all_taken values old) → GoesOn (reported_by b x old packet reply) (reported_by b' y new packet' reply')
+    old.end ≡ None → old.known ≤ old.whole → old.came ≤ old.whole → new ≡ all_confirmed (all_taken values old) → AccessGoesOn (reported_by b x old packet reply) (reported_by b' y new packet' reply')
 goes_sent b b' x y old new packet reply packet' reply' values goes faults none known came is =
-    subst (λ (l : LogState). GoesOn (reported_by b x old packet reply) (reported_by b' y l packet' reply')) (sym is)
+    subst (λ (l : LogState). AccessGoesOn (reported_by b x old packet reply) (reported_by b' y l packet' reply')) (sym is)
     (record {
       limits = goes.limits;
       faults = goes.faults;
@@ -42,7 +42,7 @@ goes_sent b b' x y old new packet reply packet' reply' values goes faults none k
       known = known;
       left = λ n left. record { so = left_open old.end old.lines old.came n none (least_less n old.came old.whole came (subst (λ (e : Option Stop). IsLeftAt e old.lines old.whole n) none left.so)) };
       ended = subst (λ (e : Option Stop). StaysEnded (reported_by b x old packet reply) (reported_by b' y (all_confirmed (all_taken values old)) packet' reply') e) (sym none)
-          (subst (λ (e : Option Stop). EndedBy (reported_by b x old packet reply) (reported_by b' y (all_confirmed (all_taken values old)) packet' reply') e) (sym none) faults);
+          (subst (λ (e : Option Stop). HasStopCause (reported_by b x old packet reply) (reported_by b' y (all_confirmed (all_taken values old)) packet' reply') e) (sym none) faults);
     })
 
 -- ---- an end
@@ -59,7 +59,7 @@ module _ (b b' : BenchReported) (x y : Option BenchState) (old : LogState) (pack
 -- ---- nothing is sent
 
 -- where what is asked and issued changes alone, while there is no end
-pub goes_still : (b : BenchReported) (x : Option BenchState) (old new : LogState) (packet reply packet' reply' : List ℕ) → old.end ≡ None → new.end ≡ None → new.came ≡ old.came → new.known ≡ old.known → GoesOn (reported_by b x old packet reply) (reported_by b x new packet' reply')
+pub goes_still : (b : BenchReported) (x : Option BenchState) (old new : LogState) (packet reply packet' reply' : List ℕ) → old.end ≡ None → new.end ≡ None → new.came ≡ old.came → new.known ≡ old.known → AccessGoesOn (reported_by b x old packet reply) (reported_by b x new packet' reply')
 goes_still b x old new packet reply packet' reply' none none' came known = record {
   limits = refl;
   faults = omega arith;
@@ -68,11 +68,11 @@ goes_still b x old new packet reply packet' reply' none none' came known = recor
   known = omega (arith, known);
   left = λ n left. record { so = left_open old.end old.lines old.came n none (subst (λ (k : ℕ). AtLeast k n) came (subst (λ (e : Option Stop). IsLeftAt e new.lines new.came n) none' left.so)) };
   ended = subst (λ (e : Option Stop). StaysEnded (reported_by b x old packet reply) (reported_by b x new packet' reply') e) (sym none)
-      (subst (λ (e : Option Stop). EndedBy (reported_by b x old packet reply) (reported_by b x new packet' reply') e) (sym none') refl);
+      (subst (λ (e : Option Stop). HasStopCause (reported_by b x old packet reply) (reported_by b x new packet' reply') e) (sym none') refl);
 }
 
 -- where calls came while there is no end
-pub goes_later : (b : BenchReported) (x : Option BenchState) (old new : LogState) (packet reply packet' reply' : List ℕ) → old.end ≡ None → new.end ≡ None → old.came ≤ new.came → old.known ≤ new.known → GoesOn (reported_by b x old packet reply) (reported_by b x new packet' reply')
+pub goes_later : (b : BenchReported) (x : Option BenchState) (old new : LogState) (packet reply packet' reply' : List ℕ) → old.end ≡ None → new.end ≡ None → old.came ≤ new.came → old.known ≤ new.known → AccessGoesOn (reported_by b x old packet reply) (reported_by b x new packet' reply')
 goes_later b x old new packet reply packet' reply' none none' came known = record {
   limits = refl;
   faults = omega arith;
@@ -81,5 +81,5 @@ goes_later b x old new packet reply packet' reply' none none' came known = recor
   known = known;
   left = λ n left. record { so = left_open old.end old.lines old.came n none (least_less n old.came new.came came (subst (λ (e : Option Stop). IsLeftAt e new.lines new.came n) none' left.so)) };
   ended = subst (λ (e : Option Stop). StaysEnded (reported_by b x old packet reply) (reported_by b x new packet' reply') e) (sym none)
-      (subst (λ (e : Option Stop). EndedBy (reported_by b x old packet reply) (reported_by b x new packet' reply') e) (sym none') refl);
+      (subst (λ (e : Option Stop). HasStopCause (reported_by b x old packet reply) (reported_by b x new packet' reply') e) (sym none') refl);
 }

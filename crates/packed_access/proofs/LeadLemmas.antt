@@ -15,7 +15,7 @@ use Rattle.access_regs.specs.Journal.{Step, is_early, is_end, is_last, making, s
 use Rattle.access_regs.specs.Kept.{Kept}
 use Rattle.access_regs.specs.declared.planner.Planner.{Planner}
 use Rattle.flight_laws.specs.Forgiving.{steps_of_unit}
-use Rattle.packed_access.specs.Forgiving.{HasForgiven, HasTried, IsForgiven, IsNext, WentTo}
+use Rattle.packed_access.specs.Forgiving.{AreNextAccesses, HasForgiven, IsForgiven, LogHasTried, WentTo}
 use Rattle.packed_access.specs.Logs.{LogState}
 use Rattle.packed_access.proofs.BegunLemmas.{where_same}
 use Rattle.packed_access.proofs.TryMemoryLemmas.{early_at}
@@ -54,7 +54,7 @@ none_mid u (x ∷ front) lead back h = none_mid (acted u (Makes x)).next front l
 
 -- ---- one by one
 
-module _ (asked : AccessUnit) (t : TargetState) (made leads : List RegAccess) (last : RegAccess) (ends : Bool) (rest more : List Action) (n : IsNext asked t made leads last ends rest more) where
+module _ (asked : AccessUnit) (t : TargetState) (made leads : List RegAccess) (last : RegAccess) (ends : Bool) (rest more : List Action) (n : AreNextAccesses asked t made leads last ends rest more) where
   quiet_made : list_any (is_end asked) (making made) ≡ false
   quiet_made = not-true (list_any (is_end asked) (making made)) n.first
 
@@ -72,7 +72,7 @@ module _ (asked : AccessUnit) (t : TargetState) (made leads : List RegAccess) (l
     early_now : is_early asked (making (made ++ front)) ≡ true
     early_now = early_at asked made front false quiet_made (quiet_front asked front (lead ∷ back) quiet_here)
 
-    pub lead_next : IsNext asked t (made ++ front) [] lead false (making ((lead ∷ back) ++ last ∷ []) ++ more) (making (back ++ last ∷ []) ++ more)
+    pub lead_next : AreNextAccesses asked t (made ++ front) [] lead false (making ((lead ∷ back) ++ last ∷ []) ++ more) (making (back ++ last ∷ []) ++ more)
     lead_next = record {
       may = n.may;
       first = early_now;
@@ -99,7 +99,7 @@ module _ (asked : AccessUnit) (t : TargetState) (made leads : List RegAccess) (l
     }
 
   -- the last of all
-  pub last_next : IsNext asked t (made ++ leads) [] last ends (Makes last ∷ more) more
+  pub last_next : AreNextAccesses asked t (made ++ leads) [] last ends (Makes last ∷ more) more
   last_next = record {
     may = n.may;
     first = early_at asked made leads false quiet_made quiet_all;
@@ -112,15 +112,15 @@ module _ (asked : AccessUnit) (t : TargetState) (made leads : List RegAccess) (l
 -- ---- what they came to
 
 -- one more came
-pub lead_came : (p : Planner) (forgive : Bool) (x : Option BenchState) (log : LogState) (asked : AccessUnit) (k : Kept) (t : TargetState) (made front : List RegAccess) (lead : RegAccess) (more : List Action) (m0 : BenchState) → HasTried p forgive x log asked k t ((made ++ front) ++ ([] ++ lead ∷ [])) more m0 →
-    HasTried p forgive x log asked k t (made ++ (front ++ lead ∷ [])) more m0
-lead_came p forgive x log asked k t made front lead more m0 h = subst (λ (l : List RegAccess). HasTried p forgive x log asked k t l more m0) (append_assoc made front (lead ∷ [])) h
+pub lead_came : (p : Planner) (forgive : Bool) (x : Option BenchState) (log : LogState) (asked : AccessUnit) (k : Kept) (t : TargetState) (made front : List RegAccess) (lead : RegAccess) (more : List Action) (m0 : BenchState) → LogHasTried p forgive x log asked k t ((made ++ front) ++ ([] ++ lead ∷ [])) more m0 →
+    LogHasTried p forgive x log asked k t (made ++ (front ++ lead ∷ [])) more m0
+lead_came p forgive x log asked k t made front lead more m0 h = subst (λ (l : List RegAccess). LogHasTried p forgive x log asked k t l more m0) (append_assoc made front (lead ∷ [])) h
 
 -- all of them, and then the last
 pub all_went : (p : Planner) (forgive : Bool) (w : Option ℕ) (x : Option BenchState) (log : LogState) (asked : AccessUnit) (k : Kept) (t : TargetState) (made leads : List RegAccess) (last : RegAccess) (more : List Action) (m0 : BenchState) → WentTo p forgive w x log asked k t (made ++ leads) [] last more m0 →
     WentTo p forgive w x log asked k t made leads last more m0
 all_went p forgive None x log asked k t made leads last more m0 h = subst (λ (l : List RegAccess). HasForgiven p forgive x log asked k t l last m0) (append-nil (made ++ leads)) h
 all_went p forgive (Some v) x log asked k t made leads last more m0 h = (
-  subst (λ (l : List RegAccess). HasTried p forgive x log asked k t l more m0) (append_assoc made leads (last ∷ [])) h.0,
+  subst (λ (l : List RegAccess). LogHasTried p forgive x log asked k t l more m0) (append_assoc made leads (last ∷ [])) h.0,
   h.1 ∙ ap (λ (l : List RegAccess). given (acted (after t (making l)) (Makes last)).outcome) (append-nil (made ++ leads)),
 )

@@ -33,9 +33,9 @@ use Rattle.flight_laws.proofs.EndLemmas.{action_fails, flight_fails, later_there
 use Rattle.flight_laws.proofs.SendLemmas.{action_sends}
 use Rattle.flight_forms.specs.Flights.{Part}
 use Rattle.dap_messages.specs.declared.request.Response.TheVariants.{Good, Mismatch}
-use Rattle.packed_access.specs.Begun.{HasEnded, HasIssued, IsIssuing, StopsThere, most_weight}
-use Rattle.bench_flights.specs.Flown.{CanCount, DidLess, HasDone, LeftOff, NamesNone, WasUnanswered}
-use Rattle.packed_access.specs.Logs.{IsCause, IsLogCut, IsStopped, LogState, reported_by, with_entry}
+use Rattle.packed_access.specs.Begun.{HasIssued, IsIssuing, LogHasEnded, StopsAfterLines, most_weight}
+use Rattle.bench_flights.specs.Flown.{CanCount, DidLess, HasDoneWhole, LeftActionOff, NamesNoAccess, WasUnanswered}
+use Rattle.packed_access.specs.Logs.{IsCause, IsLogCut, LogIsStopped, LogState, log_with_entry, reported_by}
 use Rattle.packed_access.proofs.ActionLemmas.{at_rest, at_rest_count}
 use Rattle.packed_access.proofs.EndLemmas.{IsBrokenOff, ended_in, numbers_longer, stops_in}
 use Rattle.packed_access.proofs.PushLemmas.{take_more}
@@ -96,7 +96,7 @@ module _ (p : Planner) (bench : BenchReported) (state : Option BenchState) (sent
   module _ (cut : Cut) (r : Report) (lines skipped : ℕ) (w : WasUnanswered e.action m o) (cause : r.cause ≡ NoAnswer) (accesses_are : r.accesses ≡ log.confirmed + cut.performed) (confirmed_are : r.confirmed ≡ log.confirmed + cut.confirmed)
       (none : (cut.performed ≡ 0) × (cut.confirmed ≡ 0)) (numbers : (all : List Entry) → AreKeptOf all (log.entries ++ kept_of e ∷ []) → HasNumbers all log.calls skipped lines r) where
     abbrev b : AccessView
-    b = reported_by bench state (record (with_entry log (kept_of e)) { end = Some (stop.Cut r); came = lines; lines = lines; skipped = skipped }) sent got
+    b = reported_by bench state (record (log_with_entry log (kept_of e)) { end = Some (stop.Cut r); came = lines; lines = lines; skipped = skipped }) sent got
 
     cut_off : IsCutOff p r b m0
     cut_off = record {
@@ -114,9 +114,9 @@ module _ (p : Planner) (bench : BenchReported) (state : Option BenchState) (sent
   abbrev failed : Stop
   failed = stop.BenchFault (log.confirmed + 1) log.confirmed
 
-  pub less_done : DidLess e.action m o → IsEnded p (stop.BenchFault (log.confirmed + 1) log.confirmed) (reported_by bench state (record (with_entry log (kept_of e)) { end = Some (stop.BenchFault (log.confirmed + 1) log.confirmed) }) sent got) (take log.known log.results) m0 o
+  pub less_done : DidLess e.action m o → IsEnded p (stop.BenchFault (log.confirmed + 1) log.confirmed) (reported_by bench state (record (log_with_entry log (kept_of e)) { end = Some (stop.BenchFault (log.confirmed + 1) log.confirmed) }) sent got) (take log.known log.results) m0 o
   less_done d = action_fails p log.confirmed log.came e rest (take log.known log.results) m0 m o d.work
-      (reported_by bench state (record (with_entry log (kept_of e)) { end = Some (stop.BenchFault (log.confirmed + 1) log.confirmed) }) sent got)
+      (reported_by bench state (record (log_with_entry log (kept_of e)) { end = Some (stop.BenchFault (log.confirmed + 1) log.confirmed) }) sent got)
       rest_is (d.work_is counts) d.less d.target d.idle_cycles (record { end = refl; came = refl })
 
   unforgiven : is_fault (acted (target_of m.probe) e.action).outcome ≡ false → is_unforgiven (target_of m.probe) e ≡ false
@@ -135,17 +135,17 @@ module _ (p : Planner) (bench : BenchReported) (state : Option BenchState) (sent
   alone : AreTogether bench.limits (drop log.confirmed (take (log.confirmed + 1) (issued p (target_of m0.probe) log.calls)))
   alone = inr (ap (λ (n : ℕ). length (drop n (take (n + 1) (issued p (target_of m0.probe) log.calls)))) (sym rest_is.confirmed_is) ∙ ap length (between (issued p (target_of m0.probe) log.calls) rest_is.made (e ∷ []) rest seam))
 
-  pub all_done : (word : ℕ) → HasDone e.action word m o → weight (target_of m.probe) e.action ≤ most_weight → length log.entries < 2 ^ 32 →
-      IsEnded p (stop.BenchFault (log.confirmed + 1) log.confirmed) (reported_by bench state (record (with_entry log (kept_of e)) { end = Some (stop.BenchFault (log.confirmed + 1) log.confirmed) }) sent got) (take log.known log.results) m0 o
+  pub all_done : (word : ℕ) → HasDoneWhole e.action word m o → weight (target_of m.probe) e.action ≤ most_weight → length log.entries < 2 ^ 32 →
+      IsEnded p (stop.BenchFault (log.confirmed + 1) log.confirmed) (reported_by bench state (record (log_with_entry log (kept_of e)) { end = Some (stop.BenchFault (log.confirmed + 1) log.confirmed) }) sent got) (take log.known log.results) m0 o
   all_done word d light bounded =
       let room : work_of o.probe < 2 ^ 64 = (let f = h.few in let w = (d.does counts).work in omega (arith, f, w, light, bounded)) in
       let sent_is : IsSending p log.calls (log.confirmed + 1) log.came [] rest [] (take log.known log.results) m0 o = action_sends p log.calls log.confirmed log.came e rest (take log.known log.results) m0 m o rest_is (d.does counts) (unforgiven d.good) room in
       let more : (log.confirmed + 1) + 0 ≡ log.confirmed + 1 = omega arith in
-      fewer_confirmed p bench state sent got (with_entry log (kept_of e)) (log.confirmed + 1) (log.confirmed + 1) log.confirmed (take log.known log.results) m0 o (omega arith) alone
+      fewer_confirmed p bench state sent got (log_with_entry log (kept_of e)) (log.confirmed + 1) (log.confirmed + 1) log.confirmed (take log.known log.results) m0 o (omega arith) alone
       (later_there p log.calls log.confirmed log.came [] (e ∷ rest) [] (take log.known log.results) m0 m rest_is)
-      (subst (λ (n : ℕ). IsEnded p (stop.BenchFault n (log.confirmed + 1)) (reported_by bench state (record (with_entry log (kept_of e)) { end = Some (stop.BenchFault n (log.confirmed + 1)) }) sent got) (take log.known log.results) m0 o) more
+      (subst (λ (n : ℕ). IsEnded p (stop.BenchFault n (log.confirmed + 1)) (reported_by bench state (record (log_with_entry log (kept_of e)) { end = Some (stop.BenchFault n (log.confirmed + 1)) }) sent got) (take log.known log.results) m0 o) more
       (flight_fails p (log.confirmed + 1) log.came [] rest [] (take log.known log.results) m0 o o nothing
-      (reported_by bench state (record (with_entry log (kept_of e)) { end = Some (stop.BenchFault ((log.confirmed + 1) + 0) (log.confirmed + 1)) }) sent got)
+      (reported_by bench state (record (log_with_entry log (kept_of e)) { end = Some (stop.BenchFault ((log.confirmed + 1) + 0) (log.confirmed + 1)) }) sent got)
       sent_is (inl refl) refl never_good (omega arith) (record { end = refl; came = refl })))
 
 -- ---- any end
@@ -159,12 +159,12 @@ module _ (p : Planner) (bench : BenchReported) (state : Option BenchState) (sent
   counts : CanCount e.action m
   counts = (let f = h.few in omega (arith, f, light, bounded))
 
-  bench_failed : HasDone e.action (given (acted (target_of m.probe) e.action).outcome) m o ⊎ DidLess e.action m o →
-      IsEnded p (stop.BenchFault (log.confirmed + 1) log.confirmed) (reported_by bench state (record (with_entry log (kept_of e)) { end = Some (stop.BenchFault (log.confirmed + 1) log.confirmed) }) sent got) (take log.known log.results) m0 o
+  bench_failed : HasDoneWhole e.action (given (acted (target_of m.probe) e.action).outcome) m o ⊎ DidLess e.action m o →
+      IsEnded p (stop.BenchFault (log.confirmed + 1) log.confirmed) (reported_by bench state (record (log_with_entry log (kept_of e)) { end = Some (stop.BenchFault (log.confirmed + 1) log.confirmed) }) sent got) (take log.known log.results) m0 o
   bench_failed (inl d) = all_done p bench state sent got log e rest m0 m o h counts (given (acted (target_of m.probe) e.action).outcome) d light bounded
   bench_failed (inr d) = less_done p bench state sent got log e rest m0 m o h counts d
 
-  pub left_off : (end : FlightEnd) (s : Stop) (new : LogState) → LeftOff e.action end m o → NamesNone end → IsStopped end (with_entry log (kept_of e)) new s → IsBrokenOff p s (reported_by bench state new sent got) new log.calls m0 o
+  pub left_off : (end : FlightEnd) (s : Stop) (new : LogState) → LeftActionOff e.action end m o → NamesNoAccess end → LogIsStopped end (log_with_entry log (kept_of e)) new s → IsBrokenOff p s (reported_by bench state new sent got) new log.calls m0 o
   left_off (ends.Cut cut) (stop.Cut r) new left none is =
       let c = poll_cut p bench state sent got log e rest m0 m o h counts cut r new.lines new.skipped left.1 (no_fault cut.response r.cause is.cause left.0) is.accesses is.confirmed_is none is.numbers in
       subst (λ (x : LogState). IsBrokenOff p (stop.Cut r) (reported_by bench state x sent got) x log.calls m0 o) (sym is.next)
@@ -175,15 +175,15 @@ module _ (p : Planner) (bench : BenchReported) (state : Option BenchState) (sent
   left_off ends.BenchFault s new left none is =
       let count : length (log.entries ++ kept_of e ∷ []) ≡ log.confirmed + 1 = (let n = length-append log.entries (kept_of e ∷ []) in let k = at_rest_count p log (e ∷ rest) m0 m h in omega (arith, n, k)) in
       let at : s ≡ stop.BenchFault (log.confirmed + 1) log.confirmed = is.0 ∙ ap (λ (n : ℕ). stop.BenchFault n log.confirmed) count in
-      let ended_at : IsBrokenOff p (stop.BenchFault (log.confirmed + 1) log.confirmed) (reported_by bench state (record (with_entry log (kept_of e)) { end = Some (stop.BenchFault (log.confirmed + 1) log.confirmed) }) sent got)
-      (record (with_entry log (kept_of e)) { end = Some (stop.BenchFault (log.confirmed + 1) log.confirmed) }) log.calls m0 o =
+      let ended_at : IsBrokenOff p (stop.BenchFault (log.confirmed + 1) log.confirmed) (reported_by bench state (record (log_with_entry log (kept_of e)) { end = Some (stop.BenchFault (log.confirmed + 1) log.confirmed) }) sent got)
+      (record (log_with_entry log (kept_of e)) { end = Some (stop.BenchFault (log.confirmed + 1) log.confirmed) }) log.calls m0 o =
       record { ended = bench_failed left; stops = λ n left. record { so = tt } } in
       subst (λ (x : LogState). IsBrokenOff p s (reported_by bench state x sent got) x log.calls m0 o) (sym is.1)
-      (subst (λ (z : Stop). IsBrokenOff p z (reported_by bench state (record (with_entry log (kept_of e)) { end = Some z }) sent got) (record (with_entry log (kept_of e)) { end = Some z }) log.calls m0 o) (sym at) ended_at)
+      (subst (λ (z : Stop). IsBrokenOff p z (reported_by bench state (record (log_with_entry log (kept_of e)) { end = Some z }) sent got) (record (log_with_entry log (kept_of e)) { end = Some z }) log.calls m0 o) (sym at) ended_at)
   left_off ends.ReplyBad s new left none is = absurd left
 
 left_where : (p : Planner) (x y : Option BenchState) (bench : BenchReported) (sent got : List ℕ) (log : LogState) (e : Entry) (rest : List Entry) (m0 : BenchState) (end : FlightEnd) (s : Stop) (new : LogState) →
-    WhereObservable x (λ m. IsIssuing p log [] (e ∷ rest) m0 m) → StepsTo (λ m o. CanFly m → LeftOff e.action end m o) x y → ((m : BenchState) → weight (target_of m.probe) e.action ≤ most_weight) → length log.entries < 2 ^ 32 → NamesNone end → IsStopped end (with_entry log (kept_of e)) new s →
+    WhereObservable x (λ m. IsIssuing p log [] (e ∷ rest) m0 m) → StepsTo (λ m o. CanFly m → LeftActionOff e.action end m o) x y → ((m : BenchState) → weight (target_of m.probe) e.action ≤ most_weight) → length log.entries < 2 ^ 32 → NamesNoAccess end → LogIsStopped end (log_with_entry log (kept_of e)) new s →
     WhereObservable y (λ o. IsBrokenOff p s (reported_by bench y new sent got) new log.calls m0 o)
 left_where p None y bench sent got log e rest m0 end s new h broke light bounded none is = absurd h
 left_where p (Some m) None bench sent got log e rest m0 end s new h broke light bounded none is = absurd broke
@@ -191,14 +191,14 @@ left_where p (Some m) (Some o) bench sent got log e rest m0 end s new h broke li
 
 -- where the bench is observable, the access has ended so
 pub has_left : (p : Planner) (x y : Option BenchState) (bench : BenchReported) (sent got : List ℕ) (log : LogState) (e : Entry) (rest : List Entry) (m0 : BenchState) (end : FlightEnd) (s : Stop) (new : LogState) →
-    HasIssued p x log [] (e ∷ rest) m0 → StepsTo (λ m o. CanFly m → LeftOff e.action end m o) x y → ((m : BenchState) → weight (target_of m.probe) e.action ≤ most_weight) → length log.entries < 2 ^ 32 → NamesNone end → IsStopped end (with_entry log (kept_of e)) new s →
-    HasEnded p s (reported_by bench y new sent got) new m0
+    HasIssued p x log [] (e ∷ rest) m0 → StepsTo (λ m o. CanFly m → LeftActionOff e.action end m o) x y → ((m : BenchState) → weight (target_of m.probe) e.action ≤ most_weight) → length log.entries < 2 ^ 32 → NamesNoAccess end → LogIsStopped end (log_with_entry log (kept_of e)) new s →
+    LogHasEnded p s (reported_by bench y new sent got) new m0
 has_left p x y bench sent got log e rest m0 end s new h broke light bounded none is =
     record { so = ended_in p y s (reported_by bench y new sent got) new log.calls m0 (left_where p x y bench sent got log e rest m0 end s new h.so broke light bounded none is) }
 
 -- and there the calls stop
 pub stops_left : (p : Planner) (x y : Option BenchState) (bench : BenchReported) (sent got : List ℕ) (log : LogState) (e : Entry) (rest : List Entry) (m0 : BenchState) (end : FlightEnd) (s : Stop) (new : LogState) (n : Option ℕ) →
-    HasIssued p x log [] (e ∷ rest) m0 → StepsTo (λ m o. CanFly m → LeftOff e.action end m o) x y → ((m : BenchState) → weight (target_of m.probe) e.action ≤ most_weight) → length log.entries < 2 ^ 32 → NamesNone end → IsStopped end (with_entry log (kept_of e)) new s →
-    IsLeft (reported_by bench y new sent got) n → StopsThere m0 n log.calls new.lines s
+    HasIssued p x log [] (e ∷ rest) m0 → StepsTo (λ m o. CanFly m → LeftActionOff e.action end m o) x y → ((m : BenchState) → weight (target_of m.probe) e.action ≤ most_weight) → length log.entries < 2 ^ 32 → NamesNoAccess end → LogIsStopped end (log_with_entry log (kept_of e)) new s →
+    IsLeft (reported_by bench y new sent got) n → StopsAfterLines m0 n log.calls new.lines s
 stops_left p x y bench sent got log e rest m0 end s new n h broke light bounded none is left =
     stops_in p y s (reported_by bench y new sent got) new log.calls m0 n (left_where p x y bench sent got log e rest m0 end s new h.so broke light bounded none is) left

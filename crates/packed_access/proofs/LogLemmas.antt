@@ -14,9 +14,9 @@ use Rattle.access_calls.specs.Numbers.{HasNumbers, StopNumbers, lines_at}
 use Rattle.access_calls.specs.declared.issued.Issued.{Issued}
 use Rattle.access_calls.specs.declared.stop.Report.{Report}
 use Rattle.access_calls.specs.declared.stop.Stop.{Stop}
-use Rattle.packed_access.specs.Counted.{IsCountOf}
+use Rattle.packed_access.specs.Counted.{CountsConfirmed}
 use Rattle.packed_access.specs.declared.confirmed.Confirmed.{Confirmed}
-use Rattle.packed_access.specs.Logs.{IsOfCall, IsSoundLog, IsSoundState, most_entries}
+use Rattle.packed_access.specs.Logs.{IsOfCall, IsSoundSenderLog, IsSoundState, most_entries}
 
 -- a mark changes no call
 pub marked_sound : (calls : List Ask) → AllByRecursion (λ ask. IsSoundCall ask.call) calls → AllByRecursion (λ ask. IsSoundCall ask.call) (settled_last calls)
@@ -106,8 +106,8 @@ sound_both (c ∷ calls) ask h s = (h.0, sound_both calls ask h.1 s)
 
 -- one more call was asked
 pub sound_asked : (calls : List Ask) (results places : List ℕ) (room : ℕ) (entries : List Issued) (confirmed whole came known fence : ℕ) (end : Option Stop) (calls_gone places_gone memory : ℕ) (counted : Confirmed) (calls' : List Ask) (results' places' : List ℕ) (memory' : ℕ) (ask : Ask) →
-    IsSoundLog calls results places room entries confirmed whole came known fence end calls_gone places_gone memory counted → calls' ≡ calls ++ ask ∷ [] → results' ≡ results ++ 0 ∷ [] → places' ≡ places ++ 0 ∷ [] → memory ≤ memory' →
-    IsSoundCall ask.call → length calls < 10000000 → IsSoundLog calls' results' places' room entries confirmed whole came known fence end calls_gone places_gone memory' counted
+    IsSoundSenderLog calls results places room entries confirmed whole came known fence end calls_gone places_gone memory counted → calls' ≡ calls ++ ask ∷ [] → results' ≡ results ++ 0 ∷ [] → places' ≡ places ++ 0 ∷ [] → memory ≤ memory' →
+    IsSoundCall ask.call → length calls < 10000000 → IsSoundSenderLog calls' results' places' room entries confirmed whole came known fence end calls_gone places_gone memory' counted
 sound_asked calls results places room entries confirmed whole came known fence end calls_gone places_gone memory counted calls' results' places' memory' ask h calls_are results_are places_are longer sound few =
     let n : length calls' ≡ length calls + 1 = ap length calls_are ∙ length-append calls (ask ∷ []) in
     let r : length results' ≡ length results + 1 = ap length results_are ∙ length-append results (0 ∷ []) in
@@ -135,8 +135,8 @@ sound_asked calls results places room entries confirmed whole came known fence e
     }
 
 -- more room was taken
-pub sound_roomy : (calls : List Ask) (results places : List ℕ) (room : ℕ) (entries : List Issued) (confirmed whole came known fence : ℕ) (end : Option Stop) (calls_gone places_gone memory : ℕ) (counted : Confirmed) (room' memory' : ℕ) → IsSoundLog calls results places room entries confirmed whole came known fence end calls_gone places_gone memory counted → room ≤ room' → room' ≤ memory' →
-    IsSoundLog calls results places room' entries confirmed whole came known fence end calls_gone places_gone memory' counted
+pub sound_roomy : (calls : List Ask) (results places : List ℕ) (room : ℕ) (entries : List Issued) (confirmed whole came known fence : ℕ) (end : Option Stop) (calls_gone places_gone memory : ℕ) (counted : Confirmed) (room' memory' : ℕ) → IsSoundSenderLog calls results places room entries confirmed whole came known fence end calls_gone places_gone memory counted → room ≤ room' → room' ≤ memory' →
+    IsSoundSenderLog calls results places room' entries confirmed whole came known fence end calls_gone places_gone memory' counted
 sound_roomy calls results places room entries confirmed whole came known fence end calls_gone places_gone memory counted room' memory' h longer taken =
     record {
       few = h.few;
@@ -161,14 +161,14 @@ sound_roomy calls results places room entries confirmed whole came known fence e
     }
 
 -- both, of lists that are as long gone as before
-pub sound_taken : (calls : List Ask) (results places : List ℕ) (room : ℕ) (entries : List Issued) (confirmed whole came known fence : ℕ) (end : Option Stop) (calls_gone places_gone memory : ℕ) (counted : Confirmed) (calls' : List Ask) (results' places' : List ℕ) (room' : ℕ) (entries' : List Issued) (confirmed' calls_gone' places_gone' memory' : ℕ) (ask : Ask) → IsSoundLog calls results places room entries confirmed whole came known fence end calls_gone places_gone memory counted →
+pub sound_taken : (calls : List Ask) (results places : List ℕ) (room : ℕ) (entries : List Issued) (confirmed whole came known fence : ℕ) (end : Option Stop) (calls_gone places_gone memory : ℕ) (counted : Confirmed) (calls' : List Ask) (results' places' : List ℕ) (room' : ℕ) (entries' : List Issued) (confirmed' calls_gone' places_gone' memory' : ℕ) (ask : Ask) → IsSoundSenderLog calls results places room entries confirmed whole came known fence end calls_gone places_gone memory counted →
     calls' ≡ calls ++ ask ∷ [] → results' ≡ results ++ 0 ∷ [] → places' ≡ places ++ 0 ∷ [] → room ≤ room' → room' ≤ memory' → entries' ≡ entries → confirmed' ≡ confirmed → calls_gone' ≡ calls_gone → places_gone' ≡ places_gone →
-    IsSoundCall ask.call → length calls < 10000000 → IsSoundLog calls' results' places' room' entries' confirmed' whole came known fence end calls_gone' places_gone' memory' counted
+    IsSoundCall ask.call → length calls < 10000000 → IsSoundSenderLog calls' results' places' room' entries' confirmed' whole came known fence end calls_gone' places_gone' memory' counted
 sound_taken calls results places room entries confirmed whole came known fence end calls_gone places_gone memory counted calls' results' places' room' entries' confirmed' calls_gone' places_gone' memory' ask h calls_are results_are places_are longer taken same settled gone left sound few =
-    subst (λ (l : List Issued). IsSoundLog calls' results' places' room' l confirmed' whole came known fence end calls_gone' places_gone' memory' counted) (sym same)
-    (subst (λ (k : ℕ). IsSoundLog calls' results' places' room' entries k whole came known fence end calls_gone' places_gone' memory' counted) (sym settled)
-    (subst (λ (k : ℕ). IsSoundLog calls' results' places' room' entries confirmed whole came known fence end k places_gone' memory' counted) (sym gone)
-    (subst (λ (k : ℕ). IsSoundLog calls' results' places' room' entries confirmed whole came known fence end calls_gone k memory' counted) (sym left)
+    subst (λ (l : List Issued). IsSoundSenderLog calls' results' places' room' l confirmed' whole came known fence end calls_gone' places_gone' memory' counted) (sym same)
+    (subst (λ (k : ℕ). IsSoundSenderLog calls' results' places' room' entries k whole came known fence end calls_gone' places_gone' memory' counted) (sym settled)
+    (subst (λ (k : ℕ). IsSoundSenderLog calls' results' places' room' entries confirmed whole came known fence end k places_gone' memory' counted) (sym gone)
+    (subst (λ (k : ℕ). IsSoundSenderLog calls' results' places' room' entries confirmed whole came known fence end calls_gone k memory' counted) (sym left)
     (sound_asked calls results places room' entries confirmed whole came known fence end calls_gone places_gone memory' counted calls' results' places' memory' ask
     (sound_roomy calls results places room entries confirmed whole came known fence end calls_gone places_gone memory counted room' memory' h longer taken) calls_are results_are places_are (omega arith) sound few))))
 
@@ -189,9 +189,9 @@ take_within (suc n) [] i le = absurd (omega (arith, le))
 take_within (suc n) (e ∷ entries) i le = ap (λ (l : List Issued). e ∷ l) (take_within n entries i (omega (arith, le)))
 
 -- one more entry was issued
-pub sound_issued : (calls : List Ask) (results places : List ℕ) (room : ℕ) (entries : List Issued) (confirmed whole came known fence : ℕ) (end : Option Stop) (calls_gone places_gone memory : ℕ) (counted : Confirmed) (entries' : List Issued) (memory' : ℕ) (i : Issued) → IsSoundLog calls results places room entries confirmed whole came known fence end calls_gone places_gone memory counted →
+pub sound_issued : (calls : List Ask) (results places : List ℕ) (room : ℕ) (entries : List Issued) (confirmed whole came known fence : ℕ) (end : Option Stop) (calls_gone places_gone memory : ℕ) (counted : Confirmed) (entries' : List Issued) (memory' : ℕ) (i : Issued) → IsSoundSenderLog calls results places room entries confirmed whole came known fence end calls_gone places_gone memory counted →
     entries' ≡ entries ++ i ∷ [] → memory ≤ memory' → length entries < room → length entries < most_entries * length calls → IsOfCall (length calls) i → came ≤ lines_before_kept i →
-    IsSoundLog calls results places room entries' confirmed whole came known fence end calls_gone places_gone memory' counted
+    IsSoundSenderLog calls results places room entries' confirmed whole came known fence end calls_gone places_gone memory' counted
 sound_issued calls results places room entries confirmed whole came known fence end calls_gone places_gone memory counted entries' memory' i h are longer room_left bound own late =
     let n : length entries' ≡ length entries + 1 = ap length are ∙ length-append entries (i ∷ []) in
     record {
@@ -210,7 +210,7 @@ sound_issued calls results places room entries confirmed whole came known fence 
       fence_within = h.fence_within;
       calls_late = h.calls_late;
       places_late = h.places_late;
-      counts = subst (IsCountOf counted) (sym (ap (take confirmed) are ∙ take_within confirmed entries i h.confirmed_within)) h.counts;
+      counts = subst (CountsConfirmed counted) (sym (ap (take confirmed) are ∙ take_within confirmed entries i h.confirmed_within)) h.counts;
       open_order = h.open_order;
       open_known = h.open_known;
       later = λ none. subst (λ (l : List Issued). AllByRecursion (λ e. came ≤ lines_before_kept e) (drop confirmed l)) (sym are) (issued_later came confirmed entries i h.confirmed_within (h.later none) late);
@@ -229,9 +229,9 @@ joined zero entries = refl
 joined (suc n) [] = refl
 joined (suc n) (e ∷ entries) = ap (λ (l : List Issued). e ∷ l) (joined n entries)
 
-settled_same : (calls : List Ask) (results places : List ℕ) (room : ℕ) (entries : List Issued) (confirmed whole came known fence : ℕ) (end : Option Stop) (calls_gone places_gone memory : ℕ) (counted : Confirmed) (memory' : ℕ) (counted' : Confirmed) → IsSoundLog calls results places room entries confirmed whole came known fence end calls_gone places_gone memory counted →
-    memory ≤ memory' → IsCountOf counted' (take confirmed entries ++ drop confirmed entries) →
-    IsSoundLog calls results places room entries (length entries) whole came known fence end calls_gone places_gone memory' counted'
+settled_same : (calls : List Ask) (results places : List ℕ) (room : ℕ) (entries : List Issued) (confirmed whole came known fence : ℕ) (end : Option Stop) (calls_gone places_gone memory : ℕ) (counted : Confirmed) (memory' : ℕ) (counted' : Confirmed) → IsSoundSenderLog calls results places room entries confirmed whole came known fence end calls_gone places_gone memory counted →
+    memory ≤ memory' → CountsConfirmed counted' (take confirmed entries ++ drop confirmed entries) →
+    IsSoundSenderLog calls results places room entries (length entries) whole came known fence end calls_gone places_gone memory' counted'
 settled_same calls results places room entries confirmed whole came known fence end calls_gone places_gone memory counted memory' counted' h longer count =
     record {
       few = h.few;
@@ -249,24 +249,24 @@ settled_same calls results places room entries confirmed whole came known fence 
       fence_within = h.fence_within;
       calls_late = h.calls_late;
       places_late = h.places_late;
-      counts = subst (IsCountOf counted') (joined confirmed entries ∙ sym (all_taken entries)) count;
+      counts = subst (CountsConfirmed counted') (joined confirmed entries ∙ sym (all_taken entries)) count;
       open_order = h.open_order;
       open_known = h.open_known;
       later = λ none. none_left (λ e. came ≤ lines_before_kept e) entries;
     }
 
 -- all entries were confirmed
-pub sound_settled : (calls : List Ask) (results places : List ℕ) (room : ℕ) (entries : List Issued) (confirmed whole came known fence : ℕ) (end : Option Stop) (calls_gone places_gone memory : ℕ) (counted : Confirmed) (entries' : List Issued) (confirmed' memory' : ℕ) (counted' : Confirmed) → IsSoundLog calls results places room entries confirmed whole came known fence end calls_gone places_gone memory counted →
-    entries' ≡ entries → confirmed' ≡ length entries → memory ≤ memory' → IsCountOf counted' (take confirmed entries ++ drop confirmed entries) →
-    IsSoundLog calls results places room entries' confirmed' whole came known fence end calls_gone places_gone memory' counted'
+pub sound_settled : (calls : List Ask) (results places : List ℕ) (room : ℕ) (entries : List Issued) (confirmed whole came known fence : ℕ) (end : Option Stop) (calls_gone places_gone memory : ℕ) (counted : Confirmed) (entries' : List Issued) (confirmed' memory' : ℕ) (counted' : Confirmed) → IsSoundSenderLog calls results places room entries confirmed whole came known fence end calls_gone places_gone memory counted →
+    entries' ≡ entries → confirmed' ≡ length entries → memory ≤ memory' → CountsConfirmed counted' (take confirmed entries ++ drop confirmed entries) →
+    IsSoundSenderLog calls results places room entries' confirmed' whole came known fence end calls_gone places_gone memory' counted'
 sound_settled calls results places room entries confirmed whole came known fence end calls_gone places_gone memory counted entries' confirmed' memory' counted' h same all longer count =
-    subst (λ (l : List Issued). IsSoundLog calls results places room l confirmed' whole came known fence end calls_gone places_gone memory' counted') (sym same)
-    (subst (λ (k : ℕ). IsSoundLog calls results places room entries k whole came known fence end calls_gone places_gone memory' counted') (sym all)
+    subst (λ (l : List Issued). IsSoundSenderLog calls results places room l confirmed' whole came known fence end calls_gone places_gone memory' counted') (sym same)
+    (subst (λ (k : ℕ). IsSoundSenderLog calls results places room entries k whole came known fence end calls_gone places_gone memory' counted') (sym all)
     (settled_same calls results places room entries confirmed whole came known fence end calls_gone places_gone memory counted memory' counted' h longer count))
 
 -- and the calls that were issued whole came
-pub sound_come : (calls : List Ask) (results places : List ℕ) (room : ℕ) (entries : List Issued) (confirmed whole came known fence : ℕ) (end : Option Stop) (calls_gone places_gone memory : ℕ) (counted : Confirmed) → IsSoundLog calls results places room entries confirmed whole came known fence end calls_gone places_gone memory counted → confirmed ≡ length entries →
-    IsSoundLog calls results places room entries confirmed whole whole whole fence end (whole - 1) (whole - 1) memory counted
+pub sound_come : (calls : List Ask) (results places : List ℕ) (room : ℕ) (entries : List Issued) (confirmed whole came known fence : ℕ) (end : Option Stop) (calls_gone places_gone memory : ℕ) (counted : Confirmed) → IsSoundSenderLog calls results places room entries confirmed whole came known fence end calls_gone places_gone memory counted → confirmed ≡ length entries →
+    IsSoundSenderLog calls results places room entries confirmed whole whole whole fence end (whole - 1) (whole - 1) memory counted
 sound_come calls results places room entries confirmed whole came known fence end calls_gone places_gone memory counted h settled =
     record {
       few = h.few;
@@ -291,8 +291,8 @@ sound_come calls results places room entries confirmed whole came known fence en
     }
 
 -- a result came, or a call was issued whole
-pub sound_given : (calls : List Ask) (results places : List ℕ) (room : ℕ) (entries : List Issued) (confirmed whole came known fence : ℕ) (end : Option Stop) (calls_gone places_gone memory : ℕ) (counted : Confirmed) (results' places' : List ℕ) (whole' : ℕ) → IsSoundLog calls results places room entries confirmed whole came known fence end calls_gone places_gone memory counted → length results' ≡ length results → length places' ≡ length places → whole ≤ whole' → whole' ≤ length calls →
-    IsSoundLog calls results' places' room entries confirmed whole' came known fence end calls_gone places_gone memory counted
+pub sound_given : (calls : List Ask) (results places : List ℕ) (room : ℕ) (entries : List Issued) (confirmed whole came known fence : ℕ) (end : Option Stop) (calls_gone places_gone memory : ℕ) (counted : Confirmed) (results' places' : List ℕ) (whole' : ℕ) → IsSoundSenderLog calls results places room entries confirmed whole came known fence end calls_gone places_gone memory counted → length results' ≡ length results → length places' ≡ length places → whole ≤ whole' → whole' ≤ length calls →
+    IsSoundSenderLog calls results' places' room entries confirmed whole' came known fence end calls_gone places_gone memory counted
 sound_given calls results places room entries confirmed whole came known fence end calls_gone places_gone memory counted results' places' whole' h results_same places_same more within =
     record {
       few = h.few;
@@ -320,7 +320,7 @@ clash_end : (s : Stop) → ◌≡◌ {A = Option Stop} (Some s) None → ⊥
 clash_end s e = cc
 
 -- the access ended at a cut
-pub sound_cut : (calls : List Ask) (results places : List ℕ) (room : ℕ) (entries : List Issued) (confirmed whole came known fence : ℕ) (end : Option Stop) (calls_gone places_gone memory : ℕ) (counted : Confirmed) (lines : ℕ) (s : Stop) → IsSoundLog calls results places room entries confirmed whole came known fence end calls_gone places_gone memory counted → lines ≤ length calls → came ≤ lines → IsSoundLog calls results places room entries confirmed whole lines known fence (Some s) calls_gone places_gone memory counted
+pub sound_cut : (calls : List Ask) (results places : List ℕ) (room : ℕ) (entries : List Issued) (confirmed whole came known fence : ℕ) (end : Option Stop) (calls_gone places_gone memory : ℕ) (counted : Confirmed) (lines : ℕ) (s : Stop) → IsSoundSenderLog calls results places room entries confirmed whole came known fence end calls_gone places_gone memory counted → lines ≤ length calls → came ≤ lines → IsSoundSenderLog calls results places room entries confirmed whole lines known fence (Some s) calls_gone places_gone memory counted
 sound_cut calls results places room entries confirmed whole came known fence end calls_gone places_gone memory counted lines s h le later = record {
   few = h.few;
   sound = h.sound;
@@ -344,8 +344,8 @@ sound_cut calls results places room entries confirmed whole came known fence end
 }
 
 -- a `finish` was made after the last call
-pub sound_marked : (calls : List Ask) (results places : List ℕ) (room : ℕ) (entries : List Issued) (confirmed whole came known fence : ℕ) (end : Option Stop) (calls_gone places_gone memory : ℕ) (counted : Confirmed) (calls' : List Ask) → calls' ≡ settled_last calls → IsSoundLog calls results places room entries confirmed whole came known fence end calls_gone places_gone memory counted →
-    IsSoundLog calls' results places room entries confirmed whole came known fence end calls_gone places_gone memory counted
+pub sound_marked : (calls : List Ask) (results places : List ℕ) (room : ℕ) (entries : List Issued) (confirmed whole came known fence : ℕ) (end : Option Stop) (calls_gone places_gone memory : ℕ) (counted : Confirmed) (calls' : List Ask) → calls' ≡ settled_last calls → IsSoundSenderLog calls results places room entries confirmed whole came known fence end calls_gone places_gone memory counted →
+    IsSoundSenderLog calls' results places room entries confirmed whole came known fence end calls_gone places_gone memory counted
 sound_marked calls results places room entries confirmed whole came known fence end calls_gone places_gone memory counted calls' is h =
     let n : length calls ≡ length calls' = sym (ap length is ∙ length_marked calls) in
     record {
@@ -379,7 +379,7 @@ marked_at (ask ∷ next ∷ calls) zero last one is = absurd (omega (arith, one)
 marked_at (ask ∷ next ∷ calls) (suc place) last one is = ap (λ (l : List Ask). ask ∷ l) (marked_at (next ∷ calls) place last (omega (arith, one)) is)
 
 -- the same of what contracts see
-pub sound_state : (calls : List Ask) (results places : List ℕ) (room : ℕ) (entries : List Issued) (confirmed whole came known fence : ℕ) (end : Option Stop) (calls_gone places_gone memory : ℕ) (counted : Confirmed) (needs lines skipped : ℕ) → IsSoundLog calls results places room entries confirmed whole came known fence end calls_gone places_gone memory counted →
+pub sound_state : (calls : List Ask) (results places : List ℕ) (room : ℕ) (entries : List Issued) (confirmed whole came known fence : ℕ) (end : Option Stop) (calls_gone places_gone memory : ℕ) (counted : Confirmed) (needs lines skipped : ℕ) → IsSoundSenderLog calls results places room entries confirmed whole came known fence end calls_gone places_gone memory counted →
     IsSoundState (record { calls = calls; results = results; places = places; entries = entries; room = room; confirmed = confirmed; whole = whole; came = came; known = known; needs = needs; fence = fence; end = end; lines = lines; skipped = skipped })
 sound_state calls results places room entries confirmed whole came known fence end calls_gone places_gone memory counted needs lines skipped h =
     record {
@@ -423,7 +423,7 @@ pub there_within : (entries kept : List Issued) (from k : ℕ) → kept ≡ drop
 there_within entries kept from k is less = (let n : length kept ≡ length entries - from = ap length is ∙ rest_length from entries in omega (arith, n, less))
 
 -- as many were counted as are confirmed
-pub counted_confirmed : (confirmed : ℕ) (entries : List Issued) (c : Confirmed) → confirmed ≤ length entries → IsCountOf c (take confirmed entries) → c.entries ≡ confirmed
+pub counted_confirmed : (confirmed : ℕ) (entries : List Issued) (c : Confirmed) → confirmed ≤ length entries → CountsConfirmed c (take confirmed entries) → c.entries ≡ confirmed
 counted_confirmed confirmed entries c le h = h.entries ∙ length-take-le confirmed entries le
 
 -- these and the others are all

@@ -19,11 +19,11 @@ use Rattle.access_regs.specs.Kept.{Kept, nothing_kept}
 use Rattle.access_regs.proofs.EntryLemmas.{journal_marks}
 use Rattle.access_regs.proofs.Joins.{journal_joins}
 use Rattle.access_calls.specs.declared.stop.Stop.{Stop}
-use Rattle.packed_access.specs.Begun.{HasBegun, HasEnded}
-use Rattle.packed_access.specs.Logs.{LogState, all_confirmed, all_taken, asks_of, nothing_logged, reported_by, with_asks, with_call, with_needs}
+use Rattle.packed_access.specs.Begun.{HasBegun, LogHasEnded}
+use Rattle.packed_access.specs.Logs.{LogState, all_confirmed, all_taken, asks_of, log_with_call, nothing_logged, reported_by, with_asks, with_needs}
 use Rattle.access_calls.specs.Opening.{MayBegin, opened_bench}
 use Rattle.probe_core.specs.declared.job.Config.{Config}
-use Rattle.packed_access.specs.Sparing.{AreNeeded, HasBegunSet, HasBegunSparing, HasPaid, HasSpared, left_of}
+use Rattle.packed_access.specs.Sparing.{AreNeeded, HasBegunSet, HasBegunSparing, HasPaid, HasSpared, points_left}
 use Rattle.packed_access.proofs.BegunLemmas.{ended_begun}
 use Rattle.packed_access.proofs.NeedLemmas.{begun_needs, refused_new}
 use Rattle.packed_access.proofs.NeededLemmas.{needed_same}
@@ -66,10 +66,10 @@ paid_less p x limits given log left less m0 le h = record { paid = h.paid; spare
 
 -- ---- calls that are asked or marked
 
-pub paid_asked : (p : Planner) (x : Option BenchState) (limits given : Limits) (log new : LogState) (ask : Ask) (left : ℕ) (m0 : BenchState) → HasPaid p limits given x log left m0 → new ≡ with_call log ask new.room → HasPaid p limits given x new left m0
+pub paid_asked : (p : Planner) (x : Option BenchState) (limits given : Limits) (log new : LogState) (ask : Ask) (left : ℕ) (m0 : BenchState) → HasPaid p limits given x log left m0 → new ≡ log_with_call log ask new.room → HasPaid p limits given x new left m0
 paid_asked p x limits given log new ask left m0 h is =
     subst (λ (l : LogState). HasPaid p limits given x l left m0) (sym is)
-    (record { paid = h.paid; spared = has_grows p x limits given log (with_call log ask new.room) h.paid m0 _ h.spared (journal_joins p 0 nothing_kept (target_of m0.probe) log.calls (ask ∷ [])) refl; covers = h.covers })
+    (record { paid = h.paid; spared = has_grows p x limits given log (log_with_call log ask new.room) h.paid m0 _ h.spared (journal_joins p 0 nothing_kept (target_of m0.probe) log.calls (ask ∷ [])) refl; covers = h.covers })
 
 pub paid_marked : (p : Planner) (x : Option BenchState) (limits given : Limits) (log new : LogState) (left : ℕ) (m0 : BenchState) → HasPaid p limits given x log left m0 → new ≡ record log { calls = settled_last log.calls } → HasPaid p limits given x new left m0
 paid_marked p x limits given log new left m0 h is =
@@ -77,9 +77,9 @@ paid_marked p x limits given log new left m0 h is =
     (record { paid = h.paid; spared = has_grows p x limits given log (record log { calls = settled_last log.calls }) h.paid m0 _ h.spared (journal_marks p (target_of m0.probe) log.calls).0 refl; covers = h.covers })
 
 -- where the room alone changed
-pub paid_refused : (p : Planner) (x : Option BenchState) (limits given : Limits) (log new : LogState) (m0 : BenchState) → HasPaid p limits given x log (left_of log) m0 → new ≡ record log { room = new.room } → HasPaid p limits given x new (left_of new) m0
+pub paid_refused : (p : Planner) (x : Option BenchState) (limits given : Limits) (log new : LogState) (m0 : BenchState) → HasPaid p limits given x log (points_left log) m0 → new ≡ record log { room = new.room } → HasPaid p limits given x new (points_left new) m0
 paid_refused p x limits given log new m0 h is =
-    subst (λ (l : LogState). HasPaid p limits given x l (left_of l) m0) (sym is)
+    subst (λ (l : LogState). HasPaid p limits given x l (points_left l) m0) (sym is)
     (record { paid = h.paid; spared = has_same p x x limits given limits given log (record log { room = new.room }) h.paid m0 h.spared refl refl refl refl refl; covers = h.covers })
 
 -- ---- a value that is used
@@ -100,21 +100,21 @@ pub is_past : (i known : ℕ) (b : Bool) → b ≡ nat_lt i known → b ≡ fals
 is_past i known b is false_ = grind (arith, sym is ∙ false_)
 
 -- it is known: where it was asked after the last need point, all that was known then came
-pub paid_known : (p : Planner) (x : Option BenchState) (limits given : Limits) (log new : LogState) (slot : Slot) (m0 : BenchState) → HasPaid p limits given x log (left_of log) m0 → new ≡ with_asks log (used slot (asks_of log)) → slot.index < log.known → HasPaid p limits given x new (left_of new) m0
-paid_known p x limits given log new slot m0 h is known = subst (λ (l : LogState). HasPaid p limits given x l (left_of l) m0) (sym is) (by_fence (cases_lt slot.index log.fence))
+pub paid_known : (p : Planner) (x : Option BenchState) (limits given : Limits) (log new : LogState) (slot : Slot) (m0 : BenchState) → HasPaid p limits given x log (points_left log) m0 → new ≡ with_asks log (used slot (asks_of log)) → slot.index < log.known → HasPaid p limits given x new (points_left new) m0
+paid_known p x limits given log new slot m0 h is known = subst (λ (l : LogState). HasPaid p limits given x l (points_left l) m0) (sym is) (by_fence (cases_lt slot.index log.fence))
   where
-    by_fence : (slot.index < log.fence) ⊎ (log.fence ≤ slot.index) → HasPaid p limits given x (with_asks log (used slot (asks_of log))) (left_of (with_asks log (used slot (asks_of log)))) m0
-    by_fence (inl less) = subst (λ (b : Bool). HasPaid p limits given x (with_asks log (cond b (asks_of log) (needed (asks_of log)))) (left_of (with_asks log (cond b (asks_of log) (needed (asks_of log))))) m0) (sym (lt-ltb slot.index log.fence less)) h
+    by_fence : (slot.index < log.fence) ⊎ (log.fence ≤ slot.index) → HasPaid p limits given x (with_asks log (used slot (asks_of log))) (points_left (with_asks log (used slot (asks_of log)))) m0
+    by_fence (inl less) = subst (λ (b : Bool). HasPaid p limits given x (with_asks log (cond b (asks_of log) (needed (asks_of log)))) (points_left (with_asks log (cond b (asks_of log) (needed (asks_of log))))) m0) (sym (lt-ltb slot.index log.fence less)) h
     by_fence (inr ge) =
-        subst (λ (b : Bool). HasPaid p limits given x (with_asks log (cond b (asks_of log) (needed (asks_of log)))) (left_of (with_asks log (cond b (asks_of log) (needed (asks_of log))))) m0) (sym (le-ltb slot.index log.fence ge))
-        (need_paid p x limits given log h.paid (left_of log) (one_if (nat_lt log.known (length log.calls))) m0 h.spared h.covers (let a = left_most log.known (length log.calls) in omega (arith, a)))
+        subst (λ (b : Bool). HasPaid p limits given x (with_asks log (cond b (asks_of log) (needed (asks_of log)))) (points_left (with_asks log (cond b (asks_of log) (needed (asks_of log))))) m0) (sym (le-ltb slot.index log.fence ge))
+        (need_paid p x limits given log h.paid (points_left log) (one_if (nat_lt log.known (length log.calls))) m0 h.spared h.covers (let a = left_most log.known (length log.calls) in omega (arith, a)))
 
 -- it came with a flight that was sent for it
-pub paid_sent : (p : Planner) (x y : Option BenchState) (limits given limits' given' : Limits) (log mid new : LogState) (values : List (Option ℕ)) (slot : Slot) (m0 : BenchState) → HasPaid p limits given x log (left_of log) m0 →
+pub paid_sent : (p : Planner) (x y : Option BenchState) (limits given limits' given' : Limits) (log mid new : LogState) (values : List (Option ℕ)) (slot : Slot) (m0 : BenchState) → HasPaid p limits given x log (points_left log) m0 →
     ((points : ℕ) → HasSpared p limits given x log points m0 → HasSpared p limits' given' y mid (points + 1) m0) → mid ≡ all_confirmed (all_taken values log) → log.whole ≡ length log.calls → log.fence ≤ length log.calls → log.known ≤ slot.index →
-    new ≡ with_asks mid (used slot (asks_of mid)) → HasPaid p limits' given' y new (left_of new) m0
+    new ≡ with_asks mid (used slot (asks_of mid)) → HasPaid p limits' given' y new (points_left new) m0
 paid_sent p x y limits given limits' given' log mid new values slot m0 h sent mid_is whole within not is =
-    subst (λ (l : LogState). HasPaid p limits' given' y l (left_of l) m0) (sym is) (by_fence (cases_lt slot.index mid.fence))
+    subst (λ (l : LogState). HasPaid p limits' given' y l (points_left l) m0) (sym is) (by_fence (cases_lt slot.index mid.fence))
   where
     known : mid.known ≡ length log.calls
     known = ap (λ (l : LogState). l.known) mid_is ∙ whole
@@ -128,14 +128,14 @@ paid_sent p x y limits given limits' given' log mid new values slot m0 h sent mi
     calls : length mid.calls ≡ length log.calls
     calls = ap (λ (l : LogState). length l.calls) mid_is
 
-    by_fence : (slot.index < mid.fence) ⊎ (mid.fence ≤ slot.index) → HasPaid p limits' given' y (with_asks mid (used slot (asks_of mid))) (left_of (with_asks mid (used slot (asks_of mid)))) m0
+    by_fence : (slot.index < mid.fence) ⊎ (mid.fence ≤ slot.index) → HasPaid p limits' given' y (with_asks mid (used slot (asks_of mid))) (points_left (with_asks mid (used slot (asks_of mid)))) m0
     by_fence (inl less) =
-        subst (λ (b : Bool). HasPaid p limits' given' y (with_asks mid (cond b (asks_of mid) (needed (asks_of mid)))) (left_of (with_asks mid (cond b (asks_of mid) (needed (asks_of mid))))) m0) (sym (lt-ltb slot.index mid.fence less))
+        subst (λ (b : Bool). HasPaid p limits' given' y (with_asks mid (cond b (asks_of mid) (needed (asks_of mid)))) (points_left (with_asks mid (cond b (asks_of mid) (needed (asks_of mid))))) m0) (sym (lt-ltb slot.index mid.fence less))
         (let one = left_one log.known log.fence (omega (arith, less, fence, not)) in
         let none = left_none mid.known mid.fence (omega (arith, known, fence, within)) in
         record { paid = h.paid + 1; spared = sent h.paid h.spared; covers = λ managed. (let c = h.covers managed in omega (arith, c, one, none, needs)) })
     by_fence (inr ge) =
-        subst (λ (b : Bool). HasPaid p limits' given' y (with_asks mid (cond b (asks_of mid) (needed (asks_of mid)))) (left_of (with_asks mid (cond b (asks_of mid) (needed (asks_of mid))))) m0) (sym (le-ltb slot.index mid.fence ge))
+        subst (λ (b : Bool). HasPaid p limits' given' y (with_asks mid (cond b (asks_of mid) (needed (asks_of mid)))) (points_left (with_asks mid (cond b (asks_of mid) (needed (asks_of mid))))) m0) (sym (le-ltb slot.index mid.fence ge))
         (record {
           paid = h.paid + 1;
           spared = has_same p y y limits' given' limits' given' mid (with_asks mid (needed (asks_of mid))) (h.paid + 1) m0 (sent h.paid h.spared) refl refl refl refl refl;
@@ -146,18 +146,18 @@ paid_sent p x y limits given limits' given' log mid new values slot m0 h sent mi
 
 -- so many need points, after which none is left
 pub paid_flushed : (p : Planner) (x : Option BenchState) (limits given : Limits) (log new : LogState) (needs paid points count left : ℕ) (m0 : BenchState) → HasSpared p limits given x log (paid + points) m0 → (p ≡ Managed → min (paid + left) (2 ^ 64 - 1) ≤ needs) → log.needs ≡ needs → new ≡ with_needs log points count →
-    log.known ≡ length new.calls → new.fence ≤ length new.calls → new.known ≡ log.known → HasPaid p limits given x new (left_of new) m0
+    log.known ≡ length new.calls → new.fence ≤ length new.calls → new.known ≡ log.known → HasPaid p limits given x new (points_left new) m0
 paid_flushed p x limits given log new needs paid points count left m0 h covers same is known within still =
-    paid_less p x limits given new left (left_of new) m0 (let n = left_none new.known new.fence (omega (arith, known, within, still)) in omega (arith, n)) (has_paid p x limits given log new needs paid points count left m0 h covers same is)
+    paid_less p x limits given new left (points_left new) m0 (let n = left_none new.known new.fence (omega (arith, known, within, still)) in omega (arith, n)) (has_paid p x limits given log new needs paid points count left m0 h covers same is)
 
 -- ---- a call that was issued
 
-pub paid_upto : (p : Planner) (x : Option BenchState) (limits given : Limits) (log new : LogState) (m0 : BenchState) → HasPaid p limits given x new (left_of log) m0 → (new.known < new.fence → log.known < log.fence) → HasPaid p limits given x new (left_of new) m0
-paid_upto p x limits given log new m0 h past = paid_less p x limits given new (left_of log) (left_of new) m0 (left_at log.known log.fence new.known new.fence past) h
+pub paid_upto : (p : Planner) (x : Option BenchState) (limits given : Limits) (log new : LogState) (m0 : BenchState) → HasPaid p limits given x new (points_left log) m0 → (new.known < new.fence → log.known < log.fence) → HasPaid p limits given x new (points_left new) m0
+paid_upto p x limits given log new m0 h past = paid_less p x limits given new (points_left log) (points_left new) m0 (left_at log.known log.fence new.known new.fence past) h
 
 -- ---- an access that ended, or did not go on
 
-pub sparing_ended : (p : Planner) (limits : Limits) (bench : BenchReported) (state : Option BenchState) (log : LogState) (sent got : List ℕ) (kept : Kept) (accesses : List RegAccess) (m0 : BenchState) (s : Stop) → HasEnded p s (reported_by bench state log sent got) log m0 → log.end ≡ Some s →
+pub sparing_ended : (p : Planner) (limits : Limits) (bench : BenchReported) (state : Option BenchState) (log : LogState) (sent got : List ℕ) (kept : Kept) (accesses : List RegAccess) (m0 : BenchState) (s : Stop) → LogHasEnded p s (reported_by bench state log sent got) log m0 → log.end ≡ Some s →
     HasBegunSparing p limits bench state log sent got kept accesses m0
 sparing_ended p limits bench state log sent got kept accesses m0 s h is = record {
   begun = ended_begun p bench state log sent got kept accesses m0 s h is;
@@ -179,8 +179,8 @@ pub sparing_begins : (p : Planner) (config : Config) (x y : Option BenchState) (
     StepsTo (λ m o. MayBegin m → HasPaid p limits bench.limits y log 0 (opened_bench config m)) x y → StepsTo (λ m o. MayBegin m → HasBegunSet config.idle config.retry p limits bench y log sent got kept accesses (opened_bench config m)) x y
 sparing_begins p config x y limits bench log sent got kept accesses none h part_is = by_states x y h part_is
   where
-    zero_left : left_of log ≡ 0
-    zero_left = ap left_of none
+    zero_left : points_left log ≡ 0
+    zero_left = ap points_left none
 
     by_states : (a b : Option BenchState) → StepsTo (λ m o. MayBegin m → HasBegun p bench y log sent got kept accesses (opened_bench config m)) a b → StepsTo (λ m o. MayBegin m → HasPaid p limits bench.limits y log 0 (opened_bench config m)) a b → StepsTo (λ m o. MayBegin m → HasBegunSet config.idle config.retry p limits bench y log sent got kept accesses (opened_bench config m)) a b
     by_states None None h part_is = tt

@@ -38,10 +38,10 @@ use Rattle.access_calls.specs.Standing.{WhereObservable}
 use Rattle.batch_packer.specs.Flying.{CanFly}
 use Rattle.flight_laws.specs.Sending.{IsSending}
 use Rattle.flight_laws.proofs.SmallLemmas.{not_small}
-use Rattle.packed_access.specs.Actions.{entry_of, log_done}
-use Rattle.packed_access.specs.Begun.{HasAsked, HasBegun, HasIssued, IsIssuing, most_weight, own_entries}
+use Rattle.packed_access.specs.Actions.{entry_of_call, log_done}
+use Rattle.packed_access.specs.Begun.{HasBegun, HasIssued, IsIssuing, LogHasAsked, entries_for_call, most_weight}
 use Rattle.packed_access.specs.Logs.{LogState, asks_of, result_for, with_needs}
-use Rattle.packed_access.specs.Sparing.{counted}
+use Rattle.packed_access.specs.Sparing.{managed_points}
 use Rattle.packed_access.specs.Polls.{HasPoll}
 use Rattle.packed_access.proofs.ActionLemmas.{at_rest}
 use Rattle.packed_access.proofs.AskLemmas.{asked_calm}
@@ -69,7 +69,7 @@ poll_issue_of p t k ask mask requested turns call = ap (issue p t k ask.forgive)
 pub poll_mild : (ask : Ask) (mask requested turns : ℕ) → ask.call ≡ Access (unit.Poll mask requested turns) → is_forgiving ask ≡ false
 poll_mild ask mask requested turns call = ap (λ (c : Call). is_forgiving (record ask { call = c })) call ∙ and-false ask.forgive
 
-pub poll_entries : (p : Planner) (t : TargetState) (calls : List Ask) (k : Kept) (ask : Ask) (mask requested turns : ℕ) → ask.call ≡ Access (unit.Poll mask requested turns) → own_entries p t calls k ask ≡ entry_of calls (Polls mask requested turns) ∷ []
+pub poll_entries : (p : Planner) (t : TargetState) (calls : List Ask) (k : Kept) (ask : Ask) (mask requested turns : ℕ) → ask.call ≡ Access (unit.Poll mask requested turns) → entries_for_call p t calls k ask ≡ entry_of_call calls (Polls mask requested turns) ∷ []
 poll_entries p t calls k ask mask requested turns call =
     (λ j. numbered (length calls) (poll_mild ask mask requested turns call j) (poll_issue_of p (target_by p t calls) k ask mask requested turns call j).steps)
 
@@ -92,7 +92,7 @@ poll_light turns mask requested t few = (let r = polled_few turns mask requested
 
 pub asked_log : (log new : LogState) (calls : List Ask) (ask : Ask) (x : Action) (word : ℕ) → log.calls ≡ calls ++ ask ∷ [] → log.came ≡ length calls →
     new ≡ log_done log (record { unit = length log.calls; part = Ends }) log.came (result_for (slice_get log.calls log.came) word) →
-    new ≡ log_done log (kept_of (entry_of calls x)) (length calls) (result_of ask.call word)
+    new ≡ log_done log (kept_of (entry_of_call calls x)) (length calls) (result_of ask.call word)
 asked_log log new calls ask x word are came is =
     let count : length log.calls ≡ length calls + 1 = ap length are ∙ length-append calls (ask ∷ []) in
     let there : slice_get log.calls log.came ≡ Some ask = (λ j. slice_get (are j) (came j)) ∙ last_there calls ask in
@@ -107,15 +107,15 @@ bank_known : (x : Option ℕ) (select : ℕ) → ((v : ℕ) → x ≡ Some v →
 bank_known None select known zeros = absurd (cc)
 bank_known (Some v) select known zeros = masked_zero v select (known v refl) (eqb-true (bit_and v dpbanksel) 0 zeros)
 
-module _ (p : Planner) (log : LogState) (kept : Kept) (calls : List Ask) (ask : Ask) (mask requested turns : ℕ) (m0 m : BenchState) (h : IsIssuing p log [] (entry_of calls (Polls mask requested turns) ∷ []) m0 m) (are : log.calls ≡ calls ++ ask ∷ [])
+module _ (p : Planner) (log : LogState) (kept : Kept) (calls : List Ask) (ask : Ask) (mask requested turns : ℕ) (m0 m : BenchState) (h : IsIssuing p log [] (entry_of_call calls (Polls mask requested turns) ∷ []) m0 m) (are : log.calls ≡ calls ++ ask ∷ [])
     (call : ask.call ≡ Access (unit.Poll mask requested turns)) (unmarked : ask.settled ≡ false) (kept_is : kept_by p (target_of m0.probe) calls ≡ kept) where
   abbrev t0 : TargetState
   t0 = target_of m0.probe
 
-  rest_is : IsSending p log.calls log.confirmed log.came [] (entry_of calls (Polls mask requested turns) ∷ []) [] (take log.known log.results) m0 m
-  rest_is = at_rest p log (entry_of calls (Polls mask requested turns) ∷ []) m0 m h
+  rest_is : IsSending p log.calls log.confirmed log.came [] (entry_of_call calls (Polls mask requested turns) ∷ []) [] (take log.known log.results) m0 m
+  rest_is = at_rest p log (entry_of_call calls (Polls mask requested turns) ∷ []) m0 m h
 
-  grown : issued p t0 log.calls ≡ issued p t0 calls ++ entry_of calls (Polls mask requested turns) ∷ []
+  grown : issued p t0 log.calls ≡ issued p t0 calls ++ entry_of_call calls (Polls mask requested turns) ∷ []
   grown =
       ap (issued p t0) are ∙ (journal_grows p t0 calls ask unmarked).0
       ∙ ap (λ (l : List Entry). issued p t0 calls ++ l) (poll_entries p t0 calls (kept_by p t0 calls) ask mask requested turns call)
@@ -123,16 +123,16 @@ module _ (p : Planner) (log : LogState) (kept : Kept) (calls : List Ask) (ask : 
   same_count : length rest_is.made ≡ length (issued p t0 calls)
   same_count =
       let a = ap length rest_is.on.are in
-      let b = length-append rest_is.made (entry_of calls (Polls mask requested turns) ∷ []) in
+      let b = length-append rest_is.made (entry_of_call calls (Polls mask requested turns) ∷ []) in
       let c = ap length grown in
-      let d = length-append (issued p t0 calls) (entry_of calls (Polls mask requested turns) ∷ []) in
+      let d = length-append (issued p t0 calls) (entry_of_call calls (Polls mask requested turns) ∷ []) in
       omega (arith, a, b, c, d)
 
   made_is : rest_is.made ≡ issued p t0 calls
   made_is =
-      sym (take-append_seam rest_is.made (entry_of calls (Polls mask requested turns) ∷ []))
+      sym (take-append_seam rest_is.made (entry_of_call calls (Polls mask requested turns) ∷ []))
       ∙ (λ j. take (same_count j) ((sym rest_is.on.are ∙ grown) j))
-      ∙ take-append_seam (issued p t0 calls) (entry_of calls (Polls mask requested turns) ∷ [])
+      ∙ take-append_seam (issued p t0 calls) (entry_of_call calls (Polls mask requested turns) ∷ [])
 
   pub target_there : target_of m.probe ≡ target_by p t0 calls
   target_there = rest_is.on.target ∙ ap (target_after t0) made_is
@@ -162,7 +162,7 @@ module _ (p : Planner) (x y : Option BenchState) (log : LogState) (kept : Kept) 
   -- what is so where DPBANKSEL is 0 is so
   pub poll_steps : (zero_is ≡ true → bank_zero kept ≡ true) → (R : BenchState → BenchState → Type 0) → StepsTo (λ m o. CanFly m → (zero_is ≡ true → CanMatch idle retry m) → R m o) x y → StepsTo (λ m o. CanFly m → R m o) x y
   poll_steps by R s =
-      step_with x y (λ m. IsIssuing p log [] (entry_of calls (Polls mask requested turns) ∷ []) m0 m) (λ m o. CanFly m → (zero_is ≡ true → CanMatch idle retry m) → R m o) (λ m o. CanFly m → R m o) h.issued.so s
+      step_with x y (λ m. IsIssuing p log [] (entry_of_call calls (Polls mask requested turns) ∷ []) m0 m) (λ m o. CanFly m → (zero_is ≡ true → CanMatch idle retry m) → R m o) (λ m o. CanFly m → R m o) h.issued.so s
       (λ m o i part_is fly. part_is fly (λ is. record {
         bank_zero = bank_there p log kept calls ask mask requested turns m0 m i h.are h.call h.unmarked h.kept_is (by is);
         set = record { idle_is = i.sending.on.idle_cycles ∙ h.set.idle_is; retry_is = ap (λ (s : Setting). s.retry) i.sending.on.setting ∙ h.set.retry_is };
@@ -170,7 +170,7 @@ module _ (p : Planner) (x y : Option BenchState) (log : LogState) (kept : Kept) 
 
   pub poll_points : zero_is ≡ bank_zero kept → (points : ℕ) → StepsTo (λ m o. CanFly m → points ≡ 1 + cond zero_is (portions turns) (polled turns mask requested (target_of m.probe)).reads) x y → points ≡ poll_cost kept (target_by p (target_of m0.probe) calls) mask requested turns
   poll_points by points s =
-      fact_with x y (λ m. IsIssuing p log [] (entry_of calls (Polls mask requested turns) ∷ []) m0 m) (λ m o. CanFly m → points ≡ 1 + cond zero_is (portions turns) (polled turns mask requested (target_of m.probe)).reads) _ h.issued.so s
+      fact_with x y (λ m. IsIssuing p log [] (entry_of_call calls (Polls mask requested turns) ∷ []) m0 m) (λ m o. CanFly m → points ≡ 1 + cond zero_is (portions turns) (polled turns mask requested (target_of m.probe)).reads) _ h.issued.so s
       (λ m o i part_is. part_is i.flies ∙ (λ j. 1 + cond (by j) (portions turns) (polled turns mask requested (target_there p log kept calls ask mask requested turns m0 m i h.are h.call h.unmarked h.kept_is j)).reads))
 
 -- ---- need points
@@ -179,24 +179,24 @@ poll_before : (p : Planner) (t : TargetState) (calls : List Ask) (ask : Ask) (ma
 poll_before p t calls ask mask requested turns call = ap (λ (i : Issue). leading_reads i.steps) (poll_issue_of p (target_by p t calls) (kept_by p t calls) ask mask requested turns call)
 
 poll_cost_is : (p : Planner) (t : TargetState) (calls : List Ask) (ask : Ask) (mask requested turns points : ℕ) → ask.call ≡ Access (unit.Poll mask requested turns) → (p ≡ Managed → points ≡ poll_cost (kept_by p t calls) (target_by p t calls) mask requested turns) →
-    cost_by p t calls ask ≡ record { before = 0; after = counted p points }
+    cost_by p t calls ask ≡ record { before = 0; after = managed_points p points }
 poll_cost_is Managed t calls ask mask requested turns points call points_are =
     (λ j. record { before = poll_before Managed t calls ask mask requested turns call j; after = cond (poll_mild ask mask requested turns call j) 5 (call_cost (kept_by Managed t calls) (target_by Managed t calls) (call j)) })
     ∙ ap (λ (n : ℕ). record { before = 0; after = n }) (sym (points_are refl))
 poll_cost_is Plain t calls ask mask requested turns points call points_are = refl
 
 pub poll_needs : (p : Planner) (t : TargetState) (calls : List Ask) (ask : Ask) (mask requested turns found points count needs fence : ℕ) (log new : LogState) → ask.call ≡ Access (unit.Poll mask requested turns) →
-    (p ≡ Managed → found ≡ poll_cost (kept_by p t calls) (target_by p t calls) mask requested turns) → points ≡ counted p found → new ≡ with_needs log points count → count ≡ length log.calls → asks_of log ≡ record { calls = calls ++ ask ∷ []; needs = needs; fence = fence } →
+    (p ≡ Managed → found ≡ poll_cost (kept_by p t calls) (target_by p t calls) mask requested turns) → points ≡ managed_points p found → new ≡ with_needs log points count → count ≡ length log.calls → asks_of log ≡ record { calls = calls ++ ask ∷ []; needs = needs; fence = fence } →
     asks_of new ≡ asked (cost_by p t calls ask) ask (record { calls = calls; needs = needs; fence = fence })
 poll_needs p t calls ask mask requested turns found points count needs fence log new call found_is points_are is at asks =
-    ap asks_of is ∙ (λ j. asks_of (with_needs log (points_are j) (at j))) ∙ needs_more log (counted p found) ∙ ap (needed_more (counted p found)) asks
+    ap asks_of is ∙ (λ j. asks_of (with_needs log (points_are j) (at j))) ∙ needs_more log (managed_points p found) ∙ ap (needed_more (managed_points p found)) asks
     ∙ ap (λ (c : Cost). asked c ask (record { calls = calls; needs = needs; fence = fence })) (sym (poll_cost_is p t calls ask mask requested turns found call found_is))
 
 -- ---- between two calls
 
 -- all that was asked before is sent
-pub asked_poll : (p : Planner) (x y : Option BenchState) (log mid : LogState) (accesses : List RegAccess) (kept kept' : Kept) (calls : List Ask) (ask : Ask) (mask requested turns idle retry : ℕ) (m0 : BenchState) → IsSetTo idle retry m0 → ask.call ≡ Access (unit.Poll mask requested turns) → HasAsked p x log accesses kept calls ask m0 →
-    HasIssued p y mid [] (own_entries p (target_of m0.probe) calls kept ask) m0 → mid.calls ≡ log.calls → kept' ≡ kept → HasPoll p y mid kept' calls ask mask requested turns idle retry m0
+pub asked_poll : (p : Planner) (x y : Option BenchState) (log mid : LogState) (accesses : List RegAccess) (kept kept' : Kept) (calls : List Ask) (ask : Ask) (mask requested turns idle retry : ℕ) (m0 : BenchState) → IsSetTo idle retry m0 → ask.call ≡ Access (unit.Poll mask requested turns) → LogHasAsked p x log accesses kept calls ask m0 →
+    HasIssued p y mid [] (entries_for_call p (target_of m0.probe) calls kept ask) m0 → mid.calls ≡ log.calls → kept' ≡ kept → HasPoll p y mid kept' calls ask mask requested turns idle retry m0
 asked_poll p x y log mid accesses kept kept' calls ask mask requested turns idle retry m0 set call h there same kept_is = record {
   are = same ∙ h.are;
   call = call;

@@ -15,7 +15,7 @@ use Rattle.flight_laws.specs.Flights.{AreStrict}
 use Rattle.flight_laws.proofs.FlightLemmas.{flight_length}
 use Rattle.flight_laws.proofs.SendLemmas.{push_sends}
 use Rattle.packed_access.specs.Begun.{HasIssued, IsIssuing, most_weight}
-use Rattle.packed_access.specs.Logs.{LogState, with_entry}
+use Rattle.packed_access.specs.Logs.{LogState, log_with_entry}
 use Rattle.access_regs.specs.declared.planner.Planner.{Planner}
 
 -- one more of a list that goes on so
@@ -32,7 +32,7 @@ strict_both (x ∷ xs) e h s = (h.0, strict_both xs e h.1 s)
 -- the next access is issued
 pub issue_pushed : (p : Planner) (log : LogState) (accesses : List RegAccess) (e : Entry) (rest : List Entry) (a : RegAccess) (entry : Issued) (m0 m : BenchState) →
     IsIssuing p log accesses (e ∷ rest) m0 m → e.action ≡ Makes a → e.forgiving ≡ false → entry ≡ kept_of e → length log.entries < 2 ^ 32 →
-    IsIssuing p (with_entry log entry) (accesses ++ a ∷ []) rest m0 m
+    IsIssuing p (log_with_entry log entry) (accesses ++ a ∷ []) rest m0 m
 issue_pushed p log accesses e rest a entry m0 m h makes strict is few = record {
   flying = h.flying ++ e ∷ [];
   sending = push_sends p log.calls log.confirmed log.came h.flying e rest accesses a (take log.known log.results) m0 m h.sending makes room;
@@ -77,14 +77,14 @@ issue_pushed p log accesses e rest a entry m0 m h makes strict is few = record {
 
 pub issued_where : (p : Planner) (x : Option BenchState) (log : LogState) (accesses : List RegAccess) (e : Entry) (rest : List Entry) (a : RegAccess) (entry : Issued) (m0 : BenchState) →
     WhereObservable x (λ m. IsIssuing p log accesses (e ∷ rest) m0 m) → e.action ≡ Makes a → e.forgiving ≡ false → entry ≡ kept_of e → length log.entries < 2 ^ 32 →
-    WhereObservable x (λ m. IsIssuing p (with_entry log entry) (accesses ++ a ∷ []) rest m0 m)
+    WhereObservable x (λ m. IsIssuing p (log_with_entry log entry) (accesses ++ a ∷ []) rest m0 m)
 issued_where p None log accesses e rest a entry m0 h makes strict is few = h
 issued_where p (Some m) log accesses e rest a entry m0 h makes strict is few = issue_pushed p log accesses e rest a entry m0 m h makes strict is few
 
 -- where the bench is observable
 pub has_issued : (p : Planner) (x : Option BenchState) (log : LogState) (accesses : List RegAccess) (e : Entry) (rest : List Entry) (a : RegAccess) (entry : Issued) (m0 : BenchState) →
     HasIssued p x log accesses (e ∷ rest) m0 → e.action ≡ Makes a → e.forgiving ≡ false → entry ≡ kept_of e → length log.entries < 2 ^ 32 →
-    HasIssued p x (with_entry log entry) (accesses ++ a ∷ []) rest m0
+    HasIssued p x (log_with_entry log entry) (accesses ++ a ∷ []) rest m0
 has_issued p x log accesses e rest a entry m0 h makes strict is few = record { so = issued_where p x log accesses e rest a entry m0 h.so makes strict is few }
 
 -- the same, named otherwise

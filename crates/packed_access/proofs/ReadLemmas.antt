@@ -19,7 +19,7 @@ use Rattle.access_calls.specs.Standing.{WhereObservable}
 use Rattle.batch_packer.specs.Flying.{CanFly}
 use Rattle.batch_packer.specs.SlotList.{slot_at}
 use Rattle.flight_laws.proofs.PushLemmas.{plan_gives}
-use Rattle.packed_access.specs.Begun.{HasIssued, IsIssuing, entries_of, target_issued}
+use Rattle.packed_access.specs.Begun.{HasIssued, IsIssuing, strict_entries, target_issued}
 use Rattle.bench_flights.specs.Flown.{HasCome}
 use Rattle.packed_access.specs.Logs.{LogState}
 use Rattle.packed_access.proofs.SlotLemmas.{slot_gives}
@@ -48,7 +48,7 @@ last_value p x y log accesses rest values m0 front e more h c is at some = last_
 
 -- ---- what a plan that ends with a read gives
 
-pub actions_of_entries : (unit : ℕ) (part : Part) (accesses : List RegAccess) → actions_in (entries_of unit part accesses) ≡ making accesses
+pub actions_of_entries : (unit : ℕ) (part : Part) (accesses : List RegAccess) → actions_in (strict_entries unit part accesses) ≡ making accesses
 actions_of_entries unit part [] = refl
 actions_of_entries unit part (a ∷ accesses) = ap (λ l. Makes a ∷ l) (actions_of_entries unit part accesses)
 
@@ -57,7 +57,7 @@ clear_of true h = h
 clear_of false h = refl
 
 -- entries that pass do not fault, where they forgive nothing
-none_fault : (u : TargetState) (unit : ℕ) (part : Part) (lead : List RegAccess) (more : List Entry) → Passes u (entries_of unit part lead ++ more) → NoneFault u lead
+none_fault : (u : TargetState) (unit : ℕ) (part : Part) (lead : List RegAccess) (more : List Entry) → Passes u (strict_entries unit part lead ++ more) → NoneFault u lead
 none_fault u unit part [] more h = tt
 none_fault u unit part (a ∷ lead) more h = (clear_of (is_fault (acted u (Makes a)).outcome) h.0, none_fault (acted u (Makes a)).next unit part lead more h.1)
 
@@ -90,47 +90,47 @@ passes_of p (Some m) log accesses rest m0 h all =
     subst (Passes (target_of m0.probe)) (sym first) h.sending.on.passes
 
 module _ (p : Planner) (x y : Option BenchState) (old new : LogState) (accesses accesses' : List RegAccess) (unit : ℕ) (part : Part) (lead : List RegAccess) (a : RegAccess) (rest : List Entry) (m0 : BenchState)
-    (h : HasIssued p x old accesses (entries_of unit part (lead ++ a ∷ []) ++ rest) m0) (k : HasIssued p y new accesses' rest m0) (calls : new.calls ≡ old.calls) (count : length new.entries ≡ length old.entries + length (lead ++ a ∷ [])) (all : new.confirmed ≡ length new.entries) where
+    (h : HasIssued p x old accesses (strict_entries unit part (lead ++ a ∷ []) ++ rest) m0) (k : HasIssued p y new accesses' rest m0) (calls : new.calls ≡ old.calls) (count : length new.entries ≡ length old.entries + length (lead ++ a ∷ [])) (all : new.confirmed ≡ length new.entries) where
   abbrev journal : List Entry
   journal = issued p (target_of m0.probe) old.calls
 
   abbrev first : List Entry
   first = take (length old.entries) (issued p (target_of m0.probe) old.calls)
 
-  before : (issued p (target_of m0.probe) old.calls ≡ take (length old.entries) (issued p (target_of m0.probe) old.calls) ++ (entries_of unit part (lead ++ a ∷ []) ++ rest))
+  before : (issued p (target_of m0.probe) old.calls ≡ take (length old.entries) (issued p (target_of m0.probe) old.calls) ++ (strict_entries unit part (lead ++ a ∷ []) ++ rest))
       × (length (take (length old.entries) (issued p (target_of m0.probe) old.calls)) ≡ length old.entries)
-  before = seam_of p x old accesses (entries_of unit part (lead ++ a ∷ []) ++ rest) m0 h.so
+  before = seam_of p x old accesses (strict_entries unit part (lead ++ a ∷ []) ++ rest) m0 h.so
 
-  parts : entries_of unit part (lead ++ a ∷ []) ≡ entries_of unit part lead ++ entries_of unit part (a ∷ [])
+  parts : strict_entries unit part (lead ++ a ∷ []) ≡ strict_entries unit part lead ++ strict_entries unit part (a ∷ [])
   parts = map-append _ lead (a ∷ [])
 
-  journal_is : issued p (target_of m0.probe) old.calls ≡ (first ++ entries_of unit part lead) ++ record { unit = unit; part = part; forgiving = false; action = Makes a } ∷ rest
+  journal_is : issued p (target_of m0.probe) old.calls ≡ (first ++ strict_entries unit part lead) ++ record { unit = unit; part = part; forgiving = false; action = Makes a } ∷ rest
   journal_is =
-      before.0 ∙ ap (λ (l : List Entry). first ++ (l ++ rest)) parts ∙ ap (λ (l : List Entry). first ++ l) (append_assoc (entries_of unit part lead) (entries_of unit part (a ∷ [])) rest)
-      ∙ sym (append_assoc first (entries_of unit part lead) (entries_of unit part (a ∷ []) ++ rest))
+      before.0 ∙ ap (λ (l : List Entry). first ++ (l ++ rest)) parts ∙ ap (λ (l : List Entry). first ++ l) (append_assoc (strict_entries unit part lead) (strict_entries unit part (a ∷ [])) rest)
+      ∙ sym (append_assoc first (strict_entries unit part lead) (strict_entries unit part (a ∷ []) ++ rest))
 
-  long : length (first ++ entries_of unit part (lead ++ a ∷ [])) ≡ length new.entries
-  long = (let s = before.1 in let l = length-append first (entries_of unit part (lead ++ a ∷ [])) in let m : length (entries_of unit part (lead ++ a ∷ [])) ≡ length (lead ++ a ∷ []) = length-map (lead ++ a ∷ []) _ in omega (arith, s, l, m, count))
+  long : length (first ++ strict_entries unit part (lead ++ a ∷ [])) ≡ length new.entries
+  long = (let s = before.1 in let l = length-append first (strict_entries unit part (lead ++ a ∷ [])) in let m : length (strict_entries unit part (lead ++ a ∷ [])) ≡ length (lead ++ a ∷ []) = length-map (lead ++ a ∷ []) _ in omega (arith, s, l, m, count))
 
-  taken : take (length new.entries) (issued p (target_of m0.probe) new.calls) ≡ first ++ entries_of unit part (lead ++ a ∷ [])
+  taken : take (length new.entries) (issued p (target_of m0.probe) new.calls) ≡ first ++ strict_entries unit part (lead ++ a ∷ [])
   taken =
-      (λ j. take (sym long j) ((ap (issued p (target_of m0.probe)) calls ∙ before.0 ∙ sym (append_assoc first (entries_of unit part (lead ++ a ∷ [])) rest)) j))
-      ∙ take-append_seam (first ++ entries_of unit part (lead ++ a ∷ [])) rest
+      (λ j. take (sym long j) ((ap (issued p (target_of m0.probe)) calls ∙ before.0 ∙ sym (append_assoc first (strict_entries unit part (lead ++ a ∷ [])) rest)) j))
+      ∙ take-append_seam (first ++ strict_entries unit part (lead ++ a ∷ [])) rest
 
-  passing : Passes (target_of m0.probe) (first ++ (entries_of unit part lead ++ entries_of unit part (a ∷ [])))
+  passing : Passes (target_of m0.probe) (first ++ (strict_entries unit part lead ++ strict_entries unit part (a ∷ [])))
   passing = subst (Passes (target_of m0.probe)) (taken ∙ ap (λ (l : List Entry). first ++ l) parts) (passes_of p y new accesses' rest m0 k.so all)
 
   none : NoneFault (target_after (target_of m0.probe) first) lead
-  none = none_fault (target_after (target_of m0.probe) first) unit part lead (entries_of unit part (a ∷ [])) (pass_rest (target_of m0.probe) first (entries_of unit part lead ++ entries_of unit part (a ∷ [])) passing)
+  none = none_fault (target_after (target_of m0.probe) first) unit part lead (strict_entries unit part (a ∷ [])) (pass_rest (target_of m0.probe) first (strict_entries unit part lead ++ strict_entries unit part (a ∷ [])) passing)
 
   pub read_gives : IsReadAt p old m0 (lead ++ a ∷ [])
   read_gives = record {
-    front = first ++ entries_of unit part lead;
+    front = first ++ strict_entries unit part lead;
     entry = record { unit = unit; part = part; forgiving = false; action = Makes a };
     more = rest;
     is = journal_is;
-    at = (let s = before.1 in let l = length-append first (entries_of unit part lead) in let m : length (entries_of unit part lead) ≡ length lead = length-map lead _ in let n = length-append lead (a ∷ []) in omega (arith, s, l, m, n));
+    at = (let s = before.1 in let l = length-append first (strict_entries unit part lead) in let m : length (strict_entries unit part lead) ≡ length lead = length-map lead _ in let n = length-append lead (a ∷ []) in omega (arith, s, l, m, n));
     gives_it =
-        ap (λ (t : TargetState). given (acted t (Makes a)).outcome) (after_split (target_of m0.probe) first (entries_of unit part lead) ∙ ap (after (target_after (target_of m0.probe) first)) (actions_of_entries unit part lead))
+        ap (λ (t : TargetState). given (acted t (Makes a)).outcome) (after_split (target_of m0.probe) first (strict_entries unit part lead) ∙ ap (after (target_after (target_of m0.probe) first)) (actions_of_entries unit part lead))
         ∙ sym (plan_gives (target_after (target_of m0.probe) first) lead a none);
   }

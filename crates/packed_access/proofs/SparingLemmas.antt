@@ -19,18 +19,18 @@ use Rattle.target_calls.specs.Weights.{registers_in, registers_of}
 use Rattle.target_calls.specs.declared.calls.Ask.{Ask}
 use Rattle.target_calls.proofs.EntryLemmas.{registers_append}
 use Rattle.access_regs.specs.Journal.{issued}
-use Rattle.access_calls.specs.Bounds.{capacity}
+use Rattle.access_calls.specs.Bounds.{flight_capacity}
 use Rattle.access_calls.specs.Standing.{WhereObservable}
 use Rattle.batch_packer.specs.Flying.{CanFly}
 use Rattle.packed_access.specs.Begun.{HasIssued, IsIssuing}
 use Rattle.bench_flights.specs.Full.{IsFull}
 use Rattle.bench_flights.specs.Flown.{CanMatch, HasCome, SendsFew}
-use Rattle.packed_access.specs.Forgiving.{closed}
+use Rattle.packed_access.specs.Forgiving.{log_after_answer}
 use Rattle.packed_access.specs.Logs.{IsFurther, LogState, nothing_logged, with_needs}
 use Rattle.target_calls.specs.NeedPoints.{capped_sum}
 use Rattle.access_calls.specs.Opening.{HasOpened, MayBegin, opened_bench}
 use Rattle.probe_core.specs.declared.job.Config.{Config as OpenConfig}
-use Rattle.packed_access.specs.Sparing.{HasPaid, HasSpared, IsSpared, counted}
+use Rattle.packed_access.specs.Sparing.{HasPaid, HasSpared, IsSpared, managed_points}
 use Rattle.packed_access.proofs.BlockLemmas.{blocks_full, blocks_grown, sum_longer, sum_upto}
 use Rattle.bench_flights.proofs.WireLemmas.{steps_map}
 use Rattle.access_regs.specs.declared.planner.Planner.{Planner}
@@ -74,7 +74,7 @@ grown_spared p limits given limits' given' log new points extra m0 m o h sent ca
   filled = (let f = h.filled in
       let u = registers_upto log.confirmed new.confirmed (issued p (target_of m0.probe) log.calls) more in
       let c = ap (λ (l : List Ask). registers_in (take new.confirmed (issued p (target_of m0.probe) l))) calls in
-      let k = ap (λ (l : Limits). h.full * capacity l) same in
+      let k = ap (λ (l : Limits). h.full * flight_capacity l) same in
       omega (arith, f, u, c, k));
   counts = sent.counts h.counts;
   limits_are = same ∙ h.limits_are ∙ sym there;
@@ -92,8 +92,8 @@ full_spared p limits given limits' given' log new accesses e next rest points m0
   filled = (let f = h.filled in
       let u = flight_adds p log accesses (e ∷ rest) m0 m i in
       let c : registers_in (take new.confirmed (issued p (target_of m0.probe) new.calls)) ≡ registers_in (take (length log.entries) (issued p (target_of m0.probe) log.calls)) = (λ j. registers_in (take (all j) (issued p (target_of m0.probe) (calls j)))) in
-      let k = ap (λ (l : Limits). (h.full + 1) * capacity l) same in
-      let d : (h.full + 1) * capacity limits ≡ h.full * capacity limits + capacity limits = omega arith in
+      let k = ap (λ (l : Limits). (h.full + 1) * flight_capacity l) same in
+      let d : (h.full + 1) * flight_capacity limits ≡ h.full * flight_capacity limits + flight_capacity limits = omega arith in
       let many = is_full.many in
       omega (arith, f, u, c, k, d, many));
   counts = sent.counts h.counts;
@@ -144,7 +144,7 @@ has_same p x x' limits given limits' given' log new points m0 h state calls conf
       few = k.few;
       filled = (let f = k.filled in
           let c : registers_in (take new.confirmed (issued p (target_of m0.probe) new.calls)) ≡ registers_in (take log.confirmed (issued p (target_of m0.probe) log.calls)) = (λ j. registers_in (take (confirmed j) (issued p (target_of m0.probe) (calls j)))) in
-          let l = ap (λ (a : Limits). k.full * capacity a) same in
+          let l = ap (λ (a : Limits). k.full * flight_capacity a) same in
           omega (arith, f, c, l));
       counts = k.counts;
       limits_are = same ∙ k.limits_are ∙ sym there;
@@ -215,11 +215,11 @@ pub spared_same : (p : Planner) (x : Option BenchState) (limits given : Limits) 
 spared_same p x limits given log new paid left m0 covers further h = record { paid = paid; spared = h; covers = λ managed. subst (λ (n : ℕ). capped_sum paid left ≤ n) (sym further.needs) (covers managed) }
 
 -- by the managed planner all of them are counted
-pub all_counted : (p : Planner) (n : ℕ) → p ≡ Managed → counted p n ≡ n
+pub all_counted : (p : Planner) (n : ℕ) → p ≡ Managed → managed_points p n ≡ n
 all_counted Managed n managed = refl
 all_counted Plain n managed = absurd (cc)
 
-pub counted_spared : (p : Planner) (x : Option BenchState) (limits given : Limits) (log : LogState) (paid n points : ℕ) (m0 : BenchState) → HasSpared p limits given x log (paid + n) m0 → points ≡ counted p n → HasSpared p limits given x log (paid + points) m0
+pub counted_spared : (p : Planner) (x : Option BenchState) (limits given : Limits) (log : LogState) (paid n points : ℕ) (m0 : BenchState) → HasSpared p limits given x log (paid + n) m0 → points ≡ managed_points p n → HasSpared p limits given x log (paid + points) m0
 counted_spared p x limits given log paid n points m0 h is = record { so = λ managed. subst (λ (k : ℕ). WhereObservable x (λ m. IsSpared p limits given log (paid + k) m0 m)) (sym (is ∙ all_counted p n managed)) (h.so managed) }
 
 -- where more entries are confirmed
@@ -264,11 +264,11 @@ polled_by_matches P x y idle retry zero_is zeroed h = steps_map _ _ (λ m o f fl
 
 -- ---- units that are made alone
 
-closed_confirmed : (w : Option ℕ) (log : LogState) → ((closed w log).confirmed ≡ length log.entries) × ((closed w log).calls ≡ log.calls)
+closed_confirmed : (w : Option ℕ) (log : LogState) → ((log_after_answer w log).confirmed ≡ length log.entries) × ((log_after_answer w log).calls ≡ log.calls)
 closed_confirmed None log = (refl, refl)
 closed_confirmed (Some v) log = (refl, refl)
 
-pub spared_closed : (p : Planner) (x : Option BenchState) (limits given : Limits) (w : Option ℕ) (log new : LogState) (points more : ℕ) (m0 : BenchState) → HasSpared p limits given x log points m0 → new ≡ closed w log → log.confirmed ≤ length log.entries → points ≤ more → HasSpared p limits given x new more m0
+pub spared_closed : (p : Planner) (x : Option BenchState) (limits given : Limits) (w : Option ℕ) (log new : LogState) (points more : ℕ) (m0 : BenchState) → HasSpared p limits given x log points m0 → new ≡ log_after_answer w log → log.confirmed ≤ length log.entries → points ≤ more → HasSpared p limits given x new more m0
 spared_closed p x limits given w log new points more m0 h is within le =
     has_later p x limits given log new points more m0 h (ap (λ (l : LogState). l.calls) is ∙ (closed_confirmed w log).1) (let k = ap (λ (l : LogState). l.confirmed) is in let c = (closed_confirmed w log).0 in omega (arith, k, c, within)) le
 

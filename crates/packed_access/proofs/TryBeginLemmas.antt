@@ -30,8 +30,8 @@ use Rattle.access_regs.proofs.Seams.{after_split}
 use Rattle.access_regs.proofs.Settle.{settles}
 use Rattle.access_calls.specs.Standing.{WhereObservable}
 use Rattle.flight_laws.proofs.SmallLemmas.{NeverStops, never_stops}
-use Rattle.packed_access.specs.Begun.{HasAsked, HasIssued, IsIssuing, entries_of, own_entries}
-use Rattle.packed_access.specs.Forgiving.{HasTried, IsTrying}
+use Rattle.packed_access.specs.Begun.{HasIssued, IsIssuing, LogHasAsked, entries_for_call, strict_entries}
+use Rattle.packed_access.specs.Forgiving.{IsTrying, LogHasTried}
 use Rattle.packed_access.specs.Logs.{LogState}
 use Rattle.packed_access.proofs.ActionLemmas.{at_rest}
 use Rattle.packed_access.proofs.BegunLemmas.{fact_of, where_same}
@@ -59,7 +59,7 @@ pub issue_is : (p : Planner) (forgive : Bool) (t : TargetState) (calls : List As
     issue_of p (target_by p t calls) k (unit_ask asked forgive) ≡ after_settling (target_by p t calls) k (alone_at forgive asked)
 issue_is p forgive t calls k asked alone may = ap (λ (b : Bool). cond b (after_settling (target_by p t calls) k (alone_at forgive asked)) (planned (target_by p t calls) k asked)) (and_from (is_alone p forgive) (may_forgive (Access asked)) alone may)
 
-settles_numbered : (units : ℕ) (b : Bool) (xs : List RegAccess) → numbered units b (steps_of Settles xs) ≡ entries_of units Settles xs
+settles_numbered : (units : ℕ) (b : Bool) (xs : List RegAccess) → numbered units b (steps_of Settles xs) ≡ strict_entries units Settles xs
 settles_numbered units true [] = refl
 settles_numbered units false [] = refl
 settles_numbered units true (x ∷ xs) = ap (λ l. record { unit = units; part = Settles; forgiving = false; action = Makes x } ∷ l) (settles_numbered units true xs)
@@ -67,25 +67,25 @@ settles_numbered units false (x ∷ xs) = ap (λ l. record { unit = units; part 
 
 -- its entries: those that settle, and then its own
 pub entries_are : (p : Planner) (forgive : Bool) (t : TargetState) (calls : List Ask) (k : Kept) (asked : AccessUnit) → is_alone p forgive ≡ true → may_forgive (Access asked) ≡ true →
-    own_entries p t calls k (unit_ask asked forgive) ≡ entries_of (length calls) Settles (settle k) ++ numbered (length calls) forgive (alone_issue p forgive t calls k asked).steps
+    entries_for_call p t calls k (unit_ask asked forgive) ≡ strict_entries (length calls) Settles (settle k) ++ numbered (length calls) forgive (alone_issue p forgive t calls k asked).steps
 entries_are p forgive t calls k asked alone may =
     (λ j. numbered (length calls) (and_same forgive (may_forgive (Access asked)) may j) (issue_is p forgive t calls k asked alone may j).steps)
     ∙ numbered_append (length calls) forgive (steps_of Settles (settle k)) (alone_issue p forgive t calls k asked).steps
     ∙ ap (λ (l : List Entry). l ++ numbered (length calls) forgive (alone_issue p forgive t calls k asked).steps) (settles_numbered (length calls) forgive (settle k))
 
 -- an access port is unsettled only after a call
-settle_unit : (p : Planner) (t : TargetState) (calls : List Ask) (u : ℕ) → (0 < length calls → u ≡ length calls) → entries_of (length calls) Settles (settle (kept_by p t calls)) ≡ entries_of u Settles (settle (kept_by p t calls))
+settle_unit : (p : Planner) (t : TargetState) (calls : List Ask) (u : ℕ) → (0 < length calls → u ≡ length calls) → strict_entries (length calls) Settles (settle (kept_by p t calls)) ≡ strict_entries u Settles (settle (kept_by p t calls))
 settle_unit p t [] u is = refl
-settle_unit p t (c ∷ calls) u is = ap (λ (n : ℕ). entries_of n Settles (settle (kept_by p t (c ∷ calls)))) (sym (is (omega arith)))
+settle_unit p t (c ∷ calls) u is = ap (λ (n : ℕ). strict_entries n Settles (settle (kept_by p t (c ∷ calls)))) (sym (is (omega arith)))
 
 -- the settling is to be issued, and then the unit
-pub begin_settling : (p : Planner) (forgive : Bool) (x : Option BenchState) (log : LogState) (accesses : List RegAccess) (kept : Kept) (calls : List Ask) (ask : Ask) (asked : AccessUnit) (m0 : BenchState) (u : ℕ) → HasAsked p x log accesses kept calls ask m0 → ask ≡ unit_ask asked forgive → is_alone p forgive ≡ true → may_forgive (Access asked) ≡ true →
-    (0 < length calls → u ≡ length calls) → HasIssued p x log accesses (entries_of u Settles (settle kept) ++ numbered (length calls) forgive (alone_issue p forgive (target_of m0.probe) calls kept asked).steps) m0
+pub begin_settling : (p : Planner) (forgive : Bool) (x : Option BenchState) (log : LogState) (accesses : List RegAccess) (kept : Kept) (calls : List Ask) (ask : Ask) (asked : AccessUnit) (m0 : BenchState) (u : ℕ) → LogHasAsked p x log accesses kept calls ask m0 → ask ≡ unit_ask asked forgive → is_alone p forgive ≡ true → may_forgive (Access asked) ≡ true →
+    (0 < length calls → u ≡ length calls) → HasIssued p x log accesses (strict_entries u Settles (settle kept) ++ numbered (length calls) forgive (alone_issue p forgive (target_of m0.probe) calls kept asked).steps) m0
 begin_settling p forgive x log accesses kept calls ask asked m0 u h same alone may is =
     subst (λ (l : List Entry). HasIssued p x log accesses l m0)
-    (ap (own_entries p (target_of m0.probe) calls kept) same ∙ entries_are p forgive (target_of m0.probe) calls kept asked alone may
+    (ap (entries_for_call p (target_of m0.probe) calls kept) same ∙ entries_are p forgive (target_of m0.probe) calls kept asked alone may
     ∙ ap (λ (l : List Entry). l ++ numbered (length calls) forgive (alone_issue p forgive (target_of m0.probe) calls kept asked).steps)
-    (subst (λ (q : Kept). entries_of (length calls) Settles (settle q) ≡ entries_of u Settles (settle q)) h.kept_is (settle_unit p (target_of m0.probe) calls u is)))
+    (subst (λ (q : Kept). strict_entries (length calls) Settles (settle q) ≡ strict_entries u Settles (settle q)) h.kept_is (settle_unit p (target_of m0.probe) calls u is)))
     h.issued
 
 -- ---- where the calls before it are
@@ -140,7 +140,7 @@ is_calm p t calls ask b =
 
 -- ---- its first access
 
-pub settles_in : (units : ℕ) (xs : List RegAccess) → actions_in (entries_of units Settles xs) ≡ making xs
+pub settles_in : (units : ℕ) (xs : List RegAccess) → actions_in (strict_entries units Settles xs) ≡ making xs
 settles_in units [] = refl
 settles_in units (x ∷ xs) = ap (λ l. Makes x ∷ l) (settles_in units xs)
 
@@ -169,7 +169,7 @@ trying_at p forgive log calls asked m0 m alone may are h =
     let k : Kept = kept_by p (target_of m0.probe) calls in
     let steps : List Step = (alone_issue p forgive (target_of m0.probe) calls (kept_by p (target_of m0.probe) calls) asked).steps in
     let own : List Entry = numbered (length calls) forgive steps in
-    let calming : List Entry = entries_of (length calls) Settles (settle (kept_by p (target_of m0.probe) calls)) in
+    let calming : List Entry = strict_entries (length calls) Settles (settle (kept_by p (target_of m0.probe) calls)) in
     let s = at_rest p log (numbered (length calls) forgive (alone_issue p forgive (target_of m0.probe) calls (kept_by p (target_of m0.probe) calls) asked).steps) m0 m h in
     let count : length log.calls - 1 ≡ length calls = (let c = ap length are ∙ length-append calls (unit_ask asked forgive ∷ []) in omega (arith, c)) in
     let grown : issued p (target_of m0.probe) log.calls ≡ (issued p (target_of m0.probe) calls ++ calming) ++ own =
@@ -191,10 +191,10 @@ trying_at p forgive log calls asked m0 m alone may are h =
 -- where the bench is observable
 pub begin_trying : (p : Planner) (forgive : Bool) (x : Option BenchState) (log : LogState) (kept : Kept) (calls : List Ask) (asked : AccessUnit) (m0 : BenchState) → kept_by p (target_of m0.probe) calls ≡ kept → is_alone p forgive ≡ true → may_forgive (Access asked) ≡ true → log.calls ≡ calls ++ unit_ask asked forgive ∷ [] →
     HasIssued p x log [] (numbered (length calls) forgive (alone_issue p forgive (target_of m0.probe) calls kept asked).steps) m0 →
-    HasTried p forgive x log asked (settled kept) (target_settled p (target_of m0.probe) calls kept) [] (call_actions (target_settled p (target_of m0.probe) calls kept) (large_of (settled kept) asked) (Access asked)) m0
+    LogHasTried p forgive x log asked (settled kept) (target_settled p (target_of m0.probe) calls kept) [] (call_actions (target_settled p (target_of m0.probe) calls kept) (large_of (settled kept) asked) (Access asked)) m0
 begin_trying p forgive x log kept calls asked m0 kept_is alone may are =
     subst (λ (q : Kept). HasIssued p x log [] (numbered (length calls) forgive (alone_issue p forgive (target_of m0.probe) calls q asked).steps) m0 →
-    HasTried p forgive x log asked (settled q) (target_settled p (target_of m0.probe) calls q) [] (call_actions (target_settled p (target_of m0.probe) calls q) (large_of (settled q) asked) (Access asked)) m0) kept_is
+    LogHasTried p forgive x log asked (settled q) (target_settled p (target_of m0.probe) calls q) [] (call_actions (target_settled p (target_of m0.probe) calls q) (large_of (settled q) asked) (Access asked)) m0) kept_is
     (λ h. record { so = where_same x _ _ (λ m i. trying_at p forgive log calls asked m0 m alone may are i) h.so })
 
 -- what is known of 256 access ports

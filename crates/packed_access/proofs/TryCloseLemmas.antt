@@ -12,7 +12,7 @@ use Rattle.target_calls.specs.World.{World, done_now, next_world, one_if_skipped
 use Rattle.target_calls.specs.declared.calls.Ask.{Ask}
 use Rattle.access_regs.specs.Journal.{issued}
 use Rattle.packed_access.specs.Begun.{HasIssued, IsIssuing}
-use Rattle.packed_access.specs.Forgiving.{closed}
+use Rattle.packed_access.specs.Forgiving.{log_after_answer}
 use Rattle.packed_access.specs.Logs.{LogState, all_confirmed, all_issued, asks_of, result_for, with_result}
 use Rattle.packed_access.specs.Marks.{unmarked_append, unmarked_last}
 use Rattle.packed_access.proofs.ActionLemmas.{at_rest, at_rest_count}
@@ -133,7 +133,7 @@ skipped_by None = 1
 -- what the access keeps of it
 pub has_closed : (p : Planner) (word : Option ℕ) (x : Option BenchState) (log new : LogState) (calls : List Ask) (ask : Ask) (m0 : BenchState) → HasIssued p x log [] [] m0 → log.calls ≡ calls ++ ask ∷ [] → ask.settled ≡ false → log.came ≡ length calls →
     results (start_world (target_of m0.probe) None) (calls ++ ask ∷ []) ≡ results (start_world (target_of m0.probe) None) calls ++ result_of ask.call (unwrap_or word 0) ∷ [] →
-    skips (start_world (target_of m0.probe) None) (calls ++ ask ∷ []) ≡ skips (start_world (target_of m0.probe) None) calls + skipped_by word → length log.results ≡ length log.calls → length log.calls ≤ 10000000 → new ≡ closed word log → HasIssued p x new [] [] m0
+    skips (start_world (target_of m0.probe) None) (calls ++ ask ∷ []) ≡ skips (start_world (target_of m0.probe) None) calls + skipped_by word → length log.results ≡ length log.calls → length log.calls ≤ 10000000 → new ≡ log_after_answer word log → HasIssued p x new [] [] m0
 has_closed p word x log new calls ask m0 h are unmarked came results_are skips_are long few is =
     subst (λ (l : LogState). HasIssued p x l [] [] m0) (sym (is ∙ by_word word skips_are))
     (record { so = where_same x _ _ (λ m i. closed_at p log calls ask (result_of ask.call (unwrap_or word 0)) (skipped_by word) m0 m i are unmarked came results_are skips_are long) h.so })
@@ -156,7 +156,7 @@ has_closed p word x log new calls ask m0 h are unmarked came results_are skips_a
     capped = (let f = skipped_few in grind (arith, f))
 
     by_word : (v : Option ℕ) → skips (start_world (target_of m0.probe) None) (calls ++ ask ∷ []) ≡ skips (start_world (target_of m0.probe) None) calls + skipped_by v →
-        closed v log ≡ record (all_confirmed (with_result (all_issued log) (length log.calls - 1) (result_of ask.call (unwrap_or v 0)))) { skipped = log.skipped + skipped_by v }
+        log_after_answer v log ≡ record (all_confirmed (with_result (all_issued log) (length log.calls - 1) (result_of ask.call (unwrap_or v 0)))) { skipped = log.skipped + skipped_by v }
     by_word (Some v) e =
         let zero_more : log.skipped ≡ log.skipped + 0 = omega arith in
         (λ j. record (all_confirmed (with_result (all_issued log) (length log.calls - 1) (result_is v j))) { skipped = zero_more j })
@@ -164,18 +164,18 @@ has_closed p word x log new calls ask m0 h are unmarked came results_are skips_a
 
 -- ---- the rest of it
 
-pub closed_end : (word : Option ℕ) (log : LogState) → (closed word log).end ≡ log.end
+pub closed_end : (word : Option ℕ) (log : LogState) → (log_after_answer word log).end ≡ log.end
 closed_end (Some v) log = refl
 closed_end None log = refl
 
-pub closed_whole : (word : Option ℕ) (log : LogState) → ((closed word log).whole ≡ length log.calls) × ((closed word log).came ≡ length log.calls)
+pub closed_whole : (word : Option ℕ) (log : LogState) → ((log_after_answer word log).whole ≡ length log.calls) × ((log_after_answer word log).came ≡ length log.calls)
 closed_whole (Some v) log = (refl, refl)
 closed_whole None log = (refl, refl)
 
-pub closed_asks : (word : Option ℕ) (log : LogState) → asks_of (closed word log) ≡ asks_of log
+pub closed_asks : (word : Option ℕ) (log : LogState) → asks_of (log_after_answer word log) ≡ asks_of log
 closed_asks (Some v) log = refl
 closed_asks None log = refl
 
-pub closed_known : (word : Option ℕ) (log : LogState) → (closed word log).known ≡ length log.calls
+pub closed_known : (word : Option ℕ) (log : LogState) → (log_after_answer word log).known ≡ length log.calls
 closed_known (Some v) log = refl
 closed_known None log = refl

@@ -23,7 +23,7 @@ use Rattle.access_regs.specs.Plan.{settle, settled}
 use Rattle.access_regs.proofs.EntryLemmas.{journal_grows}
 use Rattle.flight_laws.specs.Forgiving.{abort_after, steps_of_unit}
 use Rattle.packed_access.specs.Begun.{HasBegun, HasIssued, IsIssuing}
-use Rattle.packed_access.specs.Forgiving.{EndsTo, HasForgiven, HasTried, IsDoneBy, IsForgiven, IsSmallBy, IsTrying}
+use Rattle.packed_access.specs.Forgiving.{EndsTo, HasForgiven, IsDoneBy, IsForgiven, IsSmallBy, IsTrying, LogHasTried}
 use Rattle.packed_access.specs.Logs.{LogState, asks_of, with_needs}
 use Rattle.packed_access.proofs.BegunLemmas.{fact_of, issued_begun, where_same}
 use Rattle.packed_access.proofs.NeedLemmas.{needs_more}
@@ -31,7 +31,7 @@ use Rattle.packed_access.proofs.TryBeginLemmas.{IsBefore, alone_issue, issue_is,
 use Rattle.packed_access.proofs.TryCloseLemmas.{skipped_by}
 use Rattle.packed_access.proofs.TryOutcomeLemmas.{no_reads, pass_results, pass_skips, skip_not_small, skip_outcome, small_outcome, small_shown, small_unread}
 use Rattle.access_regs.specs.declared.planner.Planner.{Planner}
-use Rattle.packed_access.specs.Sparing.{counted}
+use Rattle.packed_access.specs.Sparing.{managed_points}
 use Rattle.access_regs.specs.declared.planner.Planner.TheVariants.{Managed, Plain}
 use Rattle.access_regs.specs.Journal.{is_alone}
 
@@ -42,11 +42,11 @@ record IsWhole (forgive : Bool) (asked : AccessUnit) (k : Kept) (t : TargetState
   steps : (alone_at forgive asked t k).steps ≡ steps_of_unit asked made
   good : NoneFault t made
 
-whole_of : (p : Planner) (forgive : Bool) (x : Option BenchState) (log : LogState) (asked : AccessUnit) (k : Kept) (t : TargetState) (made : List RegAccess) (m0 : BenchState) → HasTried p forgive x log asked k t made [] m0 → IsWhole forgive asked k t made
+whole_of : (p : Planner) (forgive : Bool) (x : Option BenchState) (log : LogState) (asked : AccessUnit) (k : Kept) (t : TargetState) (made : List RegAccess) (m0 : BenchState) → LogHasTried p forgive x log asked k t made [] m0 → IsWhole forgive asked k t made
 whole_of p forgive x log asked k t made m0 h =
     fact_of x (λ m. IsTrying p forgive log asked k t made [] m0 m) _ (λ m i. record { steps = i.steps ∙ ap (λ (l : List Step). steps_of_unit asked made ++ l) (i.end refl) ∙ append-nil (steps_of_unit asked made); good = i.good }) h.so
 
-whole_issued : (p : Planner) (forgive : Bool) (x : Option BenchState) (log : LogState) (asked : AccessUnit) (k : Kept) (t : TargetState) (made : List RegAccess) (m0 : BenchState) → HasTried p forgive x log asked k t made [] m0 → HasIssued p x log [] [] m0
+whole_issued : (p : Planner) (forgive : Bool) (x : Option BenchState) (log : LogState) (asked : AccessUnit) (k : Kept) (t : TargetState) (made : List RegAccess) (m0 : BenchState) → LogHasTried p forgive x log asked k t made [] m0 → HasIssued p x log [] [] m0
 whole_issued p forgive x log asked k t made m0 h =
     record { so = where_same x (λ m. IsTrying p forgive log asked k t made [] m0 m) (λ m. IsIssuing p log [] [] m0 m) (λ m i. subst (λ (l : List Step). IsIssuing p log [] (numbered (length log.calls - 1) forgive l) m0 m) (i.end refl) i.issuing) h.so }
 
@@ -158,7 +158,7 @@ more_both (suc r) a ask =
     ∙ (λ j. record { calls = a.calls ++ ask ∷ []; needs = capped j; fence = length (a.calls ++ ask ∷ []) })
 
 pub unit_needs : (p : Planner) (forgive : Bool) (t : TargetState) (kept : Kept) (calls : List Ask) (asked' : AccessUnit) (reads needs fence : ℕ) (log new : LogState) (points count : ℕ) → is_alone p forgive ≡ true → kept_by p t calls ≡ kept → may_forgive (Access asked') ≡ true →
-    reads ≡ leading_reads (alone_issue p forgive t calls kept asked').steps → new ≡ with_needs log points count → points ≡ counted p (5 + reads) → count ≡ length log.calls → asks_of log ≡ record { calls = calls ++ unit_ask asked' forgive ∷ []; needs = needs; fence = fence } →
+    reads ≡ leading_reads (alone_issue p forgive t calls kept asked').steps → new ≡ with_needs log points count → points ≡ managed_points p (5 + reads) → count ≡ length log.calls → asks_of log ≡ record { calls = calls ++ unit_ask asked' forgive ∷ []; needs = needs; fence = fence } →
     asks_of new ≡ asked (cost_by p t calls (unit_ask asked' forgive)) (unit_ask asked' forgive) (record { calls = calls; needs = needs; fence = fence })
 unit_needs Plain forgive t kept calls asked' reads needs fence log new points count alone kept_is may reads_are is points_are at asks =
     ap asks_of is ∙ (λ j. asks_of (with_needs log (points_are j) (at j))) ∙ needs_more log 0 ∙ asks

@@ -19,7 +19,7 @@ use Rattle.access_calls.specs.Growing.{IsAfter}
 use Rattle.access_calls.specs.Issued.{AreKeptOf}
 use Rattle.access_calls.specs.Numbers.{HasNumbers}
 use Rattle.access_calls.specs.Reported.{AccessView, began, world_from}
-use Rattle.access_calls.specs.Standing.{AreTogether, HasPerformed, IsPart, flight_accesses, idle_cycles_of}
+use Rattle.access_calls.specs.Standing.{AreTogether, HasPerformed, IsPartOfAction, flight_accesses, idle_cycles_of}
 use Rattle.access_calls.specs.declared.issued.Issued.{Issued}
 use Rattle.access_calls.specs.declared.stop.Report.{Report}
 use Rattle.access_calls.specs.declared.stop.Stop.{Stop}
@@ -37,9 +37,9 @@ use Rattle.flight_laws.proofs.ActionLemmas.{all_performed, between, forgiving_pa
 use Rattle.flight_laws.proofs.EndLemmas.{bench_fault, calls_have_come, flight_ends, flight_fails, later_at}
 use Rattle.flight_laws.proofs.FlightLemmas.{flight_length}
 use Rattle.bench_flights.specs.Clearing.{ClearedOff, is_fault_end}
-use Rattle.bench_flights.specs.Flown.{BrokeOff, DidLess, HasDone, IsCutResponse, MayHaveFlown, WasCut}
-use Rattle.packed_access.specs.Forgiving.{IsNext, IsTrying}
-use Rattle.packed_access.specs.Logs.{IsCause, IsStopped, LogState, reported_by}
+use Rattle.bench_flights.specs.Flown.{BrokeOff, DidLess, HasDoneWhole, IsCutResponse, MayHaveDonePart, WasCut}
+use Rattle.packed_access.specs.Forgiving.{AreNextAccesses, IsTrying}
+use Rattle.packed_access.specs.Logs.{IsCause, LogIsStopped, LogState, reported_by}
 use Rattle.packed_access.proofs.EndLemmas.{IsBrokenOff, numbers_longer}
 use Rattle.packed_access.proofs.TryLemmas.{abort, abort_room, cleared, flying, flying_abort, forgiving_all, none_there}
 use Rattle.access_regs.specs.declared.planner.Planner.{Planner}
@@ -85,14 +85,14 @@ module _ (p : Planner) (forgive : Bool) (bench : BenchReported) (state : Option 
     wait_ends = flight_ends p log.confirmed log.came flying more accesses (take log.known log.results) m0 m o broke.part r b s broke.flies (response_by cut accesses m o broke r.cause cause) strict
         (let part_is = broke.performed in omega (arith, accesses_are, part_is)) (let part_is = broke.confirmed in omega (arith, confirmed_are, part_is)) cut_off
 
-  pub bench_ends : length accesses ≤ flight_accesses bench.limits → MayHaveFlown accesses m o → IsEnded p (stop.BenchFault (length entries) log.confirmed) (reported_by bench state (record log1 { end = Some (stop.BenchFault (length entries) log.confirmed) }) sent got) (take log.known log.results) m0 o
+  pub bench_ends : length accesses ≤ flight_accesses bench.limits → MayHaveDonePart accesses m o → IsEnded p (stop.BenchFault (length entries) log.confirmed) (reported_by bench state (record log1 { end = Some (stop.BenchFault (length entries) log.confirmed) }) sent got) (take log.known log.results) m0 o
   bench_ends held broke =
       subst (λ (n : ℕ). IsEnded p (stop.BenchFault n log.confirmed) (reported_by bench state (record log1 { end = Some (stop.BenchFault n log.confirmed) }) sent got) (take log.known log.results) m0 o) count
       (flight_fails p log.confirmed log.came flying more accesses (take log.known log.results) m0 m o broke.part
       (reported_by bench state (record log1 { end = Some (stop.BenchFault (log.confirmed + length flying) log.confirmed) }) sent got)
       s broke.either broke.idle_cycles broke.never held (record { end = refl; came = refl }))
 
-  pub not_forgiven : length accesses ≤ flight_accesses bench.limits → (end : FlightEnd) (z : Stop) (new : LogState) → BrokeOff end accesses m o → (is_fault_end end ≡ false) ⊎ AreStrict flying → IsCutResponse end → IsStopped end log1 new z → IsBrokenOff p z (reported_by bench state new sent got) new log.calls m0 o
+  pub not_forgiven : length accesses ≤ flight_accesses bench.limits → (end : FlightEnd) (z : Stop) (new : LogState) → BrokeOff end accesses m o → (is_fault_end end ≡ false) ⊎ AreStrict flying → IsCutResponse end → LogIsStopped end log1 new z → IsBrokenOff p z (reported_by bench state new sent got) new log.calls m0 o
   not_forgiven held (ends.Cut cut) (stop.Cut r) new broke not either is =
       let e = wait_ends cut r new.lines new.skipped broke is.cause (strict_at cut.response r.cause flying is.cause either not) is.accesses is.confirmed_is is.numbers in
       subst (λ (x : LogState). IsBrokenOff p (stop.Cut r) (reported_by bench state x sent got) x log.calls m0 o) (sym is.next)
@@ -111,7 +111,7 @@ module _ (p : Planner) (forgive : Bool) (bench : BenchReported) (state : Option 
 -- ---- the bench failed in the write of ABORT
 
 module _ (p : Planner) (forgive : Bool) (bench : BenchReported) (state : Option BenchState) (sent got : List ℕ) (log : LogState) (asked : AccessUnit) (k : Kept) (t : TargetState) (made leads : List RegAccess) (last : RegAccess) (for_end : Bool) (rest more : List Action) (m0 m : BenchState)
-    (h : IsTrying p forgive log asked k t made rest m0 m) (n : IsNext asked t made leads last for_end rest more) (few : length (leads ++ last ∷ []) ≤ 4) (bounded : length log.entries < 2 ^ 32)
+    (h : IsTrying p forgive log asked k t made rest m0 m) (n : AreNextAccesses asked t made leads last for_end rest more) (few : length (leads ++ last ∷ []) ≤ 4) (bounded : length log.entries < 2 ^ 32)
     (o : BenchState) (part : Part) (flies : Flies (leads ++ last ∷ []) part m o) (answer : part.response ≡ Fault) (forgives_it : forgive ≡ true) (q : BenchState) where
   abbrev fly : List Entry
   fly = flying p forgive log asked k t made leads last for_end rest more m0 m h n few bounded
@@ -185,17 +185,17 @@ module _ (p : Planner) (forgive : Bool) (bench : BenchReported) (state : Option 
   all_there : part.performed ≡ length fly
   all_there = all_performed journal s.made fly (ab ∷ []) leads last m0 m o part s.on flies answer (none_there p forgive log asked k t made leads last for_end rest more m0 m h n few bounded)
 
-  whole_done : (word : ℕ) → HasDone (Commands forgives) word o q → (w : Option ℕ) → HasPerformed journal (log.confirmed + length fly + 1) (began m0 w) q
+  whole_done : (word : ℕ) → HasDoneWhole (Commands forgives) word o q → (w : Option ℕ) → HasPerformed journal (log.confirmed + length fly + 1) (began m0 w) q
   whole_done word d w =
       let c = cleared p forgive log asked k t made leads last for_end rest more m0 m h n few bounded o part flies answer forgives_it q word d in
       has_at journal c.made [] (log.confirmed + length fly + 1) w m0 q c.on.are c.on.weighty c.confirmed_is c.on.work c.on.target
 
-  whole_work : (word : ℕ) → HasDone (Commands forgives) word o q → work_of q.probe - work_of m0.probe ≤ weight_in (target_of m0.probe) (take (log.confirmed + length fly + 1) journal)
+  whole_work : (word : ℕ) → HasDoneWhole (Commands forgives) word o q → work_of q.probe - work_of m0.probe ≤ weight_in (target_of m0.probe) (take (log.confirmed + length fly + 1) journal)
   whole_work word d =
       let c = cleared p forgive log asked k t made leads last for_end rest more m0 m h n few bounded o part flies answer forgives_it q word d in
       (let w = c.on.work in let f = ap (weight_in (target_of m0.probe)) (take_front (log.confirmed + length fly + 1) journal c.made [] c.on.are c.confirmed_is) in omega (arith, w, f))
 
-  whole_idle : (word : ℕ) → HasDone (Commands forgives) word o q → idle_cycles_of q ≡ idle_cycles_of m0
+  whole_idle : (word : ℕ) → HasDoneWhole (Commands forgives) word o q → idle_cycles_of q ≡ idle_cycles_of m0
   whole_idle word d = (cleared p forgive log asked k t made leads last for_end rest more m0 m h n few bounded o part flies answer forgives_it q word d).on.idle_cycles
 
   none_work : DidLess (Commands forgives) o q → work_of q.probe ≡ work_of o.probe
@@ -227,11 +227,11 @@ module _ (p : Planner) (forgive : Bool) (bench : BenchReported) (state : Option 
       there : target_of o.probe ≡ target_after (target_of m0.probe) (take (length s.made + part.performed) journal)
       there = front_target journal s.made fly (ab ∷ []) (leads ++ last ∷ []) w m0 m o part s.on flies.does ∙ ap (target_after (target_of m0.probe)) (sym front_is)
 
-      agrees : (work : ℕ) → ((work ≡ 0) × Agree (target_of q.probe) (target_of o.probe)) ⊎ IsPart (Commands forgives) (target_of o.probe) (target_of q.probe) → Agree (target_of q.probe) (target_after (target_of m0.probe) (take (length s.made + part.performed) journal))
+      agrees : (work : ℕ) → ((work ≡ 0) × Agree (target_of q.probe) (target_of o.probe)) ⊎ IsPartOfAction (Commands forgives) (target_of o.probe) (target_of q.probe) → Agree (target_of q.probe) (target_after (target_of m0.probe) (take (length s.made + part.performed) journal))
       agrees work (inl (none, same)) = subst (Agree (target_of q.probe)) there same
       agrees work (inr part) = absurd part
 
-  pub not_cleared : (entries : List Issued) → length entries ≡ log.confirmed + length fly + 1 → (sure : ℕ) → sure ≡ log.confirmed + length fly → (end : FlightEnd) (z : Stop) (new : LogState) → ClearedOff end o q → IsStopped end (record log { entries = entries; confirmed = sure }) new z → IsBrokenOff p z (reported_by bench state new sent got) new log.calls m0 q
+  pub not_cleared : (entries : List Issued) → length entries ≡ log.confirmed + length fly + 1 → (sure : ℕ) → sure ≡ log.confirmed + length fly → (end : FlightEnd) (z : Stop) (new : LogState) → ClearedOff end o q → LogIsStopped end (record log { entries = entries; confirmed = sure }) new z → IsBrokenOff p z (reported_by bench state new sent got) new log.calls m0 q
   not_cleared entries count sure sure_is (ends.Cut cut) z new left is = absurd left
   not_cleared entries count sure sure_is ends.ReplyBad z new left is = absurd left
   not_cleared entries count sure sure_is ends.BenchFault z new left is =
@@ -245,7 +245,7 @@ module _ (p : Planner) (forgive : Bool) (bench : BenchReported) (state : Option 
       subst (λ (x : Stop). IsBrokenOff p x (reported_by bench state (record log { entries = entries; confirmed = sure; end = Some x }) sent got) (record log { entries = entries; confirmed = sure; end = Some x }) log.calls m0 q) (sym is.0) at_s in
       subst (λ (x : LogState). IsBrokenOff p z (reported_by bench state x sent got) x log.calls m0 q) (sym is.1) at_z
     where
-      by_left : HasDone (Commands forgives) 0 o q ⊎ DidLess (Commands forgives) o q → log.confirmed + length fly ≤ length s.made + part.performed → length s.made + part.performed ≤ log.confirmed + length fly + 1 →
+      by_left : HasDoneWhole (Commands forgives) 0 o q ⊎ DidLess (Commands forgives) o q → log.confirmed + length fly ≤ length s.made + part.performed → length s.made + part.performed ≤ log.confirmed + length fly + 1 →
           IsEnded p (stop.BenchFault (length entries) sure) (reported_by bench state (record log { entries = entries; confirmed = sure; end = Some (stop.BenchFault (length entries) sure) }) sent got) (take log.known log.results) m0 q
       by_left (inl d) low high = performed_ends (length entries) sure count sure_is (log.confirmed + length fly + 1) (omega arith) (omega arith) (whole_done 0 d) (whole_work 0 d) (whole_idle 0 d) entries
       by_left (inr d) low high = performed_ends (length entries) sure count sure_is (length s.made + part.performed) low high (none_done d) (none_up_to d) (d.idle_cycles ∙ flies.idle_cycles ∙ s.on.idle_cycles) entries

@@ -33,8 +33,8 @@ use Rattle.flight_laws.proofs.CutLemmas.{Cutting, cut, faults, work_is}
 use Rattle.flight_laws.proofs.FlightLemmas.{flight_length, makes_after}
 use Rattle.flight_laws.proofs.SendLemmas.{forgiven_sends, whole_sends}
 use Rattle.packed_access.specs.Begun.{IsIssuing}
-use Rattle.bench_flights.specs.Flown.{HasCome, HasDone}
-use Rattle.packed_access.specs.Forgiving.{IsForgiven, IsNext, IsTrying}
+use Rattle.bench_flights.specs.Flown.{HasCome, HasDoneWhole}
+use Rattle.packed_access.specs.Forgiving.{AreNextAccesses, IsForgiven, IsTrying}
 use Rattle.packed_access.specs.Logs.{LogState, all_confirmed}
 use Rattle.packed_access.proofs.ActionLemmas.{at_rest, at_rest_count}
 use Rattle.packed_access.proofs.SlotLemmas.{slot_gives}
@@ -131,7 +131,7 @@ all_made p forgive log ys zs m0 m o h sent came flies work =
 -- ---- a flight of a unit
 
 module _ (p : Planner) (forgive : Bool) (log : LogState) (asked : AccessUnit) (k : Kept) (t : TargetState) (made leads : List RegAccess) (last : RegAccess) (ends : Bool) (rest more : List Action) (m0 m : BenchState)
-    (h : IsTrying p forgive log asked k t made rest m0 m) (n : IsNext asked t made leads last ends rest more) (few : length (leads ++ last ∷ []) ≤ 4) (bounded : length log.entries < 2 ^ 32) where
+    (h : IsTrying p forgive log asked k t made rest m0 m) (n : AreNextAccesses asked t made leads last ends rest more) (few : length (leads ++ last ∷ []) ≤ 4) (bounded : length log.entries < 2 ^ 32) where
   abbrev pub xs : List RegAccess
   xs = leads ++ last ∷ []
 
@@ -291,7 +291,7 @@ module _ (p : Planner) (forgive : Bool) (log : LogState) (asked : AccessUnit) (k
     issuing_abort = subst (λ (l : List Entry). IsIssuing p log [] l m0 m) (ap (λ (l : List Entry). flying ++ l) later_is ∙ sym (append-nil (flying ++ abort ∷ []))) issuing
 
     -- ABORT was written
-    module _ (q : BenchState) (word : ℕ) (d : HasDone (Commands forgives) word o q) where
+    module _ (q : BenchState) (word : ℕ) (d : HasDoneWhole (Commands forgives) word o q) where
       done_work : work_of q.probe ≡ work_of o.probe + 1
       done_work = (d.does (abort_room o part flies)).work
 

@@ -21,17 +21,17 @@ use Rattle.access_regs.proofs.Select.{making_append}
 use Rattle.access_calls.specs.Reported.{AccessView}
 use Rattle.access_calls.specs.declared.stop.Stop.{Stop}
 use Rattle.flight_laws.proofs.PushLemmas.{plan_gives}
-use Rattle.packed_access.specs.Forgiving.{CameTo, HasBroken, HasTried, IsNext, IsTrying, WentTo}
+use Rattle.packed_access.specs.Forgiving.{AreNextAccesses, CameTo, IsTrying, LogHasTried, LogIsBroken, WentTo}
 use Rattle.packed_access.specs.Logs.{LogState}
 use Rattle.packed_access.proofs.BegunLemmas.{fact_of}
 use Rattle.packed_access.proofs.TryStepLemmas.{after_making}
 use Rattle.access_regs.specs.declared.planner.Planner.{Planner}
 
 -- STICKYERR is clear, and none of the accesses faulted
-pub tried_clear : (p : Planner) (forgive : Bool) (x : Option BenchState) (log : LogState) (asked : AccessUnit) (k : Kept) (t : TargetState) (made : List RegAccess) (rest : List Action) (m0 : BenchState) → HasTried p forgive x log asked k t made rest m0 → (after t (making made)).sticky ≡ false
+pub tried_clear : (p : Planner) (forgive : Bool) (x : Option BenchState) (log : LogState) (asked : AccessUnit) (k : Kept) (t : TargetState) (made : List RegAccess) (rest : List Action) (m0 : BenchState) → LogHasTried p forgive x log asked k t made rest m0 → (after t (making made)).sticky ≡ false
 tried_clear p forgive x log asked k t made rest m0 h = fact_of x (λ m. IsTrying p forgive log asked k t made rest m0 m) _ (λ m i. ap (λ (u : TargetState). u.sticky) (sym i.target) ∙ i.issuing.sending.on.clear) h.so
 
-pub tried_good : (p : Planner) (forgive : Bool) (x : Option BenchState) (log : LogState) (asked : AccessUnit) (k : Kept) (t : TargetState) (made : List RegAccess) (rest : List Action) (m0 : BenchState) → HasTried p forgive x log asked k t made rest m0 → NoneFault t made
+pub tried_good : (p : Planner) (forgive : Bool) (x : Option BenchState) (log : LogState) (asked : AccessUnit) (k : Kept) (t : TargetState) (made : List RegAccess) (rest : List Action) (m0 : BenchState) → LogHasTried p forgive x log asked k t made rest m0 → NoneFault t made
 tried_good p forgive x log asked k t made rest m0 h = fact_of x (λ m. IsTrying p forgive log asked k t made rest m0 m) _ (λ m i. i.good) h.so
 
 none_rest : (u : TargetState) (xs ys : List RegAccess) → NoneFault u (xs ++ ys) → NoneFault (after u (making xs)) ys
@@ -63,7 +63,7 @@ abbrev pub csw_read : TargetState → ℕ → ℕ
 csw_read u n = given (in_order u (csw_actions n)).outcome
 
 module _ (p : Planner) (forgive : Bool) (x : Option BenchState) (log : LogState) (k : Kept) (t : TargetState) (made : List RegAccess) (rest : List Action) (m0 : BenchState) (large : Bool) (size : ℕ) (read : Bool) (n address value : ℕ)
-    (h : HasTried p forgive x log (unit.Memory size read n address value) k t made rest m0) (lt : n < 256) (quiet : list_any (is_end (unit.Memory size read n address value)) (making made) ≡ false) (is : rest ≡ memory_actions (after t (making made)) large size read n address value) where
+    (h : LogHasTried p forgive x log (unit.Memory size read n address value) k t made rest m0) (lt : n < 256) (quiet : list_any (is_end (unit.Memory size read n address value)) (making made) ≡ false) (is : rest ≡ memory_actions (after t (making made)) large size read n address value) where
   abbrev pub unit_is : AccessUnit
   unit_is = unit.Memory size read n address value
 
@@ -76,7 +76,7 @@ module _ (p : Planner) (forgive : Bool) (x : Option BenchState) (log : LogState)
   none_select : NoneFault u (select_of n 0 ∷ [])
   none_select = select_is_good u n 0 lt (omega arith) clear
 
-  pub csw_next : IsNext unit_is t made (select_of n 0 ∷ []) (ap_access_of true 0 0) false rest (transfer_actions large size read address value (csw_read u n))
+  pub csw_next : AreNextAccesses unit_is t made (select_of n 0 ∷ []) (ap_access_of true 0 0) false rest (transfer_actions large size read address value (csw_read u n))
   csw_next = record {
     may = refl;
     first = ap not quiet;
@@ -93,7 +93,7 @@ module _ (p : Planner) (forgive : Bool) (x : Option BenchState) (log : LogState)
 
   -- ---- the transfer
 
-  module _ (y : Option BenchState) (log2 : LogState) (csw : ℕ) (h2 : HasTried p forgive y log2 unit_is k t (made ++ (select_of n 0 ∷ [] ++ ap_access_of true 0 0 ∷ [])) (transfer_actions large size read address value (csw_read u n)) m0) (csw_is : csw ≡ csw_read u n) where
+  module _ (y : Option BenchState) (log2 : LogState) (csw : ℕ) (h2 : LogHasTried p forgive y log2 unit_is k t (made ++ (select_of n 0 ∷ [] ++ ap_access_of true 0 0 ∷ [])) (transfer_actions large size read address value (csw_read u n)) m0) (csw_is : csw ≡ csw_read u n) where
     abbrev pub made2 : List RegAccess
     made2 = made ++ (select_of n 0 ∷ [] ++ ap_access_of true 0 0 ∷ [])
 
@@ -106,7 +106,7 @@ module _ (p : Planner) (forgive : Bool) (x : Option BenchState) (log : LogState)
     quiet2 : list_any (is_end unit_is) (making made2) ≡ false
     quiet2 = any_at unit_is made (csw_flight n) false quiet refl
 
-    pub drw_next : (b : Bool) → large ≡ b → IsNext unit_is t made2 (memory_leads b size address csw) (drw_of read address value) true (transfer_actions large size read address value (csw_read u n)) []
+    pub drw_next : (b : Bool) → large ≡ b → AreNextAccesses unit_is t made2 (memory_leads b size address csw) (drw_of read address value) true (transfer_actions large size read address value (csw_read u n)) []
     drw_next true e = record {
       may = refl;
       first = ap not quiet2;
@@ -131,7 +131,7 @@ went_came p forgive None x log asked k t made leads last m0 h = record { made = 
 went_came p forgive (Some v) x log asked k t made leads last m0 h = record {
   made = made ++ leads;
   last = last;
-  tried = subst (λ (l : List RegAccess). HasTried p forgive x log asked k t l [] m0) (sym (append_assoc made leads (last ∷ []))) h.0;
+  tried = subst (λ (l : List RegAccess). LogHasTried p forgive x log asked k t l [] m0) (sym (append_assoc made leads (last ∷ []))) h.0;
   value = h.1;
 }
 
@@ -148,5 +148,5 @@ on_err (Ok a) P Q f h = tt
 on_err (Err e) P Q f h = f e h
 
 -- the calls by another name
-pub broken_calls : (p : Planner) (s : Stop) (a : AccessView) (log : LogState) (calls calls' : List Ask) (m0 : BenchState) → calls ≡ calls' → HasBroken p s a log calls m0 → HasBroken p s a log calls' m0
-broken_calls p s a log calls calls' m0 same h = subst (λ (l : List Ask). HasBroken p s a log l m0) same h
+pub broken_calls : (p : Planner) (s : Stop) (a : AccessView) (log : LogState) (calls calls' : List Ask) (m0 : BenchState) → calls ≡ calls' → LogIsBroken p s a log calls m0 → LogIsBroken p s a log calls' m0
+broken_calls p s a log calls calls' m0 same h = subst (λ (l : List Ask). LogIsBroken p s a log l m0) same h

@@ -36,7 +36,7 @@ use Rattle.flight_laws.proofs.CfgLemmas.{small_alone}
 use Rattle.flight_laws.proofs.ComeLemmas.{alone_is, never, pass_comes, pass_given, skip_comes, small_given}
 use Rattle.flight_laws.proofs.PushLemmas.{pass_makes}
 use Rattle.flight_laws.proofs.SmallLemmas.{done_small, small_none}
-use Rattle.packed_access.specs.Begun.{entries_of}
+use Rattle.packed_access.specs.Begun.{strict_entries}
 use Rattle.packed_access.specs.Forgiving.{CfgShows}
 use Rattle.packed_access.proofs.TryBeginLemmas.{IsBefore, IsCalm, alone_issue, askable_front, askable_last, entries_are, is_calm, issue_is, settles_in, target_settled}
 use Rattle.packed_access.proofs.TryStepLemmas.{steps_both, unit_actions_in}
@@ -132,15 +132,15 @@ module _ (p : Planner) (forgive : Bool) (t : TargetState) (calls : List Ask) (un
     last_entry = record { unit = if_units unit_ last (length calls); part = if_last unit_ last; forgiving = forgive && not (settles (if_last unit_ last)); action = Makes last }
 
     abbrev front : List Entry
-    front = issued p t calls ++ (entries_of (length calls) Settles (settle k) ++ numbered (length calls) forgive (steps_of_unit unit_ made))
+    front = issued p t calls ++ (strict_entries (length calls) Settles (settle k) ++ numbered (length calls) forgive (steps_of_unit unit_ made))
 
     journal : issued p t (calls ++ the_ask ∷ []) ≡ front ++ last_entry ∷ []
     journal =
         (journal_grows p t calls the_ask refl).0 ∙ ap (λ (l : List Entry). issued p t calls ++ l)
-        (entries_are p forgive t calls k unit_ alone may ∙ ap (λ (l : List Step). entries_of (length calls) Settles (settle k) ++ numbered (length calls) forgive l) (are ∙ steps_both unit_ made (last ∷ []))
-        ∙ ap (λ (l : List Entry). entries_of (length calls) Settles (settle k) ++ l) (numbered_append (length calls) forgive (steps_of_unit unit_ made) (steps_of_unit unit_ (last ∷ [])))
-        ∙ sym (append_assoc (entries_of (length calls) Settles (settle k)) (numbered (length calls) forgive (steps_of_unit unit_ made)) (last_entry ∷ [])))
-        ∙ sym (append_assoc (issued p t calls) (entries_of (length calls) Settles (settle k) ++ numbered (length calls) forgive (steps_of_unit unit_ made)) (last_entry ∷ []))
+        (entries_are p forgive t calls k unit_ alone may ∙ ap (λ (l : List Step). strict_entries (length calls) Settles (settle k) ++ numbered (length calls) forgive l) (are ∙ steps_both unit_ made (last ∷ []))
+        ∙ ap (λ (l : List Entry). strict_entries (length calls) Settles (settle k) ++ l) (numbered_append (length calls) forgive (steps_of_unit unit_ made) (steps_of_unit unit_ (last ∷ [])))
+        ∙ sym (append_assoc (strict_entries (length calls) Settles (settle k)) (numbered (length calls) forgive (steps_of_unit unit_ made)) (last_entry ∷ [])))
+        ∙ sym (append_assoc (issued p t calls) (strict_entries (length calls) Settles (settle k) ++ numbered (length calls) forgive (steps_of_unit unit_ made)) (last_entry ∷ []))
 
     place : length front + 1 ≡ length (issued p t calls) + length (own_steps p t calls the_ask)
     place =
@@ -153,8 +153,8 @@ module _ (p : Planner) (forgive : Bool) (t : TargetState) (calls : List Ask) (un
 
     target_there : target_after t front ≡ after u (making made)
     target_there =
-        after_split t (issued p t calls) (entries_of (length calls) Settles (settle k) ++ numbered (length calls) forgive (steps_of_unit unit_ made))
-        ∙ after_split (target_by p t calls) (entries_of (length calls) Settles (settle k)) (numbered (length calls) forgive (steps_of_unit unit_ made))
+        after_split t (issued p t calls) (strict_entries (length calls) Settles (settle k) ++ numbered (length calls) forgive (steps_of_unit unit_ made))
+        ∙ after_split (target_by p t calls) (strict_entries (length calls) Settles (settle k)) (numbered (length calls) forgive (steps_of_unit unit_ made))
         ∙ (λ j. after (after (target_by p t calls) (settles_in (length calls) (settle k) j)) (unit_actions_in forgive (length calls) unit_ made j))
 
     pub pass_results : small_now (start_world t None) calls the_ask ≡ false → results (start_world t None) (calls ++ the_ask ∷ []) ≡ results (start_world t None) calls ++ result_of (Access unit_) (given (acted (after u (making made)) (Makes last)).outcome) ∷ []

@@ -20,10 +20,10 @@ use Rattle.access_regs.proofs.Lists.{numbered_append}
 use Rattle.access_calls.specs.Issued.{kept_of}
 use Rattle.access_calls.specs.declared.issued.Issued.{Issued}
 use Rattle.flight_laws.specs.Actions.{AreForgiving}
-use Rattle.flight_laws.specs.Forgiving.{BeginsWith, abort_after, steps_of_unit}
+use Rattle.flight_laws.specs.Forgiving.{BeginsWithAccesses, abort_after, steps_of_unit}
 use Rattle.flight_laws.proofs.FlightLemmas.{clear_good, clear_head, head_makes}
 use Rattle.flight_laws.proofs.ForgivingLemmas.{alone_flight}
-use Rattle.packed_access.specs.Forgiving.{IsNext, last_part}
+use Rattle.packed_access.specs.Forgiving.{AreNextAccesses, last_part}
 use Rattle.flight_laws.specs.Flights.{AreStrict}
 use Rattle.flight_laws.specs.Forgiving.{after_fault}
 
@@ -109,7 +109,7 @@ pub record IsSplit (forgive : Bool) (asked : AccessUnit) (t : TargetState) (made
   pub good : is_fault (acted (after t (making (made ++ leads))) (Makes last)).outcome ≡ false → more ≡ [] → tail ≡ []
 
 pub split_steps : (forgive : Bool) (asked : AccessUnit) (k : Kept) (t : TargetState) (made leads : List RegAccess) (last : RegAccess) (ends : Bool) (left : List Step) (rest more : List Action) →
-    call_actions t (large_of k asked) (Access asked) ≡ making made ++ rest → (alone_at forgive asked t k).steps ≡ steps_of_unit asked made ++ left → NoneFault t made → IsNext asked t made leads last ends rest more → IsSplit forgive asked t made leads last left more
+    call_actions t (large_of k asked) (Access asked) ≡ making made ++ rest → (alone_at forgive asked t k).steps ≡ steps_of_unit asked made ++ left → NoneFault t made → AreNextAccesses asked t made leads last ends rest more → IsSplit forgive asked t made leads last left more
 split_steps forgive asked k t made leads last ends left rest more actions steps good n = by_fault (is_fault (acted (after t (making (made ++ leads))) (Makes last)).outcome) refl
   where
     joined : (made ++ leads) ++ last ∷ [] ≡ made ++ (leads ++ last ∷ [])
@@ -140,7 +140,7 @@ split_steps forgive asked k t made leads last ends left rest more actions steps 
         }
     by_fault false e =
         let f = alone_flight forgive asked t k (made ++ leads) last more n.may are none in
-        let b : BeginsWith (alone_at forgive asked t k).steps asked ((made ++ leads) ++ last ∷ []) more = f.1 e in
+        let b : BeginsWithAccesses (alone_at forgive asked t k).steps asked ((made ++ leads) ++ last ∷ []) more = f.1 e in
         record {
           tail = b.more;
           is = cut b.more b.is;

@@ -25,9 +25,9 @@ use Rattle.batch_packer.specs.declared.ends.FlightEnd.{FlightEnd}
 use Rattle.batch_packer.specs.declared.ends.FlightEnd.TheVariants as ends
 use Rattle.flight_laws.specs.Forgiving.{steps_of_unit}
 use Rattle.bench_flights.specs.Clearing.{CanClear, ClearedOff, IsOneTransfer, is_fault_end}
-use Rattle.bench_flights.specs.Flown.{BrokeOff, HasCome, HasDone, IsCutResponse, WasCut}
-use Rattle.packed_access.specs.Forgiving.{HasBroken, HasForgiven, HasTried, IsForgiven, IsNext, IsTrying, last_part, with_accesses}
-use Rattle.packed_access.specs.Logs.{IsStopped, LogState, all_confirmed, entries_confirmed, reported_by, with_entry}
+use Rattle.bench_flights.specs.Flown.{BrokeOff, HasCome, HasDoneWhole, IsCutResponse, WasCut}
+use Rattle.packed_access.specs.Forgiving.{AreNextAccesses, HasForgiven, IsForgiven, IsTrying, LogHasTried, LogIsBroken, last_part, with_accesses}
+use Rattle.packed_access.specs.Logs.{LogIsStopped, LogState, all_confirmed, entries_confirmed, log_with_entry, reported_by}
 use Rattle.packed_access.proofs.ActionLemmas.{at_rest_count}
 use Rattle.packed_access.proofs.EndLemmas.{IsBrokenOff, ended_in, stops_in}
 use Rattle.packed_access.proofs.TryEndLemmas.{not_cleared, not_forgiven}
@@ -56,21 +56,21 @@ with_flight log entries = record log { entries = log.entries ++ map kept_of entr
 abbrev pub with_abort : LogState → List Entry → Entry → LogState
 with_abort log entries abort = record log { entries = log.entries ++ map kept_of (entries ++ abort ∷ []); confirmed = length (log.entries ++ map kept_of entries) }
 
-pub flight_log : (forgive : Bool) (old mid new : LogState) (asked : AccessUnit) (leads : List RegAccess) (last : RegAccess) (b : Bool) (unit : ℕ) (part : Part) → mid ≡ with_accesses old unit Leads leads → new ≡ with_entry mid (record { unit = unit; part = part }) → unit ≡ length old.calls → 0 < length old.calls →
+pub flight_log : (forgive : Bool) (old mid new : LogState) (asked : AccessUnit) (leads : List RegAccess) (last : RegAccess) (b : Bool) (unit : ℕ) (part : Part) → mid ≡ with_accesses old unit Leads leads → new ≡ log_with_entry mid (record { unit = unit; part = part }) → unit ≡ length old.calls → 0 < length old.calls →
     part ≡ last_part b → steps_of_unit asked (leads ++ last ∷ []) ≡ steps_of Leads leads ++ record { part = last_part b; action = Makes last } ∷ [] → new ≡ with_flight old (flight_entries forgive old asked (leads ++ last ∷ []))
 flight_log forgive old mid new asked leads last b unit part mid_is new_is at some part_is parts =
     let n : unit ≡ (length old.calls - 1) + 1 = omega (arith, at, some) in
-    new_is ∙ ap (λ (l : LogState). with_entry l (record { unit = unit; part = part })) mid_is
+    new_is ∙ ap (λ (l : LogState). log_with_entry l (record { unit = unit; part = part })) mid_is
     ∙ (λ j. record old { entries = (old.entries ++ map (λ (a : RegAccess). record { unit = n j; part = Leads }) leads) ++ record { unit = n j; part = part_is j } ∷ [] })
     ∙ ap (λ (l : List Issued). record old { entries = l })
     (append_assoc old.entries (map (λ (a : RegAccess). record { unit = (length old.calls - 1) + 1; part = Leads }) leads) (record { unit = (length old.calls - 1) + 1; part = last_part b } ∷ [])
     ∙ ap (λ (l : List Issued). old.entries ++ l) (sym (flight_kept forgive (length old.calls - 1) asked leads last b parts)))
 
-pub abort_log : (forgive : Bool) (old mid sure new : LogState) (asked : AccessUnit) (made accesses : List RegAccess) (b : Bool) (unit : ℕ) → mid ≡ with_flight old (flight_entries forgive old asked accesses) → sure ≡ entries_confirmed mid → new ≡ with_entry sure (record { unit = unit; part = Skips (not b) }) → unit ≡ length old.calls → 0 < length old.calls →
+pub abort_log : (forgive : Bool) (old mid sure new : LogState) (asked : AccessUnit) (made accesses : List RegAccess) (b : Bool) (unit : ℕ) → mid ≡ with_flight old (flight_entries forgive old asked accesses) → sure ≡ entries_confirmed mid → new ≡ log_with_entry sure (record { unit = unit; part = Skips (not b) }) → unit ≡ length old.calls → 0 < length old.calls →
     is_early asked (making (made ++ accesses)) ≡ not b → new ≡ with_abort old (flight_entries forgive old asked accesses) (abort_entry old asked (made ++ accesses))
 abort_log forgive old mid sure new asked made accesses b unit mid_is sure_is new_is at some early =
     let n : unit ≡ (length old.calls - 1) + 1 = omega (arith, at, some) in
-    new_is ∙ ap (λ (l : LogState). with_entry l (record { unit = unit; part = Skips (not b) })) (sure_is ∙ ap entries_confirmed mid_is)
+    new_is ∙ ap (λ (l : LogState). log_with_entry l (record { unit = unit; part = Skips (not b) })) (sure_is ∙ ap entries_confirmed mid_is)
     ∙ (λ j. record old { entries = (old.entries ++ map kept_of (flight_entries forgive old asked accesses)) ++ record { unit = n j; part = Skips (sym early j) } ∷ []; confirmed = length (old.entries ++ map kept_of (flight_entries forgive old asked accesses)) })
     ∙ ap (λ (l : List Issued). record old { entries = l; confirmed = length (old.entries ++ map kept_of (flight_entries forgive old asked accesses)) })
     (append_assoc old.entries (map kept_of (flight_entries forgive old asked accesses)) (kept_of (abort_entry old asked (made ++ accesses)) ∷ [])
@@ -82,7 +82,7 @@ free_or A B C (inr b) f = inl b
 
 -- ---- it came
 
-module _ (p : Planner) (forgive : Bool) (log : LogState) (asked : AccessUnit) (k : Kept) (t : TargetState) (made leads : List RegAccess) (last : RegAccess) (b : Bool) (rest more : List Action) (m0 : BenchState) (n : IsNext asked t made leads last b rest more)
+module _ (p : Planner) (forgive : Bool) (log : LogState) (asked : AccessUnit) (k : Kept) (t : TargetState) (made leads : List RegAccess) (last : RegAccess) (b : Bool) (rest more : List Action) (m0 : BenchState) (n : AreNextAccesses asked t made leads last b rest more)
     (few : length (leads ++ last ∷ []) ≤ 4) (bounded : length log.entries < 2 ^ 32) where
   abbrev xs : List RegAccess
   xs = leads ++ last ∷ []
@@ -99,7 +99,7 @@ module _ (p : Planner) (forgive : Bool) (log : LogState) (asked : AccessUnit) (k
 
   -- it faulted
   forgiven_where : (x y z : Option BenchState) (end : FlightEnd) (word : ℕ) → forgive ≡ true → WhereObservable x (λ m. IsTrying p forgive log asked k t made rest m0 m) → StepsTo (λ m o. CanFly m → BrokeOff end xs m o) x y → is_fault_end end ≡ true → StepsTo (λ m o. CanFly m → CanClear o) x y →
-      StepsTo (λ m o. CanClear m → work_of m.probe + 1 < 2 ^ 64 → HasDone (Commands forgives) word m o) y z → log.came ≡ log.whole →
+      StepsTo (λ m o. CanClear m → work_of m.probe + 1 < 2 ^ 64 → HasDoneWhole (Commands forgives) word m o) y z → log.came ≡ log.whole →
       WhereObservable z (λ q. IsForgiven p forgive (all_confirmed (with_flight log (flight_entries forgive log asked xs ++ abort_entry log asked (made ++ xs) ∷ []))) asked k t (made ++ leads) last m0 q)
   forgiven_where None y z end word it h broke fault clear d came = absurd h
   forgiven_where (Some m) None z end word it h broke fault clear d came = absurd broke
@@ -113,7 +113,7 @@ module _ (p : Planner) (forgive : Bool) (log : LogState) (asked : AccessUnit) (k
   -- ---- it ended the access
 
   broken_where : (x y : Option BenchState) (bench : BenchReported) (sent got : List ℕ) (end : FlightEnd) (z : Stop) (new : LogState) → length xs ≤ flight_accesses bench.limits → WhereObservable x (λ m. IsTrying p forgive log asked k t made rest m0 m) → StepsTo (λ m o. CanFly m → BrokeOff end xs m o) x y → (forgive ≡ false) ⊎ (is_fault_end end ≡ false) → IsCutResponse end →
-      IsStopped end (with_flight log (flight_entries forgive log asked xs)) new z → WhereObservable y (λ o. IsBrokenOff p z (reported_by bench y new sent got) new log.calls m0 o)
+      LogIsStopped end (with_flight log (flight_entries forgive log asked xs)) new z → WhereObservable y (λ o. IsBrokenOff p z (reported_by bench y new sent got) new log.calls m0 o)
   broken_where None y bench sent got end z new held h broke fault either is = absurd h
   broken_where (Some m) None bench sent got end z new held h broke fault either is = absurd broke
   broken_where (Some m) (Some o) bench sent got end z new held h broke fault either is =
@@ -124,7 +124,7 @@ module _ (p : Planner) (forgive : Bool) (log : LogState) (asked : AccessUnit) (k
       (entries_more p log (flight_entries forgive log asked xs) _ m0 m i) count held end z new (broke h.issuing.flies) (free_or (forgive ≡ false) (is_fault_end end ≡ false) _ fault (λ none. subst (λ (c : Bool). AreStrict (numbered (length log.calls - 1) c (steps_of_unit asked xs))) (sym none) (unit_strict (length log.calls - 1) asked xs))) either is
 
   uncleared_where : (x y u : Option BenchState) (bench : BenchReported) (sent got : List ℕ) (end end' : FlightEnd) (z : Stop) (new : LogState) → forgive ≡ true → WhereObservable x (λ m. IsTrying p forgive log asked k t made rest m0 m) → StepsTo (λ m o. CanFly m → BrokeOff end xs m o) x y → is_fault_end end ≡ true →
-      StepsTo (λ m o. CanFly m → CanClear o) x y → StepsTo (λ m o. CanClear m → work_of m.probe + 1 < 2 ^ 64 → ClearedOff end' m o) y u → IsStopped end' (with_abort log (flight_entries forgive log asked xs) (abort_entry log asked (made ++ xs))) new z →
+      StepsTo (λ m o. CanFly m → CanClear o) x y → StepsTo (λ m o. CanClear m → work_of m.probe + 1 < 2 ^ 64 → ClearedOff end' m o) y u → LogIsStopped end' (with_abort log (flight_entries forgive log asked xs) (abort_entry log asked (made ++ xs))) new z →
       WhereObservable u (λ q. IsBrokenOff p z (reported_by bench u new sent got) new log.calls m0 q)
   uncleared_where None y u bench sent got end end' z new it h broke fault clear left is = absurd h
   uncleared_where (Some m) None u bench sent got end end' z new it h broke fault clear left is = absurd broke
@@ -155,33 +155,33 @@ steps_same : (P : List RegAccess → BenchState → BenchState → Type 0) (x x'
 steps_same P x x' y accesses accesses' same are h = subst (λ (z : Option BenchState). StepsTo (P accesses) z y) same (subst (λ (l : List RegAccess). StepsTo (P l) x' y) are h)
 
 module _ (p : Planner) (forgive : Bool) (x x' y : Option BenchState) (log log1 : LogState) (asked : AccessUnit) (k : Kept) (t : TargetState) (made leads : List RegAccess) (last : RegAccess) (b : Bool) (rest more : List Action) (accesses : List RegAccess) (m0 : BenchState)
-    (h : HasTried p forgive x log asked k t made rest m0) (n : IsNext asked t made leads last b rest more) (same : x' ≡ x) (are : accesses ≡ leads ++ last ∷ []) (few : length (leads ++ last ∷ []) ≤ 4) (bounded : length log.entries < 2 ^ 32)
+    (h : LogHasTried p forgive x log asked k t made rest m0) (n : AreNextAccesses asked t made leads last b rest more) (same : x' ≡ x) (are : accesses ≡ leads ++ last ∷ []) (few : length (leads ++ last ∷ []) ≤ 4) (bounded : length log.entries < 2 ^ 32)
     (log_is : log1 ≡ with_flight log (flight_entries forgive log asked (leads ++ last ∷ []))) where
   pub flight_went : (new : LogState) (values : List (Option ℕ)) (value : ℕ) → StepsTo (λ m o. CanFly m → HasCome accesses values m o) x' y → log.came ≡ log.whole → new ≡ all_confirmed log1 → value ≡ unwrap_or (slot_at values (length leads)) 0 →
-      HasTried p forgive y new asked k t (made ++ (leads ++ last ∷ [])) more m0 × (value ≡ given (acted (after t (making (made ++ leads))) (Makes last)).outcome)
+      LogHasTried p forgive y new asked k t (made ++ (leads ++ last ∷ [])) more m0 × (value ≡ given (acted (after t (making (made ++ leads))) (Makes last)).outcome)
   flight_went new values value c came new_is value_is =
       let r = came_where p forgive log asked k t made leads last b rest more m0 n few bounded x y values h.so (steps_same (λ l m o. CanFly m → HasCome l values m o) x x' y (leads ++ last ∷ []) accesses same are c) came in
-      (subst (λ (l : LogState). HasTried p forgive y l asked k t (made ++ (leads ++ last ∷ [])) more m0) (sym (new_is ∙ ap all_confirmed log_is)) (record { so = r.0 }), value_is ∙ r.1)
+      (subst (λ (l : LogState). LogHasTried p forgive y l asked k t (made ++ (leads ++ last ∷ [])) more m0) (sym (new_is ∙ ap all_confirmed log_is)) (record { so = r.0 }), value_is ∙ r.1)
 
-  pub flight_skipped : (z y' : Option BenchState) (log2 new : LogState) (end : FlightEnd) (word : ℕ) → forgive ≡ true → StepsTo (λ m o. CanFly m → BrokeOff end accesses m o) x' y → is_fault_end end ≡ true → StepsTo (λ m o. CanFly m → CanClear o) x' y → y' ≡ y → StepsTo (λ m o. CanClear m → work_of m.probe + 1 < 2 ^ 64 → HasDone (Commands forgives) word m o) y' z →
+  pub flight_skipped : (z y' : Option BenchState) (log2 new : LogState) (end : FlightEnd) (word : ℕ) → forgive ≡ true → StepsTo (λ m o. CanFly m → BrokeOff end accesses m o) x' y → is_fault_end end ≡ true → StepsTo (λ m o. CanFly m → CanClear o) x' y → y' ≡ y → StepsTo (λ m o. CanClear m → work_of m.probe + 1 < 2 ^ 64 → HasDoneWhole (Commands forgives) word m o) y' z →
       log.came ≡ log.whole → log2 ≡ with_abort log (flight_entries forgive log asked (leads ++ last ∷ [])) (abort_entry log asked (made ++ (leads ++ last ∷ []))) → new ≡ all_confirmed log2 → HasForgiven p forgive z new asked k t (made ++ leads) last m0
   flight_skipped z y' log2 new end word it broke fault clear same' d came log2_is new_is =
       subst (λ (l : LogState). HasForgiven p forgive z l asked k t (made ++ leads) last m0) (sym (new_is ∙ ap all_confirmed log2_is))
       (record {
         so = forgiven_where p forgive log asked k t made leads last b rest more m0 n few bounded x y z end word it h.so (steps_same (λ l m o. CanFly m → BrokeOff end l m o) x x' y (leads ++ last ∷ []) accesses same are broke) fault
-            (subst (λ (w : Option BenchState). StepsTo (λ m o. CanFly m → CanClear o) w y) same clear) (subst (λ (w : Option BenchState). StepsTo (λ m o. CanClear m → work_of m.probe + 1 < 2 ^ 64 → HasDone (Commands forgives) word m o) w z) same' d) came;
+            (subst (λ (w : Option BenchState). StepsTo (λ m o. CanFly m → CanClear o) w y) same clear) (subst (λ (w : Option BenchState). StepsTo (λ m o. CanClear m → work_of m.probe + 1 < 2 ^ 64 → HasDoneWhole (Commands forgives) word m o) w z) same' d) came;
       })
 
-  pub flight_broke : (bench : BenchReported) (sent got : List ℕ) (end : FlightEnd) (z : Stop) (new : LogState) → length accesses ≤ flight_accesses bench.limits → StepsTo (λ m o. CanFly m → BrokeOff end accesses m o) x' y → (forgive ≡ false) ⊎ (is_fault_end end ≡ false) → IsCutResponse end → IsStopped end log1 new z → HasBroken p z (reported_by bench y new sent got) new log.calls m0
+  pub flight_broke : (bench : BenchReported) (sent got : List ℕ) (end : FlightEnd) (z : Stop) (new : LogState) → length accesses ≤ flight_accesses bench.limits → StepsTo (λ m o. CanFly m → BrokeOff end accesses m o) x' y → (forgive ≡ false) ⊎ (is_fault_end end ≡ false) → IsCutResponse end → LogIsStopped end log1 new z → LogIsBroken p z (reported_by bench y new sent got) new log.calls m0
   flight_broke bench sent got end z new held broke fault either is =
       let w = broken_where p forgive log asked k t made leads last b rest more m0 n few bounded x y bench sent got end z new (subst (λ (l : List RegAccess). length l ≤ flight_accesses bench.limits) are held) h.so (steps_same (λ l m o. CanFly m → BrokeOff end l m o) x x' y (leads ++ last ∷ []) accesses same are broke) fault either
-      (subst (λ (l : LogState). IsStopped end l new z) log_is is) in
+      (subst (λ (l : LogState). LogIsStopped end l new z) log_is is) in
       record { ended = ended_in p y z (reported_by bench y new sent got) new log.calls m0 w; stops = λ n left. stops_in p y z (reported_by bench y new sent got) new log.calls m0 n w left }
 
   pub abort_broke : (u y' : Option BenchState) (bench : BenchReported) (sent got : List ℕ) (log2 : LogState) (end end' : FlightEnd) (z : Stop) (new : LogState) → forgive ≡ true → StepsTo (λ m o. CanFly m → BrokeOff end accesses m o) x' y → is_fault_end end ≡ true → StepsTo (λ m o. CanFly m → CanClear o) x' y → y' ≡ y →
-      StepsTo (λ m o. CanClear m → work_of m.probe + 1 < 2 ^ 64 → ClearedOff end' m o) y' u → log2 ≡ with_abort log (flight_entries forgive log asked (leads ++ last ∷ [])) (abort_entry log asked (made ++ (leads ++ last ∷ []))) → IsStopped end' log2 new z → HasBroken p z (reported_by bench u new sent got) new log.calls m0
+      StepsTo (λ m o. CanClear m → work_of m.probe + 1 < 2 ^ 64 → ClearedOff end' m o) y' u → log2 ≡ with_abort log (flight_entries forgive log asked (leads ++ last ∷ [])) (abort_entry log asked (made ++ (leads ++ last ∷ []))) → LogIsStopped end' log2 new z → LogIsBroken p z (reported_by bench u new sent got) new log.calls m0
   abort_broke u y' bench sent got log2 end end' z new it broke fault clear same' left log2_is is =
       let w = uncleared_where p forgive log asked k t made leads last b rest more m0 n few bounded x y u bench sent got end end' z new it h.so (steps_same (λ l m o. CanFly m → BrokeOff end l m o) x x' y (leads ++ last ∷ []) accesses same are broke) fault
       (subst (λ (w : Option BenchState). StepsTo (λ m o. CanFly m → CanClear o) w y) same clear) (subst (λ (w : Option BenchState). StepsTo (λ m o. CanClear m → work_of m.probe + 1 < 2 ^ 64 → ClearedOff end' m o) w u) same' left)
-      (subst (λ (l : LogState). IsStopped end' l new z) log2_is is) in
+      (subst (λ (l : LogState). LogIsStopped end' l new z) log2_is is) in
       record { ended = ended_in p u z (reported_by bench u new sent got) new log.calls m0 w; stops = λ n left. stops_in p u z (reported_by bench u new sent got) new log.calls m0 n w left }

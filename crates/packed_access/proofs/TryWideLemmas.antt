@@ -25,14 +25,14 @@ use Rattle.access_regs.proofs.Forgiving.{contains_one}
 use Rattle.access_regs.proofs.KeptLemmas.{alone_kept, kept_after_cfg, kept_by_cfg, port_kept}
 use Rattle.access_regs.proofs.LeadLemmas.{select_is_good}
 use Rattle.flight_laws.proofs.PushLemmas.{pass_makes}
-use Rattle.packed_access.specs.Forgiving.{CameTo, CfgShows, HasForgiven, HasTried, IsDoneBy, IsForgiven, IsNext, IsSmallBy, IsTrying, WentTo}
+use Rattle.packed_access.specs.Forgiving.{AreNextAccesses, CameTo, CfgShows, HasForgiven, IsDoneBy, IsForgiven, IsSmallBy, IsTrying, LogHasTried, WentTo}
 use Rattle.packed_access.specs.Logs.{LogState}
 use Rattle.packed_access.proofs.BegunLemmas.{fact_of}
 use Rattle.packed_access.proofs.TryMemoryLemmas.{tried_clear, tried_good, went_came}
 use Rattle.access_regs.specs.declared.planner.Planner.{Planner}
 use Rattle.access_regs.proofs.Wide.{and_not}
 
-tried_actions : (p : Planner) (forgive : Bool) (x : Option BenchState) (log : LogState) (asked : AccessUnit) (k : Kept) (t : TargetState) (made : List RegAccess) (rest : List Action) (m0 : BenchState) → HasTried p forgive x log asked k t made rest m0 → call_actions t (large_of k asked) (Access asked) ≡ making made ++ rest
+tried_actions : (p : Planner) (forgive : Bool) (x : Option BenchState) (log : LogState) (asked : AccessUnit) (k : Kept) (t : TargetState) (made : List RegAccess) (rest : List Action) (m0 : BenchState) → LogHasTried p forgive x log asked k t made rest m0 → call_actions t (large_of k asked) (Access asked) ≡ making made ++ rest
 tried_actions p forgive x log asked k t made rest m0 h = fact_of x (λ m. IsTrying p forgive log asked k t made rest m0 m) _ (λ m i. i.actions) h.so
 
 forgiven_bad : (p : Planner) (forgive : Bool) (x : Option BenchState) (log : LogState) (asked : AccessUnit) (k : Kept) (t : TargetState) (made : List RegAccess) (last : RegAccess) (m0 : BenchState) → HasForgiven p forgive x log asked k t made last m0 → is_fault (acted (after t (making made)) (Makes last)).outcome ≡ true
@@ -45,7 +45,7 @@ given_fault outcome.Done e = absurd (cc)
 
 -- ---- a memory unit
 
-module _ (p : Planner) (forgive : Bool) (x : Option BenchState) (log : LogState) (k : Kept) (t : TargetState) (rest : List Action) (m0 : BenchState) (size : ℕ) (read : Bool) (n address value : ℕ) (h : HasTried p forgive x log (unit.Memory size read n address value) k t [] rest m0) (lt : n < 256) where
+module _ (p : Planner) (forgive : Bool) (x : Option BenchState) (log : LogState) (k : Kept) (t : TargetState) (rest : List Action) (m0 : BenchState) (size : ℕ) (read : Bool) (n address value : ℕ) (h : LogHasTried p forgive x log (unit.Memory size read n address value) k t [] rest m0) (lt : n < 256) where
   abbrev mem : AccessUnit
   mem = unit.Memory size read n address value
 
@@ -97,7 +97,7 @@ module _ (p : Planner) (forgive : Bool) (x : Option BenchState) (log : LogState)
     none_select : NoneFault t (select_of n 15 ∷ [])
     none_select = select_is_good t n 15 lt (omega arith) clear
 
-    pub cfg_next : IsNext mem t [] (select_of n 15 ∷ []) (ap_access_of true 4 0) false rest (after_cfg t size read n address value)
+    pub cfg_next : AreNextAccesses mem t [] (select_of n 15 ∷ []) (ap_access_of true 4 0) false rest (after_cfg t size read n address value)
     cfg_next = record { may = refl; first = refl; are = wide_rest; parts = refl; early = refl; good = none_select }
 
     not_large : (known k n).large ≡ false
@@ -124,7 +124,7 @@ module _ (p : Planner) (forgive : Bool) (x : Option BenchState) (log : LogState)
       went_some : WentTo p forgive (Some cfg) y log2 mem k t [] (select_of n 15 ∷ []) (ap_access_of true 4 0) (after_cfg t size read n address value) m0
       went_some = subst (λ (v : Option ℕ). WentTo p forgive v y log2 mem k t [] (select_of n 15 ∷ []) (ap_access_of true 4 0) (after_cfg t size read n address value) m0) came went
 
-      pub cfg_tried : HasTried p forgive y log2 mem k t cfg_flight (after_cfg t size read n address value) m0
+      pub cfg_tried : LogHasTried p forgive y log2 mem k t cfg_flight (after_cfg t size read n address value) m0
       cfg_tried = went_some.0
 
       none_both : NoneFault t cfg_flight
@@ -140,7 +140,7 @@ module _ (p : Planner) (forgive : Bool) (x : Option BenchState) (log : LogState)
       cfg_small noted is it_lacks =
           let s = shows false it_lacks in
           record {
-            came = (refl, record { made = cfg_flight; tried = subst (λ (l : List Action). HasTried p forgive y log2 mem k t cfg_flight l m0) (ap (λ (b : Bool). cond b (memory_actions (in_order t (cfg_actions n)).next true size read n address value) []) s.1) cfg_tried });
+            came = (refl, record { made = cfg_flight; tried = subst (λ (l : List Action). LogHasTried p forgive y log2 mem k t cfg_flight l m0) (ap (λ (b : Bool). cond b (memory_actions (in_order t (cfg_actions n)).next true size read n address value) []) s.1) cfg_tried });
             small_is = (wide, s);
             reads_are = sym (reads_are true wide ∙ ap (λ (b : Bool). 1 + one_if b) s.1);
             kept_is = ap (λ (q : Kept). forget q n) is ∙ kept_by_cfg k (select_value n 15) n cfg table lt ∙ (λ j. kept_alone k n 15 (not_large j || it_lacks j)) ∙ sym (kept_are true wide ∙ ap (λ (b : Bool). kept_alone k n (cond b 0 15) b) s.1);
@@ -167,14 +167,14 @@ module _ (p : Planner) (forgive : Bool) (x : Option BenchState) (log : LogState)
 
 -- ---- an AP unit
 
-module _ (p : Planner) (forgive : Bool) (x : Option BenchState) (log : LogState) (k : Kept) (t : TargetState) (rest : List Action) (m0 : BenchState) (read : Bool) (n addr value : ℕ) (h : HasTried p forgive x log (unit.Ap read n addr value) k t [] rest m0) (lt : n < 256) (fits : addr < 256) where
+module _ (p : Planner) (forgive : Bool) (x : Option BenchState) (log : LogState) (k : Kept) (t : TargetState) (rest : List Action) (m0 : BenchState) (read : Bool) (n addr value : ℕ) (h : LogHasTried p forgive x log (unit.Ap read n addr value) k t [] rest m0) (lt : n < 256) (fits : addr < 256) where
   abbrev reg : AccessUnit
   reg = unit.Ap read n addr value
 
   port_clear : t.sticky ≡ false
   port_clear = tried_clear p forgive x log reg k t [] rest m0 h
 
-  pub port_next : IsNext reg t [] (select_of n (addr / 16) ∷ []) (ap_access_of read (addr % 16) value) true rest []
+  pub port_next : AreNextAccesses reg t [] (select_of n (addr / 16) ∷ []) (ap_access_of read (addr % 16) value) true rest []
   port_next = record { may = refl; first = refl; are = sym (tried_actions p forgive x log reg k t [] rest m0 h); parts = refl; early = refl; good = select_is_good t n (addr / 16) lt (omega (arith, fits)) port_clear }
 
   small_port : (w : Option ℕ) → IsSmallBy false w reg k t

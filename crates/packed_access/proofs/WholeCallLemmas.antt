@@ -22,7 +22,7 @@ use Rattle.access_calls.specs.Standing.{WhereObservable}
 use Rattle.access_calls.specs.declared.stop.Stop.{Stop}
 use Rattle.flight_laws.proofs.ComeLemmas.{small_given}
 use Rattle.packed_access.specs.Marks.{unmarked_append, unmarked_last}
-use Rattle.packed_access.specs.Begun.{HasAsked, HasBegun, HasIssued, IsIssuing, IsOpenAt, IsSince}
+use Rattle.packed_access.specs.Begun.{HasBegun, HasIssued, IsIssuing, IsOpenAt, IsSince, LogHasAsked}
 use Rattle.packed_access.specs.Logs.{LogState, all_confirmed, all_issued, reported_by, result_for, with_result}
 use Rattle.packed_access.proofs.ActionLemmas.{at_rest_count}
 use Rattle.packed_access.proofs.AskLemmas.{asked_calm, call_whole}
@@ -74,7 +74,7 @@ asked_known p calls ask log kept k m0 are unmarked is here =
     ∙ ap (λ (q : Kept). (issue_of p (target_by p (target_of m0.probe) calls) q ask).kept) is ∙ sym here
 
 -- the call has all its entries, and comes with the flight
-pub whole_begun : (p : Planner) (x y : Option BenchState) (bench : BenchReported) (old log new : LogState) (sent got : List ℕ) (k kept : Kept) (accesses accesses' : List RegAccess) (calls : List Ask) (ask : Ask) (m0 : BenchState) → HasAsked p x old accesses k calls ask m0 → HasIssued p y log accesses' [] m0 →
+pub whole_begun : (p : Planner) (x y : Option BenchState) (bench : BenchReported) (old log new : LogState) (sent got : List ℕ) (k kept : Kept) (accesses accesses' : List RegAccess) (calls : List Ask) (ask : Ask) (m0 : BenchState) → LogHasAsked p x old accesses k calls ask m0 → HasIssued p y log accesses' [] m0 →
     log.calls ≡ old.calls → log.whole + 1 ≡ length log.calls → kept ≡ (issue_of p (target_by p (target_of m0.probe) calls) k ask).kept → is_forgiving ask ≡ false → false ≡ small_now (start_world (target_of m0.probe) None) calls ask →
     log.confirmed < length log.entries → length log.places ≡ length log.calls → log.end ≡ None → new ≡ all_issued log → HasBegun p bench y new sent got kept accesses' m0
 whole_begun p x y bench old log new sent got k kept accesses accesses' calls ask m0 a h same whole here mild large some places none is =
@@ -98,7 +98,7 @@ zero_result (Access (unit.Poll mask value turns)) = refl
 zero_result (Probe command) = refl
 
 -- the call ended because its AP has no large addresses
-pub small_begun : (p : Planner) (x y : Option BenchState) (bench : BenchReported) (old log new : LogState) (sent got : List ℕ) (k kept : Kept) (accesses accesses' : List RegAccess) (calls : List Ask) (ask : Ask) (index : ℕ) (m0 : BenchState) → HasAsked p x old accesses k calls ask m0 → HasIssued p y log accesses' [] m0 →
+pub small_begun : (p : Planner) (x y : Option BenchState) (bench : BenchReported) (old log new : LogState) (sent got : List ℕ) (k kept : Kept) (accesses accesses' : List RegAccess) (calls : List Ask) (ask : Ask) (index : ℕ) (m0 : BenchState) → LogHasAsked p x old accesses k calls ask m0 → HasIssued p y log accesses' [] m0 →
     log.calls ≡ old.calls → log.whole + 1 ≡ length log.calls → kept ≡ (issue_of p (target_by p (target_of m0.probe) calls) k ask).kept → true ≡ small_now (start_world (target_of m0.probe) None) calls ask →
     accesses' ≡ [] → length log.results ≡ length log.calls → log.end ≡ None → index + 1 ≡ length log.calls → new ≡ all_confirmed (with_result (all_issued log) index (result_for (slice_get log.calls index) 0)) → HasBegun p bench y new sent got kept accesses' m0
 small_begun p x y bench old log new sent got k kept accesses accesses' calls ask index m0 a h same whole here small empty long none last is =

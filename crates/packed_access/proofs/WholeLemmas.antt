@@ -30,7 +30,7 @@ use Rattle.flight_laws.proofs.FlightLemmas.{room_grown}
 use Rattle.flight_laws.proofs.SendLemmas.{whole_sends}
 use Rattle.packed_access.specs.Begun.{HasIssued, IsGivenAt, IsIssuing, most_weight}
 use Rattle.bench_flights.specs.Flown.{HasCome}
-use Rattle.packed_access.specs.Logs.{LogState, all_confirmed, all_taken, filled, pending_place, result_by, result_for}
+use Rattle.packed_access.specs.Logs.{LogState, all_confirmed, all_taken, flight_results, pending_place, result_by, result_for}
 use Rattle.packed_access.specs.Stands.{IsMildAt, mild_from}
 use Rattle.packed_access.proofs.CameLemmas.{HaveCome, have_come_own, place_within, take_through}
 use Rattle.packed_access.proofs.FillLemmas.{filled_is, filled_length}
@@ -137,9 +137,9 @@ module _ (p : Planner) (log : LogState) (accesses : List RegAccess) (rest : List
       ∙ sym (take_first log.came log.whole (results (start_world t0 None) log.calls) h.in_order)
       ∙ ap (take log.came) (come.results_are None tt)
 
-  pub came_now : take log.whole (filled values log log.came (log.whole - log.came) log.results) ≡ results (start_world t0 None) first
+  pub came_now : take log.whole (flight_results values log log.came (log.whole - log.came) log.results) ≡ results (start_world t0 None) first
   came_now =
-      ap (λ (k : ℕ). take k (filled values log log.came (log.whole - log.came) log.results)) (sym enough)
+      ap (λ (k : ℕ). take k (flight_results values log log.came (log.whole - log.came) log.results)) (sym enough)
       ∙ filled_is values log log.came (log.whole - log.came) log.results all front_same (let w = h.within in omega (arith, enough, long, w)) (let l = come.length_is in omega (arith, enough, l))
       (λ i low less. result_there i low (omega (arith, less, enough)))
       ∙ ap (λ (k : ℕ). take k all) (enough ∙ sym come.length_is)

@@ -22,7 +22,7 @@ use Rattle.access_calls.specs.Answers.{AtCut}
 use Rattle.access_calls.specs.Issued.{AreKeptOf}
 use Rattle.access_calls.specs.Left.{IsLeft}
 use Rattle.access_calls.specs.Reported.{AccessView, began, world_from}
-use Rattle.access_calls.specs.Standing.{Stands, WhereObservable}
+use Rattle.access_calls.specs.Standing.{AccessStands, WhereObservable}
 use Rattle.access_calls.specs.declared.stop.Stop.{Stop}
 use Rattle.batch_packer.specs.Flying.{CanFly}
 use Rattle.flight_laws.specs.Ending.{IsEnded, StopsBy}
@@ -74,8 +74,8 @@ pub record HasIssued (p : Planner) (state : Option BenchState) (log : LogState) 
   pub so : WhereObservable state (λ m. IsIssuing p log accesses rest m0 m)
 
 -- the entries of accesses that are all the same to their unit, which forgives nothing
-abbrev pub entries_of : ℕ → Part → List RegAccess → List Entry
-entries_of unit part accesses = map (λ a. record { unit = unit; part = part; forgiving = false; action = Makes a }) accesses
+abbrev pub strict_entries : ℕ → Part → List RegAccess → List Entry
+strict_entries unit part accesses = map (λ a. record { unit = unit; part = part; forgiving = false; action = Makes a }) accesses
 
 -- the unit is no poll
 abbrev pub IsNoPoll : AccessUnit → Type 0
@@ -111,21 +111,21 @@ pub record HasBegun (p : Planner) (bench : BenchReported) (state : Option BenchS
   pub so : WhereObservable state (λ m. IsSince p log.end (reported_by bench state log sent got) log kept accesses m0 m)
 
 -- The access has ended so, as the laws of calls in flight say it.
-pub record HasEnded (p : Planner) (s : Stop) (a : AccessView) (log : LogState) (m0 : BenchState) : Type 0 where
+pub record LogHasEnded (p : Planner) (s : Stop) (a : AccessView) (log : LogState) (m0 : BenchState) : Type 0 where
   pub so : WhereObservable a.state (λ m. IsEnded p s a (take log.known log.results) m0 m)
 
 -- At a cut the calls stop right after those that have their lines before it, or in the settling of a `finish`.
-pub record StopsThere (m0 : BenchState) (answered : Option ℕ) (calls : List Ask) (lines : ℕ) (s : Stop) : Type 0 where
+pub record StopsAfterLines (m0 : BenchState) (answered : Option ℕ) (calls : List Ask) (lines : ℕ) (s : Stop) : Type 0 where
   pub so : AtCut s (λ r. StopsBy r.cause (world_from m0 answered) calls lines)
 
 -- the entries that a call issues after others
-abbrev pub own_entries : Planner → TargetState → List Ask → Kept → Ask → List Entry
-own_entries p t calls kept ask = numbered (length calls) (is_forgiving ask) (issue_of p (target_by p t calls) kept ask).steps
+abbrev pub entries_for_call : Planner → TargetState → List Ask → Kept → Ask → List Entry
+entries_for_call p t calls kept ask = numbered (length calls) (is_forgiving ask) (issue_of p (target_by p t calls) kept ask).steps
 
 -- The last call was asked after these, and nothing of it is issued; this is known of the registers after those before it.
-pub record HasAsked (p : Planner) (state : Option BenchState) (log : LogState) (accesses : List RegAccess) (kept : Kept) (calls : List Ask) (ask : Ask)
+pub record LogHasAsked (p : Planner) (state : Option BenchState) (log : LogState) (accesses : List RegAccess) (kept : Kept) (calls : List Ask) (ask : Ask)
     (m0 : BenchState) : Type 0 where
   pub are : log.calls ≡ calls ++ ask ∷ []
   pub unmarked : ask.settled ≡ false
   pub kept_is : kept_by p (target_of m0.probe) calls ≡ kept
-  pub issued : HasIssued p state log accesses (own_entries p (target_of m0.probe) calls kept ask) m0
+  pub issued : HasIssued p state log accesses (entries_for_call p (target_of m0.probe) calls kept ask) m0

@@ -4,7 +4,7 @@ use Rattle.target_machine.specs.declared.access.RegAccess.{RegAccess}
 use Rattle.probe_core.specs.declared.job.Limits.{Limits}
 use Rattle.target_machine.specs.Counts.{one_if}
 use Rattle.target_calls.specs.Journal.{Entry}
-use Rattle.access_calls.specs.Bounds.{block_words, capacity}
+use Rattle.access_calls.specs.Bounds.{block_words, flight_capacity}
 use Rattle.bench_flights.specs.Full.{transfer_accesses}
 use Rattle.flight_laws.specs.Packets.{drw_writes_in, is_drw_write}
 
@@ -36,5 +36,5 @@ pub record AreBlocks (full : ℕ) (limits : Limits) (entries : List Entry) (conf
   pub all : full ≤ blocks + mixed + bare
   pub written : blocks * block_words limits ≤ drw_writes_in (take confirmed entries)
   pub changing : mixed ≤ changes_in (take (confirmed + 1) entries)
-  pub others : bare * capacity limits ≤ others_in (take confirmed entries)
+  pub others : bare * flight_capacity limits ≤ others_in (take confirmed entries)
   pub sizes : blocks * block_words limits + (mixed + bare) * transfer_accesses limits ≤ drw_writes_in (take confirmed entries) + others_in (take confirmed entries)

@@ -5,7 +5,7 @@ use Rattle.access_calls.specs.declared.issued.Issued.{Issued}
 use Rattle.packed_access.specs.declared.confirmed.Confirmed.{Confirmed}
 
 -- these are the numbers of entries of which this is kept
-pub record IsCountOf (c : Confirmed) (first : List Issued) : Type 0 where
+pub record CountsConfirmed (c : Confirmed) (first : List Issued) : Type 0 where
   pub entries : c.entries ≡ length first
   pub attempted : c.attempted ≡ attempted_by_kept first
   pub skipped : c.skipped ≡ skipped_by_kept first

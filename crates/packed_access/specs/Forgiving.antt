@@ -23,7 +23,7 @@ use Rattle.access_calls.specs.Standing.{WhereObservable}
 use Rattle.access_calls.specs.declared.stop.Stop.{Stop}
 use Rattle.flight_laws.specs.Ending.{IsEnded}
 use Rattle.flight_laws.specs.Forgiving.{abort_after, steps_of_unit}
-use Rattle.packed_access.specs.Begun.{IsIssuing, StopsThere}
+use Rattle.packed_access.specs.Begun.{IsIssuing, StopsAfterLines}
 use Rattle.packed_access.specs.Logs.{LogState, all_confirmed, all_issued, result_for, with_result}
 use Rattle.access_regs.specs.declared.planner.Planner.{Planner}
 
@@ -40,7 +40,7 @@ pub record IsTrying (p : Planner) (forgive : Bool) (log : LogState) (asked : Acc
   pub end : rest ≡ [] → left ≡ []
 
 -- So it is where the bench is observable.
-pub record HasTried (p : Planner) (forgive : Bool) (state : Option BenchState) (log : LogState) (asked : AccessUnit) (k : Kept) (t : TargetState)
+pub record LogHasTried (p : Planner) (forgive : Bool) (state : Option BenchState) (log : LogState) (asked : AccessUnit) (k : Kept) (t : TargetState)
     (made : List RegAccess) (rest : List Action) (m0 : BenchState) : Type 0 where
   pub so : WhereObservable state (λ m. IsTrying p forgive log asked k t made rest m0 m)
 
@@ -59,9 +59,9 @@ pub record HasForgiven (p : Planner) (forgive : Bool) (state : Option BenchState
   pub so : WhereObservable state (λ m. IsForgiven p forgive log asked k t made access m0 m)
 
 -- The access has ended so, and there the calls stop.
-pub record HasBroken (p : Planner) (s : Stop) (a : AccessView) (log : LogState) (calls : List Ask) (m0 : BenchState) : Type 0 where
+pub record LogIsBroken (p : Planner) (s : Stop) (a : AccessView) (log : LogState) (calls : List Ask) (m0 : BenchState) : Type 0 where
   pub ended : WhereObservable a.state (λ m. IsEnded p s a (take log.known log.results) m0 m)
-  pub stops : (n : Option ℕ) → IsLeft a n → StopsThere m0 n calls log.lines s
+  pub stops : (n : Option ℕ) → IsLeft a n → StopsAfterLines m0 n calls log.lines s
 
 -- what the last access of a flight is to its unit
 abbrev pub last_part : Bool → Part
@@ -69,7 +69,7 @@ last_part ends = if ends then Ends else Leads
 
 -- Among the actions that are left these accesses come next, and then the rest. Only the last of them may fault, and it is the one that
 -- the unit is for, or none is. None of those before them is.
-pub record IsNext (asked : AccessUnit) (t : TargetState) (made leads : List RegAccess) (last : RegAccess) (ends : Bool) (rest more : List Action) : Type 0 where
+pub record AreNextAccesses (asked : AccessUnit) (t : TargetState) (made leads : List RegAccess) (last : RegAccess) (ends : Bool) (rest more : List Action) : Type 0 where
   pub may : may_forgive (Access asked) ≡ true
   pub first : is_early asked (making made) ≡ true
   pub are : rest ≡ making (leads ++ last ∷ []) ++ more
@@ -81,27 +81,27 @@ pub record IsNext (asked : AccessUnit) (t : TargetState) (made leads : List RegA
 abbrev pub WentTo : Planner → Bool → Option ℕ → Option BenchState → LogState → AccessUnit → Kept → TargetState → List RegAccess → List RegAccess → RegAccess →
     List Action → BenchState → Type 0
 WentTo p forgive (Some v) state log asked k t made leads last more m0 =
-    HasTried p forgive state log asked k t (made ++ (leads ++ last ∷ [])) more m0 × (v ≡ given (acted (after t (making (made ++ leads))) (Makes last)).outcome)
+    LogHasTried p forgive state log asked k t (made ++ (leads ++ last ∷ [])) more m0 × (v ≡ given (acted (after t (making (made ++ leads))) (Makes last)).outcome)
 WentTo p forgive None state log asked k t made leads last more m0 = HasForgiven p forgive state log asked k t (made ++ leads) last m0
 
 -- Those before the last came one by one, and the last comes next; or one of them faulted, which none does.
 abbrev pub LeadsCame : Bool → Planner → Bool → Option BenchState → LogState → AccessUnit → Kept → TargetState → List RegAccess → List RegAccess → RegAccess →
     List Action → BenchState → Type 0
-LeadsCame true p forgive state log asked k t made leads last more m0 = HasTried p forgive state log asked k t (made ++ leads) (Makes last ∷ more) m0
+LeadsCame true p forgive state log asked k t made leads last more m0 = LogHasTried p forgive state log asked k t (made ++ leads) (Makes last ∷ more) m0
 LeadsCame false p forgive state log asked k t made leads last more m0 = HasForgiven p forgive state log asked k t (made ++ leads) last m0
 
 -- All accesses of the unit were made, and none faulted.
 pub record HasAllMade (p : Planner) (forgive : Bool) (state : Option BenchState) (log : LogState) (asked : AccessUnit) (k : Kept) (t : TargetState)
     (m0 : BenchState) : Type 0 where
   pub made : List RegAccess
-  pub tried : HasTried p forgive state log asked k t made [] m0
+  pub tried : LogHasTried p forgive state log asked k t made [] m0
 
 -- So it is, and the last of them gave this.
-pub record HasAnswered (p : Planner) (forgive : Bool) (v : ℕ) (state : Option BenchState) (log : LogState) (asked : AccessUnit) (k : Kept) (t : TargetState)
+pub record LogHasAnswered (p : Planner) (forgive : Bool) (v : ℕ) (state : Option BenchState) (log : LogState) (asked : AccessUnit) (k : Kept) (t : TargetState)
     (m0 : BenchState) : Type 0 where
   pub made : List RegAccess
   pub last : RegAccess
-  pub tried : HasTried p forgive state log asked k t (made ++ last ∷ []) [] m0
+  pub tried : LogHasTried p forgive state log asked k t (made ++ last ∷ []) [] m0
   pub value : v ≡ given (acted (after t (making made)) (Makes last)).outcome
 
 -- One of them faulted, and ABORT was written.
@@ -113,7 +113,7 @@ pub record HasSkipped (p : Planner) (forgive : Bool) (state : Option BenchState)
 
 -- by what its last access gave, or none where it was skipped
 abbrev pub CameTo : Planner → Bool → Option ℕ → Option BenchState → LogState → AccessUnit → Kept → TargetState → BenchState → Type 0
-CameTo p forgive (Some v) state log asked k t m0 = HasAnswered p forgive v state log asked k t m0
+CameTo p forgive (Some v) state log asked k t m0 = LogHasAnswered p forgive v state log asked k t m0
 CameTo p forgive None state log asked k t m0 = HasSkipped p forgive state log asked k t m0
 
 -- The read of CFG came, and shows large addresses or not.
@@ -145,9 +145,9 @@ abbrev pub ended_with : LogState → ℕ → LogState
 ended_with log word = all_confirmed (with_result (all_issued log) (length log.calls - 1) (result_for (slice_get log.calls (length log.calls - 1)) word))
 
 -- so it is, or the call was skipped
-abbrev pub closed : Option ℕ → LogState → LogState
-closed (Some word) log = ended_with log word
-closed None log = record (ended_with log 0) { skipped = min (log.skipped + 1) (2 ^ 32 - 1) }
+abbrev pub log_after_answer : Option ℕ → LogState → LogState
+log_after_answer (Some word) log = ended_with log word
+log_after_answer None log = record (ended_with log 0) { skipped = min (log.skipped + 1) (2 ^ 32 - 1) }
 
 -- these accesses were issued as the same to their unit
 abbrev pub with_accesses : LogState → ℕ → Part → List RegAccess → LogState

@@ -9,7 +9,7 @@ use Rattle.access_regs.specs.Journal.{is_alone}
 use Rattle.access_regs.specs.Kept.{Kept}
 use Rattle.access_regs.specs.declared.planner.Planner.{Planner}
 use Rattle.access_calls.specs.Answers.{NoMemory}
-use Rattle.access_calls.specs.GoesOn.{GoesOn}
+use Rattle.access_calls.specs.GoesOn.{AccessGoesOn}
 use Rattle.access_calls.specs.declared.stop.Stop.{Stop}
 use Rattle.packed_access.specs.Begun.{IsNoPoll}
 use Rattle.packed_access.specs.Logs.{IsFurther, asks_of, most_entries}
@@ -68,29 +68,29 @@ pub record CanCommandLast (call : ProbeCall) (s : SenderView) : Type 0 where
 
 -- What each step of a sender keeps: which loan its bench is, the limits of its packets, the calls that were asked, and what each call
 -- of an access keeps.
-pub record Keeps (old new : SenderView) : Type 0 where
+pub record KeepsSender (old new : SenderView) : Type 0 where
   pub same_bench : new.identity ≡ old.identity
   pub same_limits : new.limits ≡ old.limits
   pub calls : new.log.calls ≡ old.log.calls
-  pub goes : GoesOn (access_view old) (access_view new)
+  pub goes : AccessGoesOn (access_view old) (access_view new)
 
 -- How a step ends: where it answers, the access goes on; a stop is the end of the access; memory is never refused.
-pub record EndsBy {T : Type 0} (result : Result T Stop) (new : SenderView) : Type 0 where
+pub record StepEndsBy {T : Type 0} (result : Result T Stop) (new : SenderView) : Type 0 where
   pub no_end : OnOk result (new.log.end ≡ None)
   pub ended : IfErr result (λ s. new.log.end ≡ Some s)
   pub memory : IfErr result NoMemory
 
 -- What a step of a sender keeps, and how it ends.
-pub record Steps {T : Type 0} (result : Result T Stop) (old new : SenderView) : Type 0 where
-  pub keeps : Keeps old new
-  pub ends : EndsBy result new
+pub record SenderSteps {T : Type 0} (result : Result T Stop) (old new : SenderView) : Type 0 where
+  pub keeps : KeepsSender old new
+  pub ends : StepEndsBy result new
 
 -- ---- kinds of steps
 
 -- A step that sends the flight, or makes a command or a poll: no need point comes, and the same is known of the registers. Where it answers,
 -- the flight is empty.
 pub record Exchanges {T : Type 0} (result : Result T Stop) (old new : SenderView) : Type 0 where
-  pub step : Steps result old new
+  pub step : SenderSteps result old new
   pub asks : asks_of new.log ≡ asks_of old.log
   pub managed : new.managed ≡ old.managed
   pub empty : OnOk result (new.accesses ≡ [])
@@ -98,7 +98,7 @@ pub record Exchanges {T : Type 0} (result : Result T Stop) (old new : SenderView
 -- A step that issues accesses: no need point comes, and this is known of the registers. Where it answers, entries were issued and results
 -- came, and nothing else changed in what is kept of the calls.
 pub record Further {T : Type 0} (result : Result T Stop) (known : Kept) (old new : SenderView) : Type 0 where
-  pub step : Steps result old new
+  pub step : SenderSteps result old new
   pub asks : asks_of new.log ≡ asks_of old.log
   pub so : OnOk result (IsFurther old.log new.log)
   pub managed : new.managed ≡ known
@@ -106,7 +106,7 @@ pub record Further {T : Type 0} (result : Result T Stop) (known : Kept) (old new
 -- A step that issues parts of a unit: where it answers, at most so many entries were issued, and no call more is issued whole. The last need
 -- point is past the known results only where it was.
 pub record IssuesFew {T : Type 0} (result : Result T Stop) (count : ℕ) (old new : SenderView) : Type 0 where
-  pub step : Steps result old new
+  pub step : SenderSteps result old new
   pub entries : OnOk result (length new.log.entries ≤ length old.log.entries + count)
   pub whole : OnOk result (new.log.whole ≡ old.log.whole)
   pub room : OnOk result (new.log.room ≡ old.log.room)
@@ -115,7 +115,7 @@ pub record IssuesFew {T : Type 0} (result : Result T Stop) (count : ℕ) (old ne
 -- A step that makes parts of a unit alone: no need point comes. Where it answers, at most so many entries were issued, all of them came, and
 -- the flight is empty.
 pub record Tries {T : Type 0} (result : Result T Stop) (count : ℕ) (old new : SenderView) : Type 0 where
-  pub step : Steps result old new
+  pub step : SenderSteps result old new
   pub asks : asks_of new.log ≡ asks_of old.log
   pub further : OnOk result (IsFurther old.log new.log)
   pub entries : OnOk result (length new.log.entries ≤ length old.log.entries + count)

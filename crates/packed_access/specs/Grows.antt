@@ -15,10 +15,10 @@ use Rattle.access_regs.specs.Plan.{settle}
 use Rattle.access_regs.specs.declared.planner.Planner.{Planner}
 use Rattle.access_regs.proofs.EntryLemmas.{journal_marks}
 use Rattle.access_regs.proofs.Joins.{journal_joins, later_entries}
-use Rattle.access_calls.specs.Growing.{IsAfter, JournalGrows, JournalSettles}
+use Rattle.access_calls.specs.Growing.{IsAfter, JournalGoesOn, JournalSettles}
 
 -- The journal of more calls is that of the first calls, and entries of later calls after it.
-pub grows_packed : (p : Planner) → JournalGrows (issued p)
+pub grows_packed : (p : Planner) → JournalGoesOn (issued p)
 grows_packed p t asks more =
     let n : ℕ = 0 + length asks in
     let rest : List Entry = issued_from p n (kept_from p nothing_kept t asks) (target_after t (issued p t asks)) more in

@@ -23,7 +23,7 @@ use Rattle.access_calls.specs.declared.stop.StopCause.TheVariants.{Faulted, NoAn
 use Rattle.batch_packer.specs.SlotList.{slot_at}
 use Rattle.batch_packer.specs.declared.ends.FlightEnd.{FlightEnd}
 use Rattle.batch_packer.specs.declared.ends.FlightEnd.TheVariants as ends
-use Rattle.packed_access.specs.Counted.{IsCountOf}
+use Rattle.packed_access.specs.Counted.{CountsConfirmed}
 use Rattle.packed_access.specs.declared.confirmed.Confirmed.{Confirmed}
 
 -- What is kept of the calls.
@@ -61,7 +61,7 @@ IsOfCall calls entry = (0 < entry.unit) × (entry.unit ≤ calls)
 
 -- What is kept is within its room. There is a result and a place for each call, the entries have room, each is of one of the calls, and the
 -- calls may be asked. Of calls that came, all but the last were let go; of the entries that are confirmed, their numbers are kept.
-pub record IsSoundLog (calls : List Ask) (results places : List ℕ) (room : ℕ) (entries : List Issued) (confirmed whole came known fence : ℕ)
+pub record IsSoundSenderLog (calls : List Ask) (results places : List ℕ) (room : ℕ) (entries : List Issued) (confirmed whole came known fence : ℕ)
     (end : Option Stop) (calls_gone places_gone memory : ℕ) (counted : Confirmed) : Type 0 where
   pub few : length calls ≤ 10000000
   pub sound : AllByRecursion (λ ask. IsSoundCall ask.call) calls
@@ -78,7 +78,7 @@ pub record IsSoundLog (calls : List Ask) (results places : List ℕ) (room : ℕ
   pub fence_within : fence ≤ length calls
   pub calls_late : calls_gone ≤ came - 1
   pub places_late : places_gone ≤ came - 1
-  pub counts : IsCountOf counted (take confirmed entries)
+  pub counts : CountsConfirmed counted (take confirmed entries)
   pub open_order : end ≡ None → came ≤ whole
   pub open_known : end ≡ None → known ≡ came
   pub later : end ≡ None → AllByRecursion (λ e. came ≤ lines_before_kept e) (drop confirmed entries)
@@ -125,12 +125,12 @@ nothing_logged = record {
 -- ---- what is reported
 
 -- the packet or the reply of the exchange that ended an access: only a cut and a bad reply have one
-abbrev pub kept_at : Option Stop → List ℕ → List ℕ
-kept_at None bytes = []
-kept_at (Some (Cut r)) bytes = bytes
-kept_at (Some (BenchFault issued confirmed)) bytes = []
-kept_at (Some ReplyBad) bytes = bytes
-kept_at (Some OutOfMemory) bytes = []
+abbrev pub bytes_kept_at : Option Stop → List ℕ → List ℕ
+bytes_kept_at None bytes = []
+bytes_kept_at (Some (Cut r)) bytes = bytes
+bytes_kept_at (Some (BenchFault issued confirmed)) bytes = []
+bytes_kept_at (Some ReplyBad) bytes = bytes
+bytes_kept_at (Some OutOfMemory) bytes = []
 
 -- the calls with their need points
 abbrev pub asks_of : LogState → Asks
@@ -150,8 +150,8 @@ reported_by bench state log sent got = record {
   skipped = log.skipped;
   issued = length log.entries;
   confirmed = log.confirmed;
-  sent = kept_at log.end sent;
-  got = kept_at log.end got;
+  sent = bytes_kept_at log.end sent;
+  got = bytes_kept_at log.end got;
 }
 
 -- ---- what changes
@@ -166,12 +166,12 @@ with_needs log zero calls = log
 with_needs log (suc points) calls = record log { needs = capped_sum log.needs (suc points); fence = calls }
 
 -- one more entry was issued
-abbrev pub with_entry : LogState → Issued → LogState
-with_entry log entry = record log { entries = log.entries ++ entry ∷ [] }
+abbrev pub log_with_entry : LogState → Issued → LogState
+log_with_entry log entry = record log { entries = log.entries ++ entry ∷ [] }
 
 -- one more call was asked, with room for so many entries
-abbrev pub with_call : LogState → Ask → ℕ → LogState
-with_call log ask room = record log { calls = log.calls ++ ask ∷ []; results = log.results ++ 0 ∷ []; places = log.places ++ 0 ∷ []; room = room }
+abbrev pub log_with_call : LogState → Ask → ℕ → LogState
+log_with_call log ask room = record log { calls = log.calls ++ ask ∷ []; results = log.results ++ 0 ∷ []; places = log.places ++ 0 ∷ []; room = room }
 
 -- all entries of the calls were issued; the last of them gives the result of the last call
 abbrev pub all_issued : LogState → LogState
@@ -195,13 +195,13 @@ abbrev pub result_by : List (Option ℕ) → LogState → ℕ → ℕ
 result_by values log index = result_for (slice_get log.calls index) (unwrap_or (slot_at values (pending_place log index)) 0)
 
 -- The results of so many calls from this one on are taken from the values of the flight.
-abbrev pub filled : List (Option ℕ) → LogState → ℕ → ℕ → List ℕ → List ℕ
-filled values log from zero results = results
-filled values log from (suc more) results = slice_set (filled values log from more results) (from + more) (result_by values log (from + more))
+abbrev pub flight_results : List (Option ℕ) → LogState → ℕ → ℕ → List ℕ → List ℕ
+flight_results values log from zero results = results
+flight_results values log from (suc more) results = slice_set (flight_results values log from more results) (from + more) (result_by values log (from + more))
 
 -- the flight came whole: the results of the calls that were issued whole are taken
 abbrev pub all_taken : List (Option ℕ) → LogState → LogState
-all_taken values log = record log { results = filled values log log.came (log.whole - log.came) log.results }
+all_taken values log = record log { results = flight_results values log log.came (log.whole - log.came) log.results }
 
 -- all entries are confirmed, and the calls that were issued whole have come
 abbrev pub all_confirmed : LogState → LogState
@@ -231,8 +231,8 @@ abbrev pub ended_by : Stop → LogState → LogState → LogState
 ended_by s old new = record old { end = Some s; came = new.came; lines = new.lines; skipped = new.skipped }
 
 -- how many entries lie in the flight
-abbrev pub pending : LogState → ℕ
-pending log = length log.entries - log.confirmed
+abbrev pub entries_pending : LogState → ℕ
+entries_pending log = length log.entries - log.confirmed
 
 -- the cause of a cut by its response: 02, and 04
 abbrev pub IsCause : ℕ → StopCause → Type 0
@@ -249,16 +249,16 @@ pub record IsLogCut (performed confirmed response : ℕ) (old new : LogState) (r
   pub next : new ≡ record old { end = Some (Cut r); came = new.lines; lines = new.lines; skipped = new.skipped }
 
 -- The access ended so, and keeps that.
-abbrev pub IsStopped : FlightEnd → LogState → LogState → Stop → Type 0
-IsStopped (ends.Cut cut) old new (Cut r) = IsLogCut cut.performed cut.confirmed cut.response old new r
-IsStopped (ends.Cut cut) old new other = ⊥
-IsStopped ends.BenchFault old new s = (s ≡ BenchFault (length old.entries) old.confirmed) × (new ≡ record old { end = Some s })
-IsStopped ends.ReplyBad old new s = (s ≡ ReplyBad) × (new ≡ record old { end = Some s })
+abbrev pub LogIsStopped : FlightEnd → LogState → LogState → Stop → Type 0
+LogIsStopped (ends.Cut cut) old new (Cut r) = IsLogCut cut.performed cut.confirmed cut.response old new r
+LogIsStopped (ends.Cut cut) old new other = ⊥
+LogIsStopped ends.BenchFault old new s = (s ≡ BenchFault (length old.entries) old.confirmed) × (new ≡ record old { end = Some s })
+LogIsStopped ends.ReplyBad old new s = (s ≡ ReplyBad) × (new ≡ record old { end = Some s })
 
 -- ---- a packet and a reply are kept only where one was the end
 
 -- a lemma: so it is at each end
-keeps_at : (end : Option Stop) (a : AccessView) (sent got : List ℕ) → a.sent ≡ kept_at end sent → a.got ≡ kept_at end got → KeepsReplyAt end a
+keeps_at : (end : Option Stop) (a : AccessView) (sent got : List ℕ) → a.sent ≡ bytes_kept_at end sent → a.got ≡ bytes_kept_at end got → KeepsReplyAt end a
 keeps_at None a sent got s g = record { sent = s; got = g }
 keeps_at (Some (Cut r)) a sent got s g = tt
 keeps_at (Some (BenchFault issued confirmed)) a sent got s g = record { sent = s; got = g }

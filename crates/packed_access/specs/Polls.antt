@@ -9,7 +9,7 @@ use Rattle.target_calls.specs.declared.calls.Ask.{Ask}
 use Rattle.access_regs.specs.Entries.{kept_by}
 use Rattle.access_regs.specs.Kept.{Kept}
 use Rattle.bench_flights.specs.Flown.{IsSetTo}
-use Rattle.packed_access.specs.Actions.{entry_of}
+use Rattle.packed_access.specs.Actions.{entry_of_call}
 use Rattle.packed_access.specs.Begun.{HasIssued}
 use Rattle.packed_access.specs.Logs.{LogState}
 use Rattle.access_regs.specs.declared.planner.Planner.{Planner}
@@ -22,5 +22,5 @@ pub record HasPoll (p : Planner) (state : Option BenchState) (log : LogState) (k
   pub call : ask.call ≡ Access (unit.Poll mask requested turns)
   pub unmarked : ask.settled ≡ false
   pub kept_is : kept_by p (target_of m0.probe) calls ≡ kept
-  pub issued : HasIssued p state log [] (entry_of calls (Polls mask requested turns) ∷ []) m0
+  pub issued : HasIssued p state log [] (entry_of_call calls (Polls mask requested turns) ∷ []) m0
   pub set : IsSetTo idle retry m0

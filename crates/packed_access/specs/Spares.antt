@@ -35,7 +35,7 @@ use Rattle.access_regs.specs.declared.planner.Planner.{Planner}
 use Rattle.access_regs.specs.declared.planner.Planner.TheVariants.{Managed, Plain}
 use Rattle.access_regs.proofs.AllCalls.{known_nothing}
 use Rattle.access_regs.proofs.CostLemmas.{planned_reads}
-use Rattle.access_calls.specs.Bounds.{AreNextWrites, KeepsBounds, KeepsBoundsIf, block_words, capacity, starting_since}
+use Rattle.access_calls.specs.Bounds.{AreNextWrites, KeepsBounds, KeepsBoundsIf, block_words, flight_capacity, starting_since}
 use Rattle.access_calls.specs.Reported.{Beginning, began}
 use Rattle.access_calls.specs.Standing.{WhereObservable}
 use Rattle.access_calls.specs.declared.stop.Stop.{Stop}
@@ -47,12 +47,12 @@ use Rattle.bench_flights.specs.Full.{transfer_accesses}
 use Rattle.packed_access.specs.Blocks.{AreBlocks, changes_after, changes_in, others_in}
 use Rattle.packed_access.specs.Logs.{LogState, asks_of, reported_by}
 use Rattle.packed_access.specs.NextWrites.{journal_few, mild_write}
-use Rattle.packed_access.specs.Sparing.{AreNeeded, HasBegunSparing, HasPaid, IsSpared, first_cost, keeps_bounds, left_of, marks_in}
+use Rattle.packed_access.specs.Sparing.{AreNeeded, HasBegunSparing, HasPaid, IsSpared, first_cost, keeps_bounds, marks_in, points_left}
 
 -- ---- the first bound
 
 -- a flight that is full has accesses, seven at least
-capacity_seven : (limits : Limits) → AreLimits limits → 7 ≤ capacity limits
+capacity_seven : (limits : Limits) → AreLimits limits → 7 ≤ flight_capacity limits
 capacity_seven limits fits = by_count limits.packet_count ((limits.packet_size - 21) / 6) fits.count_low (let s = fits.size_low in omega (arith, s))
   where
     by_count : (count words : ℕ) → 1 ≤ count → 7 ≤ words → 7 ≤ count * words
@@ -67,16 +67,16 @@ paid_few before after paid full left needs few counts covers = omega (arith, few
 -- at most three starting packets, one for each need point, and k / c for k register accesses, of which a flight holds c
 spared_few : (limits given : Limits) (log : LogState) (paid left : ℕ) (m0 m : BenchState) (n : Option ℕ) → IsSpared Managed limits given log paid m0 m →
     min (paid + left) (2 ^ 64 - 1) ≤ log.needs →
-    starting_since (began m0 n) m ≤ 3 + log.needs + registers_in (issued Managed (target_of m0.probe) log.calls) / capacity given
+    starting_since (began m0 n) m ≤ 3 + log.needs + registers_in (issued Managed (target_of m0.probe) log.calls) / flight_capacity given
 spared_few limits given log paid left m0 m n h covers =
     let j : List Entry = issued Managed (target_of m0.probe) log.calls in
     let few = paid_few m0.starting m.starting paid h.full left log.needs h.few h.counts covers in
-    let some : 0 < capacity limits = (let c = capacity_seven limits h.fits in omega (arith, c)) in
-    let most : starting_since (began m0 n) m ≤ 3 + log.needs + registers_in (take log.confirmed j ++ drop log.confirmed j) / capacity limits =
-    few_packets h.full (capacity limits) log.needs (take log.confirmed j) (drop log.confirmed j) (began m0 n) m
+    let some : 0 < flight_capacity limits = (let c = capacity_seven limits h.fits in omega (arith, c)) in
+    let most : starting_since (began m0 n) m ≤ 3 + log.needs + registers_in (take log.confirmed j ++ drop log.confirmed j) / flight_capacity limits =
+    few_packets h.full (flight_capacity limits) log.needs (take log.confirmed j) (drop log.confirmed j) (began m0 n) m
     (record { some = some; few = omega (arith, few); filled = h.filled }) in
-    subst (λ (l : Limits). starting_since (began m0 n) m ≤ 3 + log.needs + registers_in j / capacity l) h.limits_are
-    (subst (λ (l : List Entry). starting_since (began m0 n) m ≤ 3 + log.needs + registers_in l / capacity limits) (take-append-drop log.confirmed j) most)
+    subst (λ (l : Limits). starting_since (began m0 n) m ≤ 3 + log.needs + registers_in j / flight_capacity l) h.limits_are
+    (subst (λ (l : List Entry). starting_since (began m0 n) m ≤ 3 + log.needs + registers_in l / flight_capacity limits) (take-append-drop log.confirmed j) most)
 
 -- ---- the bound for neighbouring writes
 
@@ -143,7 +143,7 @@ blocks_few full confirmed limits entries writes fits h few bare most any =
     let d = changes_take false (confirmed + 1) entries in
     let k = others_take confirmed entries in
     let l = writes_take confirmed entries in
-    let one = bare_one h.bare (capacity limits) (capacity_seven limits fits) (let o = h.others in omega (arith, o, k, bare)) in
+    let one = bare_one h.bare (flight_capacity limits) (capacity_seven limits fits) (let o = h.others in omega (arith, o, k, bare)) in
     let filled : h.blocks * block_words limits ≤ writes = (let w = h.written in omega (arith, w, l, most)) in
     let sizes : h.blocks * block_words limits + (h.mixed + h.bare) * transfer_accesses limits ≤ writes + 8 = (let z = h.sizes in omega (arith, z, k, l, bare, most)) in
     let fit = extra_fit limits.packet_size h.blocks (h.mixed + h.bare) writes fits.size_low any (omega (arith, c, d, few, one)) filled sizes in
@@ -237,7 +237,7 @@ pub spares_packed : (limits : Limits) (bench : BenchReported) (state : Option Be
     KeepsBoundsIf true (issued Managed (target_of m0.probe) log.calls) (reported_by bench state log sent got) (began m0 n)
 spares_packed limits bench state log sent got kept accesses m0 n h = λ none.
     let p = h.paid none in
-    keeps_where state limits bench state log sent got kept accesses p.paid (left_of log) m0 n
+    keeps_where state limits bench state log sent got kept accesses p.paid (points_left log) m0 n
     (subst (λ (e : Option Stop). WhereObservable state (λ m. IsSince Managed e (reported_by bench state log sent got) log kept accesses m0 m)) none h.begun.so)
     (p.spared.so refl) (p.covers refl) (h.needed none)
 

@@ -14,7 +14,7 @@ use Rattle.target_calls.specs.declared.calls.Ask.{Ask}
 use Rattle.access_regs.specs.Costs.{cost_by}
 use Rattle.access_regs.specs.Journal.{is_alone, issued}
 use Rattle.access_regs.specs.Kept.{Kept}
-use Rattle.access_calls.specs.Bounds.{capacity}
+use Rattle.access_calls.specs.Bounds.{flight_capacity}
 use Rattle.access_calls.specs.Standing.{WhereObservable}
 use Rattle.bench_flights.specs.Flown.{IsSetTo}
 use Rattle.batch_packer.specs.Flying.{CanFly}
@@ -31,7 +31,7 @@ use Rattle.access_regs.specs.declared.planner.Planner.TheVariants.{Managed, Plai
 pub record IsSpared (p : Planner) (limits given : Limits) (log : LogState) (points : ℕ) (m0 m : BenchState) : Type 0 where
   pub full : ℕ
   pub few : m.starting ≤ m0.starting + 3 + points + full
-  pub filled : full * capacity limits ≤ registers_in (take log.confirmed (issued p (target_of m0.probe) log.calls))
+  pub filled : full * flight_capacity limits ≤ registers_in (take log.confirmed (issued p (target_of m0.probe) log.calls))
   pub counts : m.starting < 2 ^ 64
   pub limits_are : limits ≡ given
   pub fits : AreLimits limits
@@ -49,8 +49,8 @@ pub record HasPaid (p : Planner) (limits given : Limits) (state : Option BenchSt
   pub covers : p ≡ Managed → capped_sum paid left ≤ log.needs
 
 -- one need point is left where the last came after calls of which not all have come
-abbrev pub left_of : LogState → ℕ
-left_of log = one_if (nat_lt log.known log.fence)
+abbrev pub points_left : LogState → ℕ
+points_left log = one_if (nat_lt log.known log.fence)
 
 -- the bounds on packets are kept by the managed planner
 abbrev pub keeps_bounds : Planner → Bool
@@ -58,8 +58,8 @@ keeps_bounds Managed = true
 keeps_bounds Plain = false
 
 -- so many need points are counted by the managed planner alone
-abbrev pub counted : Planner → ℕ → ℕ
-counted p points = if is_alone p false then 0 else points
+abbrev pub managed_points : Planner → ℕ → ℕ
+managed_points p points = if is_alone p false then 0 else points
 
 -- how many of the calls have the mark of a `finish`
 abbrev pub marks_in : List Ask → ℕ
@@ -78,7 +78,7 @@ pub record AreNeeded (p : Planner) (t : TargetState) (asks : Asks) : Type 0 wher
 pub record HasBegunSparing (p : Planner) (limits : Limits) (bench : BenchReported) (state : Option BenchState) (log : LogState) (sent got : List ℕ) (kept : Kept)
     (accesses : List RegAccess) (m0 : BenchState) : Type 0 where
   pub begun : HasBegun p bench state log sent got kept accesses m0
-  pub paid : log.end ≡ None → HasPaid p limits bench.limits state log (left_of log) m0
+  pub paid : log.end ≡ None → HasPaid p limits bench.limits state log (points_left log) m0
   pub needed : log.end ≡ None → AreNeeded p (target_of m0.probe) (asks_of log)
 
 -- So it is, and the access began with these idle cycles and this retry number, which polls set again.

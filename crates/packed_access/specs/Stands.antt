@@ -21,7 +21,7 @@ use Rattle.access_regs.proofs.Joins.{journal_joins}
 use Rattle.access_calls.specs.Issued.{kept_of}
 use Rattle.access_calls.specs.Left.{IsLeft}
 use Rattle.access_calls.specs.Reported.{AccessView, began}
-use Rattle.access_calls.specs.Standing.{Stands, WhereObservable}
+use Rattle.access_calls.specs.Standing.{AccessStands, WhereObservable}
 use Rattle.access_calls.specs.declared.issued.Issued.{Issued}
 use Rattle.access_calls.specs.declared.stop.Stop.{Stop}
 use Rattle.flight_laws.specs.Ending.{BegunAt, IsBegun}
@@ -194,6 +194,6 @@ is_begun p bench state log sent got kept accesses m0 h = record { so = begun_whe
 pub stands_packed : (p : Planner) (bench : BenchReported) (state : Option BenchState) (log : LogState) (sent got : List ℕ) (kept : Kept)
     (accesses : List RegAccess) (m0 : BenchState) (n : Option ℕ) →
     HasBegun p bench state log sent got kept accesses m0 → IsLeft (reported_by bench state log sent got) n →
-    Stands (issued p) (reported_by bench state log sent got) (began m0 n)
+    AccessStands (issued p) (reported_by bench state log sent got) (began m0 n)
 stands_packed p bench state log sent got kept accesses m0 n h left =
     begun_stands p (reported_by bench state log sent got) kept accesses (take log.known log.results) m0 n (is_begun p bench state log sent got kept accesses m0 h) left

@@ -17,8 +17,8 @@ use Rattle.access_regs.specs.Kept.{Kept}
 use Rattle.access_regs.specs.declared.planner.Planner.{Planner}
 use Rattle.access_calls.specs.Reported.{AccessView}
 use Rattle.access_calls.specs.declared.stop.Stop.{Stop}
-use Rattle.packed_access.specs.Begun.{HasAsked, HasBegun, HasEnded, HasIssued}
-use Rattle.packed_access.specs.Forgiving.{HasBroken, HasTried}
+use Rattle.packed_access.specs.Begun.{HasBegun, HasIssued, LogHasAsked, LogHasEnded}
+use Rattle.packed_access.specs.Forgiving.{LogHasTried, LogIsBroken}
 use Rattle.packed_access.specs.Logs.{LogState, asks_of, reported_by}
 use Rattle.packed_access.specs.Sparing.{HasPaid, HasSpared}
 
@@ -60,38 +60,38 @@ abbrev pub IsToIssueNext : SenderView → List Entry → BenchState → Type 0
 IsToIssueNext s rest m0 = HasIssued s.planner s.state s.log [] rest m0
 
 -- at most so many starting packets were sent, besides those of full flights
-abbrev pub IsSparing : SenderView → ℕ → BenchState → Type 0
-IsSparing s points m0 = HasSpared s.planner s.limits s.bench.limits s.state s.log points m0
+abbrev pub SenderIsSparing : SenderView → ℕ → BenchState → Type 0
+SenderIsSparing s points m0 = HasSpared s.planner s.limits s.bench.limits s.state s.log points m0
 
 -- the starting packets were paid for by need points, and so many of these are left
 abbrev pub IsPaid : SenderView → ℕ → BenchState → Type 0
 IsPaid s left m0 = HasPaid s.planner s.limits s.bench.limits s.state s.log left m0
 
 -- the last call was asked after these, and nothing of it is issued
-abbrev pub IsAsked : SenderView → List Ask → Ask → BenchState → Type 0
-IsAsked s calls ask m0 = HasAsked s.planner s.state s.log s.accesses s.managed calls ask m0
+abbrev pub SenderHasAsked : SenderView → List Ask → Ask → BenchState → Type 0
+SenderHasAsked s calls ask m0 = LogHasAsked s.planner s.state s.log s.accesses s.managed calls ask m0
 
 -- the access began when its bench had this state
-abbrev pub IsBegun : SenderView → BenchState → Type 0
-IsBegun s m0 = HasBegun s.planner s.bench s.state s.log s.sent s.got s.managed s.accesses m0
+abbrev pub SenderHasBegun : SenderView → BenchState → Type 0
+SenderHasBegun s m0 = HasBegun s.planner s.bench s.state s.log s.sent s.got s.managed s.accesses m0
 
 -- the access has ended so
 abbrev pub IsAtEnd : SenderView → BenchState → Stop → Type 0
-IsAtEnd s m0 stop = HasEnded s.planner stop (access_view s) s.log m0
+IsAtEnd s m0 stop = LogHasEnded s.planner stop (access_view s) s.log m0
 
 -- there is room for any access
 abbrev pub HasSpace : SenderView → Type 0
 HasSpace s = (next : RegAccess) → IsTaken next → s.admits next ≡ true
 
 -- the need points of the last call, asked after these, were counted
-abbrev pub HasNeeds : SenderView → SenderView → List Ask → Ask → BenchState → Type 0
-HasNeeds old new calls ask m0 =
+abbrev pub SenderHasNeeds : SenderView → SenderView → List Ask → Ask → BenchState → Type 0
+SenderHasNeeds old new calls ask m0 =
     asks_of new.log ≡ asked (cost_by old.planner (target_of m0.probe) calls ask) ask (record { calls = calls; needs = old.log.needs; fence = old.log.fence })
 
 -- a unit that is made alone has made these accesses, and these actions follow where no later one does
 abbrev pub IsTried : SenderView → Bool → AccessUnit → Kept → TargetState → List RegAccess → List Action → BenchState → Type 0
-IsTried s forgive asked k t made rest m0 = HasTried s.planner forgive s.state s.log asked k t made rest m0
+IsTried s forgive asked k t made rest m0 = LogHasTried s.planner forgive s.state s.log asked k t made rest m0
 
 -- the access has ended so, and there the calls stop
-abbrev pub IsBroken : SenderView → List Ask → BenchState → Stop → Type 0
-IsBroken s calls m0 stop = HasBroken s.planner stop (access_view s) s.log calls m0
+abbrev pub SenderIsBroken : SenderView → List Ask → BenchState → Stop → Type 0
+SenderIsBroken s calls m0 stop = LogIsBroken s.planner stop (access_view s) s.log calls m0

@@ -13,8 +13,8 @@ ghost use Rattle.target_calls.specs.Asks.{is_forgiving};
 ghost use Rattle.probe_core.specs.Probe.{target_of};
 ghost use Rattle.target_machine.specs.declared.unit.Call.TheVariants.{Access};
 ghost use Rattle.packed_access.specs.Gives.{AsksFor, Plans};
-ghost use Rattle.packed_access.specs.Frame.{AsksWhole, CanIssue, IsSoundAccess, IssuesFew, Steps};
-ghost use Rattle.packed_access.specs.Views.{IsAsked, IsBegun, IsToIssue};
+ghost use Rattle.packed_access.specs.Frame.{AsksWhole, CanIssue, IsSoundAccess, IssuesFew, SenderSteps};
+ghost use Rattle.packed_access.specs.Views.{IsToIssue, SenderHasAsked, SenderHasBegun};
 
 use crate::seen::Seen;
 use crate::sender::Sender;
@@ -74,10 +74,10 @@ impl<F: Flights> Sender<F> {
         ensures gives { AsksFor result (⟦<Self as Seen>⟧.view self.old) (⟦<Self as Seen>⟧.view self.new)
             (λ m0 ask. (ask.call ≡ Access unit.now) × (is_forgiving ask ≡ false)) (λ s m0. IsToIssue s [] m0) }
         ensures kept { (m0 : BenchState) (calls : List Ask) (ask : Ask) → ask.call ≡ Access unit.now → is_forgiving ask ≡ false
-            → IsAsked (⟦<Self as Seen>⟧.view self.old) calls ask m0
+            → SenderHasAsked (⟦<Self as Seen>⟧.view self.old) calls ask m0
             → OnOk result (self.new.managed ≡ (issue_of F.planner (target_by F.planner (target_of m0.probe) calls) self.old.managed ask).kept) }
         ensures small { (m0 : BenchState) (calls : List Ask) (ask : Ask) → ask.call ≡ Access unit.now → is_forgiving ask ≡ false
-            → IsAsked (⟦<Self as Seen>⟧.view self.old) calls ask m0
+            → SenderHasAsked (⟦<Self as Seen>⟧.view self.old) calls ask m0
             → IfOk result (λ small. small ≡ small_now (start_world (target_of m0.probe) None) calls ask) }
         ensures issues { IssuesFew result 11 (⟦<Self as Seen>⟧.view self.old) (⟦<Self as Seen>⟧.view self.new) }
         ensures empty { IfOk result (λ small. small ≡ true → F.accesses self.new.flights ≡ []) }
@@ -101,11 +101,11 @@ impl<F: Flights> Sender<F> {
         requires sound { IsSoundAccess unit.now }
         requires planned { (is_alone F.planner false && may_forgive (Access unit.now)) ≡ false }
         ensures gives { AsksFor result (⟦<Self as Seen>⟧.view self.old) (⟦<Self as Seen>⟧.view self.new)
-            (λ m0 ask. (ask.call ≡ Access unit.now) × (is_forgiving ask ≡ false)) IsBegun }
+            (λ m0 ask. (ask.call ≡ Access unit.now) × (is_forgiving ask ≡ false)) SenderHasBegun }
         ensures small { (m0 : BenchState) (calls : List Ask) (ask : Ask) → ask.call ≡ Access unit.now → is_forgiving ask ≡ false
-            → IsAsked (⟦<Self as Seen>⟧.view self.old) calls ask m0
+            → SenderHasAsked (⟦<Self as Seen>⟧.view self.old) calls ask m0
             → IfOk result (λ small. small ≡ small_now (start_world (target_of m0.probe) None) calls ask) }
-        ensures step { Steps result (⟦<Self as Seen>⟧.view self.old) (⟦<Self as Seen>⟧.view self.new) }
+        ensures step { SenderSteps result (⟦<Self as Seen>⟧.view self.old) (⟦<Self as Seen>⟧.view self.new) }
         ensures asks { AsksWhole result (⟦<Self as Seen>⟧.view self.old) (⟦<Self as Seen>⟧.view self.new) }
     {
         match self.issue_planned(unit) {

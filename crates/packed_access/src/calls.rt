@@ -14,8 +14,8 @@ ghost use Rattle.probe_core.specs.Probe.{target_of};
 ghost use Rattle.access_regs.specs.Costs.{command_cost};
 ghost use Rattle.access_regs.specs.Journal.{is_alone};
 ghost use Rattle.packed_access.specs.Gives.{AsksFor};
-ghost use Rattle.packed_access.specs.Frame.{AsksWhole, CanIssue, Steps};
-ghost use Rattle.packed_access.specs.Views.{IsAsked, IsBegun};
+ghost use Rattle.packed_access.specs.Frame.{AsksWhole, CanIssue, SenderSteps};
+ghost use Rattle.packed_access.specs.Views.{SenderHasAsked, SenderHasBegun};
 
 use crate::access::PackedAccess;
 use crate::seen::Seen;
@@ -98,10 +98,10 @@ impl<F: Flights> Sender<F> {
         requires ready { CanIssue most_entries (⟦<Self as Seen>⟧.view self.old) }
         requires sound { IsSound unit.now }
         ensures gives { AsksFor result (⟦<Self as Seen>⟧.view self.old) (⟦<Self as Seen>⟧.view self.new)
-            (λ m0 ask. (IsSetTo config.idle config.retry m0) × (ask ≡ unit_ask unit.now forgive)) IsBegun }
+            (λ m0 ask. (IsSetTo config.idle config.retry m0) × (ask ≡ unit_ask unit.now forgive)) SenderHasBegun }
         ensures small { (m0 : BenchState) (calls : List Ask) (ask : Ask) → IsSetTo config.idle config.retry m0 → ask ≡ unit_ask unit.now forgive
-            → IsAsked (⟦<Self as Seen>⟧.view self.old) calls ask m0 → IfOk result (λ small. small ≡ small_now (start_world (target_of m0.probe) None) calls ask) }
-        ensures step { Steps result (⟦<Self as Seen>⟧.view self.old) (⟦<Self as Seen>⟧.view self.new) }
+            → SenderHasAsked (⟦<Self as Seen>⟧.view self.old) calls ask m0 → IfOk result (λ small. small ≡ small_now (start_world (target_of m0.probe) None) calls ask) }
+        ensures step { SenderSteps result (⟦<Self as Seen>⟧.view self.old) (⟦<Self as Seen>⟧.view self.new) }
         ensures asks { AsksWhole result (⟦<Self as Seen>⟧.view self.old) (⟦<Self as Seen>⟧.view self.new) }
     {
         match *unit {

@@ -5,7 +5,7 @@ ghost use Rattle.target_calls.specs.declared.calls.Ask.{Ask};
 ghost use Rattle.access_calls.specs.Issued.{AreKeptOf, attempted_by_kept, lines_before_kept, skipped_by_kept};
 ghost use Rattle.access_calls.specs.Numbers.{HasNumbers, attempted_by};
 ghost use Rattle.access_calls.specs.declared.issued.Issued.{Issued};
-ghost use Rattle.packed_access.specs.Counted.{AreFew, IsCountOf};
+ghost use Rattle.packed_access.specs.Counted.{AreFew, CountsConfirmed};
 
 use access_calls::{Issued, Report, StopCause, StopReport};
 use batch_packer::Cut;
@@ -81,7 +81,7 @@ fn lines_before(entry: Issued) -> u32
 impl Confirmed {
     // No entries.
     pub(crate) fn new() -> Confirmed
-        ensures { IsCountOf result [] }
+        ensures { CountsConfirmed result [] }
     {
         Confirmed {
             entries: 0,
@@ -95,7 +95,7 @@ impl Confirmed {
     pub(crate) fn add(&mut self, entries: &[Issued])
         requires few { self.old.entries + length entries.now < 2 ^ 32 }
         requires counts { AreFew self.old }
-        ensures { (first : List Issued) → IsCountOf self.old first → IsCountOf self.new (first ++ entries.now) }
+        ensures { (first : List Issued) → CountsConfirmed self.old first → CountsConfirmed self.new (first ++ entries.now) }
     {
         self.entries += entries.len() as u32;
         self.attempted += count_attempted(entries);
@@ -120,7 +120,7 @@ impl Confirmed {
         ensures cause { result.report.cause ≡ cause }
         ensures accesses { result.report.accesses ≡ self.now.entries + cut.performed }
         ensures confirmed { result.report.confirmed ≡ self.now.entries + cut.confirmed }
-        ensures numbers { (first : List Issued) (all : List Entry) (calls : List Ask) → IsCountOf self.now first → AreKeptOf all (first ++ entries.now)
+        ensures numbers { (first : List Issued) (all : List Entry) (calls : List Ask) → CountsConfirmed self.now first → AreKeptOf all (first ++ entries.now)
             → IfSome (slice_get entries.now cut.confirmed) (λ e. option_map (λ ask. ask.call) (slice_get calls (e.unit - 1)) ≡ Some what)
             → HasNumbers all calls result.skipped result.lines result.report }
     {

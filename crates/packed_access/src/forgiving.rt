@@ -8,7 +8,7 @@ ghost use Rattle.target_machine.specs.State.{TargetState};
 ghost use Rattle.target_machine.specs.declared.access.RegAccess.{RegAccess};
 ghost use Rattle.target_machine.specs.declared.unit.Unit.TheVariants as unit;
 ghost use Rattle.probe_core.specs.Bench.{BenchState, StepsTo};
-ghost use Rattle.packed_access.specs.Forgiving.{CameTo, IsDoneBy, closed};
+ghost use Rattle.packed_access.specs.Forgiving.{CameTo, IsDoneBy, log_after_answer};
 ghost use Rattle.bench_flights.specs.Flown.{SendsFew};
 ghost use Rattle.batch_packer.specs.Flying.{CanFly};
 ghost use Rattle.packed_access.specs.Logs.{IsSoundState, most_entries};
@@ -22,8 +22,8 @@ ghost use Rattle.access_regs.specs.Kept.{Kept, known, selected};
 ghost use Rattle.access_regs.specs.Plan.{needs_cfg, select_value};
 ghost use Rattle.access_regs.specs.declared.planner.Planner.TheVariants.{Managed};
 ghost use Rattle.packed_access.specs.Gives.{AsksFor};
-ghost use Rattle.packed_access.specs.Frame.{AsksWhole, CanIssue, CanTry, CanTryUnit, IsMadeAlone, Steps, Tries};
-ghost use Rattle.packed_access.specs.Views.{IsAsked, IsBegun, IsBroken, IsTried};
+ghost use Rattle.packed_access.specs.Frame.{AsksWhole, CanIssue, CanTry, CanTryUnit, IsMadeAlone, SenderSteps, Tries};
+ghost use Rattle.packed_access.specs.Views.{IsTried, SenderHasAsked, SenderHasBegun, SenderIsBroken};
 
 use crate::log::CallLog;
 use crate::planned::port_of;
@@ -63,7 +63,7 @@ fn attempt_of(word: Option<u32>, reads: u64) -> Attempt
 fn close_call(log: &mut CallLog, word: Option<u32>)
     requires open { log.old.end ≡ None }
     requires some { 0 < length log.old.calls }
-    ensures answer { log.new ≡ closed word log.old }
+    ensures answer { log.new ≡ log_after_answer word log.old }
     ensures sound { IsSoundState log.new }
 {
     let last = log.count() - 1;
@@ -105,7 +105,7 @@ impl<F: Flights> Sender<F> {
             → IsTried (⟦<Self as Seen>⟧.view self.old) forgive (unit.Memory size read ap address value) k t made rest m0
             → list_any (is_end (unit.Memory size read ap address value)) (making made) ≡ false
             → rest ≡ memory_actions (after t (making made)) large size read ap address value
-            → IfErr result (IsBroken (⟦<Self as Seen>⟧.view self.new) self.old.log.calls m0) }
+            → IfErr result (SenderIsBroken (⟦<Self as Seen>⟧.view self.new) self.old.log.calls m0) }
         ensures packets { F.planner ≡ Managed → OnOk result (StepsTo (λ m o. CanFly m → SendsFew 3 m o) (F.state self.old.flights) (F.state self.new.flights)) }
         ensures tries { Tries result 8 (⟦<Self as Seen>⟧.view self.old) (⟦<Self as Seen>⟧.view self.new) }
         ensures managed { self.new.managed ≡ selected self.old.managed (select_value ap 0) }
@@ -159,7 +159,7 @@ impl<F: Flights> Sender<F> {
             (unit.Memory size read ap address value) self.old.managed t m0) }
         ensures broke { (m0 : BenchState) (t : TargetState) (rest : List Action) → length self.old.managed.ports ≡ 256
             → IsTried (⟦<Self as Seen>⟧.view self.old) forgive (unit.Memory size read ap address value) self.old.managed t [] rest m0
-            → IfErr result (IsBroken (⟦<Self as Seen>⟧.view self.new) self.old.log.calls m0) }
+            → IfErr result (SenderIsBroken (⟦<Self as Seen>⟧.view self.new) self.old.log.calls m0) }
         ensures reads { IfOk result (λ r. r.reads ≤ 2) }
         ensures packets { F.planner ≡ Managed → OnOk result (StepsTo (λ m o. CanFly m → SendsFew 4 m o) (F.state self.old.flights) (F.state self.new.flights)) }
         ensures tries { Tries result 11 (⟦<Self as Seen>⟧.view self.old) (⟦<Self as Seen>⟧.view self.new) }
@@ -193,7 +193,7 @@ impl<F: Flights> Sender<F> {
             unit.now self.old.managed t m0) }
         ensures broke { (m0 : BenchState) (t : TargetState) (rest : List Action) → length self.old.managed.ports ≡ 256
             → IsTried (⟦<Self as Seen>⟧.view self.old) forgive unit.now self.old.managed t [] rest m0
-            → IfErr result (IsBroken (⟦<Self as Seen>⟧.view self.new) self.old.log.calls m0) }
+            → IfErr result (SenderIsBroken (⟦<Self as Seen>⟧.view self.new) self.old.log.calls m0) }
         ensures reads { IfOk result (λ r. r.reads ≤ 2) }
         ensures packets { F.planner ≡ Managed → OnOk result (StepsTo (λ m o. CanFly m → SendsFew 4 m o) (F.state self.old.flights) (F.state self.new.flights)) }
         ensures tries { Tries result 11 (⟦<Self as Seen>⟧.view self.old) (⟦<Self as Seen>⟧.view self.new) }
@@ -236,10 +236,10 @@ impl<F: Flights> Sender<F> {
     pub(crate) fn ask_alone(&mut self, unit: &Unit, forgive: bool) -> Result<bool, Stop>
         requires ready { CanIssue most_entries (⟦<Self as Seen>⟧.view self.old) }
         requires alone { IsMadeAlone F.planner forgive unit.now }
-        ensures gives { AsksFor result (⟦<Self as Seen>⟧.view self.old) (⟦<Self as Seen>⟧.view self.new) (λ m0 ask. ask ≡ unit_ask unit.now forgive) IsBegun }
-        ensures small { (m0 : BenchState) (calls : List Ask) (ask : Ask) → ask ≡ unit_ask unit.now forgive → IsAsked (⟦<Self as Seen>⟧.view self.old) calls ask m0
+        ensures gives { AsksFor result (⟦<Self as Seen>⟧.view self.old) (⟦<Self as Seen>⟧.view self.new) (λ m0 ask. ask ≡ unit_ask unit.now forgive) SenderHasBegun }
+        ensures small { (m0 : BenchState) (calls : List Ask) (ask : Ask) → ask ≡ unit_ask unit.now forgive → SenderHasAsked (⟦<Self as Seen>⟧.view self.old) calls ask m0
             → IfOk result (λ small. small ≡ small_now (start_world (target_of m0.probe) None) calls ask) }
-        ensures step { Steps result (⟦<Self as Seen>⟧.view self.old) (⟦<Self as Seen>⟧.view self.new) }
+        ensures step { SenderSteps result (⟦<Self as Seen>⟧.view self.old) (⟦<Self as Seen>⟧.view self.new) }
         ensures asks { AsksWhole result (⟦<Self as Seen>⟧.view self.old) (⟦<Self as Seen>⟧.view self.new) }
     {
         let count = self.log.count();

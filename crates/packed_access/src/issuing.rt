@@ -21,12 +21,12 @@ ghost use Rattle.access_regs.specs.Plan.{settle, settled};
 ghost use Rattle.access_regs.specs.Plans.{accesses_of};
 ghost use Rattle.target_calls.specs.declared.journal.Part.TheVariants.{Ends, Leads, Settles};
 ghost use Rattle.access_regs.specs.declared.planner.Planner.TheVariants.{Managed};
-ghost use Rattle.packed_access.specs.Begun.{StopsThere, entries_of, target_issued};
-ghost use Rattle.packed_access.specs.Actions.{entry_of, log_done};
+ghost use Rattle.packed_access.specs.Begun.{StopsAfterLines, strict_entries, target_issued};
+ghost use Rattle.packed_access.specs.Actions.{entry_of_call, log_done};
 ghost use Rattle.packed_access.specs.Logs.{IsOfCall, IsSoundState, all_confirmed, all_taken, ended_by, result_for};
 ghost use Rattle.packed_access.specs.Gives.{Issues, Sends};
 ghost use Rattle.packed_access.specs.Frame.{CanAdd, CanCommandLast, Exchanges, Further};
-ghost use Rattle.packed_access.specs.Views.{HasSpace, IsAtEnd, IsSparing, IsToIssue, IsToIssueNext, access_view};
+ghost use Rattle.packed_access.specs.Views.{HasSpace, IsAtEnd, IsToIssue, IsToIssueNext, SenderIsSparing, access_view};
 
 use crate::log::CallLog;
 use crate::seen::Seen;
@@ -70,9 +70,9 @@ impl<F: Flights> Sender<F> {
             → OnOk result (unwrap_or (slot_at (F.values self.new.flights) (length self.old.log.entries - self.old.log.confirmed - 1)) 0
             ≡ given (acted (target_after (target_of m0.probe) front) e.action).outcome) }
         ensures full { (m0 : BenchState) (e : Entry) (rest : List Entry) (next : RegAccess) (points : ℕ) → IsToIssue (⟦<Self as Seen>⟧.view self.old) (e ∷ rest) m0
-            → e.action ≡ Makes next → IsSparing (⟦<Self as Seen>⟧.view self.old) points m0
+            → e.action ≡ Makes next → SenderIsSparing (⟦<Self as Seen>⟧.view self.old) points m0
             → (F.planner ≡ Managed → IsFull (F.limits self.old.flights) (F.accesses self.old.flights) next)
-            → OnOk result (IsSparing (⟦<Self as Seen>⟧.view self.new) points m0) }
+            → OnOk result (SenderIsSparing (⟦<Self as Seen>⟧.view self.new) points m0) }
         ensures exchanges { Exchanges result (⟦<Self as Seen>⟧.view self.old) (⟦<Self as Seen>⟧.view self.new) }
         ensures log { OnOk result (self.new.log ≡ all_confirmed (all_taken (F.values self.new.flights) self.old.log)) }
         ensures ended { IfErr result (λ s. self.new.log ≡ ended_by s self.old.log self.new.log) }
@@ -102,11 +102,12 @@ impl<F: Flights> Sender<F> {
             → e.action ≡ Makes access → e.forgiving ≡ false → kept_of e ≡ record { unit = unit; part = part }
             → OnOk result (IsToIssue (⟦<Self as Seen>⟧.view self.new) rest m0) }
         ensures spare { (m0 : BenchState) (e : Entry) (rest : List Entry) (points : ℕ) → IsToIssue (⟦<Self as Seen>⟧.view self.old) (e ∷ rest) m0
-            → e.action ≡ Makes access → IsSparing (⟦<Self as Seen>⟧.view self.old) points m0 → OnOk result (IsSparing (⟦<Self as Seen>⟧.view self.new) points m0) }
+            → e.action ≡ Makes access → SenderIsSparing (⟦<Self as Seen>⟧.view self.old) points m0
+            → OnOk result (SenderIsSparing (⟦<Self as Seen>⟧.view self.new) points m0) }
         ensures broke { (m0 : BenchState) (rest : List Entry) → IsToIssue (⟦<Self as Seen>⟧.view self.old) rest m0
             → IfErr result (IsAtEnd (⟦<Self as Seen>⟧.view self.new) m0) }
         ensures stops { (m0 : BenchState) (rest : List Entry) (answered : Option ℕ) → IsToIssue (⟦<Self as Seen>⟧.view self.old) rest m0
-            → IsLeft (access_view (⟦<Self as Seen>⟧.view self.new)) answered → IfErr result (StopsThere m0 answered self.old.log.calls self.new.log.lines) }
+            → IsLeft (access_view (⟦<Self as Seen>⟧.view self.new)) answered → IfErr result (StopsAfterLines m0 answered self.old.log.calls self.new.log.lines) }
         ensures further { Further result self.old.managed (⟦<Self as Seen>⟧.view self.old) (⟦<Self as Seen>⟧.view self.new) }
         ensures entries { OnOk result (self.new.log.entries ≡ self.old.log.entries ++ record { unit = unit; part = part } ∷ []) }
         ensures pending { OnOk result (self.new.log.confirmed < length self.new.log.entries) }
@@ -134,7 +135,7 @@ impl<F: Flights> Sender<F> {
         requires taken { AllByRecursion IsTaken accesses.now }
         requires unit { 0 < length accesses.now → IsOfCall (length self.old.log.calls) (record { unit = unit; part = part }) }
         requires later { 0 < length accesses.now → self.old.log.whole ≤ lines_before_kept (record { unit = unit; part = part }) }
-        ensures gives { Issues result (⟦<Self as Seen>⟧.view self.old) (⟦<Self as Seen>⟧.view self.new) (λ rest. entries_of unit part accesses.now ++ rest) }
+        ensures gives { Issues result (⟦<Self as Seen>⟧.view self.old) (⟦<Self as Seen>⟧.view self.new) (λ rest. strict_entries unit part accesses.now ++ rest) }
         ensures further { Further result self.old.managed (⟦<Self as Seen>⟧.view self.old) (⟦<Self as Seen>⟧.view self.new) }
         ensures entries { OnOk result (length self.new.log.entries ≡ length self.old.log.entries + length accesses.now) }
         ensures pending { OnOk result (0 < length accesses.now → self.new.log.confirmed < length self.new.log.entries) }
@@ -156,9 +157,9 @@ impl<F: Flights> Sender<F> {
         requires taken { AllByRecursion IsTaken accesses.now }
         requires unit { IsOfCall (length self.old.log.calls) (record { unit = unit; part = Leads }) }
         requires later { self.old.log.whole ≤ lines_before_kept (record { unit = unit; part = Leads }) }
-        ensures gives { Sends result (⟦<Self as Seen>⟧.view self.old) (⟦<Self as Seen>⟧.view self.new) (λ rest. entries_of unit Leads accesses.now ++ rest) }
+        ensures gives { Sends result (⟦<Self as Seen>⟧.view self.old) (⟦<Self as Seen>⟧.view self.new) (λ rest. strict_entries unit Leads accesses.now ++ rest) }
         ensures value { (m0 : BenchState) (lead : List RegAccess) (a : RegAccess) (rest : List Entry) → accesses.now ≡ lead ++ a ∷ []
-            → IsToIssue (⟦<Self as Seen>⟧.view self.old) (entries_of unit Leads accesses.now ++ rest) m0
+            → IsToIssue (⟦<Self as Seen>⟧.view self.old) (strict_entries unit Leads accesses.now ++ rest) m0
             → IfOk result (λ v. v ≡ gives (target_issued F.planner self.old.log m0) accesses.now) }
         ensures further { Further result self.old.managed (⟦<Self as Seen>⟧.view self.old) (⟦<Self as Seen>⟧.view self.new) }
         ensures entries { OnOk result (length self.new.log.entries ≡ length self.old.log.entries + length accesses.now) }
@@ -183,7 +184,7 @@ impl<F: Flights> Sender<F> {
         requires unit { 0 < length (settle self.old.managed) → IsOfCall (length self.old.log.calls) (record { unit = unit; part = Settles }) }
         requires later { 0 < length (settle self.old.managed) → self.old.log.whole ≤ unit }
         ensures gives { Issues result (⟦<Self as Seen>⟧.view self.old) (⟦<Self as Seen>⟧.view self.new)
-            (λ rest. entries_of unit Settles (settle self.old.managed) ++ rest) }
+            (λ rest. strict_entries unit Settles (settle self.old.managed) ++ rest) }
         ensures further { Further result (settled self.old.managed) (⟦<Self as Seen>⟧.view self.old) (⟦<Self as Seen>⟧.view self.new) }
         ensures entries { OnOk result (length self.new.log.entries ≡ length self.old.log.entries + length (settle self.old.managed)) }
     {
@@ -197,16 +198,17 @@ impl<F: Flights> Sender<F> {
     pub(crate) fn make_last(&mut self, call: ProbeCall) -> Result<u32, Stop>
         requires may { CanCommandLast call (⟦<Self as Seen>⟧.view self.old) }
         ensures on { (m0 : BenchState) (calls : List Ask) → self.old.log.calls ≡ calls ++ probe_ask call ∷ []
-            → IsToIssueNext (⟦<Self as Seen>⟧.view self.old) (entry_of calls (Commands call) ∷ []) m0
+            → IsToIssueNext (⟦<Self as Seen>⟧.view self.old) (entry_of_call calls (Commands call) ∷ []) m0
             → OnOk result (IsToIssueNext (⟦<Self as Seen>⟧.view self.new) [] m0) }
         ensures spare { (m0 : BenchState) (calls : List Ask) (points : ℕ) → self.old.log.calls ≡ calls ++ probe_ask call ∷ []
-            → IsToIssueNext (⟦<Self as Seen>⟧.view self.old) (entry_of calls (Commands call) ∷ []) m0
-            → IsSparing (⟦<Self as Seen>⟧.view self.old) (points + 1) m0 → OnOk result (IsSparing (⟦<Self as Seen>⟧.view self.new) (points + command_cost call) m0) }
+            → IsToIssueNext (⟦<Self as Seen>⟧.view self.old) (entry_of_call calls (Commands call) ∷ []) m0
+            → SenderIsSparing (⟦<Self as Seen>⟧.view self.old) (points + 1) m0
+            → OnOk result (SenderIsSparing (⟦<Self as Seen>⟧.view self.new) (points + command_cost call) m0) }
         ensures broke { (m0 : BenchState) (calls : List Ask) → self.old.log.calls ≡ calls ++ probe_ask call ∷ []
-            → IsToIssueNext (⟦<Self as Seen>⟧.view self.old) (entry_of calls (Commands call) ∷ []) m0 → IfErr result (IsAtEnd (⟦<Self as Seen>⟧.view self.new) m0) }
+            → IsToIssueNext (⟦<Self as Seen>⟧.view self.old) (entry_of_call calls (Commands call) ∷ []) m0 → IfErr result (IsAtEnd (⟦<Self as Seen>⟧.view self.new) m0) }
         ensures stops { (m0 : BenchState) (calls : List Ask) (answered : Option ℕ) → self.old.log.calls ≡ calls ++ probe_ask call ∷ []
-            → IsToIssueNext (⟦<Self as Seen>⟧.view self.old) (entry_of calls (Commands call) ∷ []) m0
-            → IsLeft (access_view (⟦<Self as Seen>⟧.view self.new)) answered → IfErr result (StopsThere m0 answered self.old.log.calls self.new.log.lines) }
+            → IsToIssueNext (⟦<Self as Seen>⟧.view self.old) (entry_of_call calls (Commands call) ∷ []) m0
+            → IsLeft (access_view (⟦<Self as Seen>⟧.view self.new)) answered → IfErr result (StopsAfterLines m0 answered self.old.log.calls self.new.log.lines) }
         ensures exchanges { Exchanges result (⟦<Self as Seen>⟧.view self.old) (⟦<Self as Seen>⟧.view self.new) }
         ensures log { IfOk result (λ word. self.new.log ≡ log_done self.old.log (record { unit = length self.old.log.calls; part = Ends }) (self.old.log.came)
             (result_for (slice_get self.old.log.calls self.old.log.came) word)) }

@@ -7,9 +7,9 @@ ghost use Rattle.access_calls.specs.Issued.{lines_before_kept};
 ghost use Rattle.access_calls.specs.declared.stop.Stop.TheVariants as Stop;
 ghost use Rattle.batch_packer.specs.FlightEnds.{IsShort};
 ghost use Rattle.packed_access.specs.Tails.{IsRoomier};
-ghost use Rattle.packed_access.specs.Logs.{Becomes, IsLogCut, IsOfCall, IsSoundState, IsStopped, all_confirmed, all_issued, asks_of};
-ghost use Rattle.packed_access.specs.Logs.{entries_confirmed, most_entries, nothing_logged, pending, pending_place, result_at, result_for};
-ghost use Rattle.packed_access.specs.Logs.{with_asks, with_call, with_entry, with_needs, with_result};
+ghost use Rattle.packed_access.specs.Logs.{Becomes, IsLogCut, IsOfCall, IsSoundState, LogIsStopped, all_confirmed, all_issued, asks_of};
+ghost use Rattle.packed_access.specs.Logs.{entries_confirmed, entries_pending, most_entries, nothing_logged, pending_place, result_at, result_for};
+ghost use Rattle.packed_access.specs.Logs.{log_with_call, log_with_entry, with_asks, with_needs, with_result};
 
 use crate::confirmed::Confirmed;
 use crate::results::result_of;
@@ -79,7 +79,7 @@ pub(crate) struct CallLog {
 }
 
 impl Model for CallLog {
-    ghost use Rattle.packed_access.specs.Logs.{IsSoundLog, LogState};
+    ghost use Rattle.packed_access.specs.Logs.{IsSoundSenderLog, LogState};
 
     ghost Value = { LogState };
 
@@ -100,7 +100,7 @@ impl Model for CallLog {
       skipped = l.skipped;
     } };
 
-    ghost invariant = { λ l. IsSoundLog l.asks.all l.results.items l.places.all l.room l.entries.all l.entries.gone l.whole l.came l.known l.fence l.end
+    ghost invariant = { λ l. IsSoundSenderLog l.asks.all l.results.items l.places.all l.room l.entries.all l.entries.gone l.whole l.came l.known l.fence l.end
         l.asks.gone l.places.gone l.entries.room l.confirmed };
 }
 
@@ -149,7 +149,7 @@ impl CallLog {
 
     // How many entries were issued and are not confirmed.
     pub(crate) fn count_pending(&self) -> u32
-        ensures { result ≡ pending self.now }
+        ensures { result ≡ entries_pending self.now }
     {
         self.entries.len() - self.entries.count_gone()
     }
@@ -171,7 +171,7 @@ impl CallLog {
     pub(crate) fn ask(&mut self, ask: Ask) -> Result<(), OutOfMemory>
         requires sound { IsSoundCall ask.call }
         requires few { length self.old.calls < 10000000 }
-        ensures asked { OnOk result (self.new ≡ with_call self.old ask self.new.room) }
+        ensures asked { OnOk result (self.new ≡ log_with_call self.old ask self.new.room) }
         ensures room { OnOk result (length self.old.entries + most_entries ≤ self.new.room) }
         ensures refused { OnErr result (self.new ≡ record self.old { room = self.new.room }) }
         ensures longer { self.old.room ≤ self.new.room }
@@ -197,7 +197,7 @@ impl CallLog {
         requires unit { IsOfCall (length self.old.calls) (record { unit = unit; part = part }) }
         requires room { length self.old.entries < self.old.room }
         requires bounded { length self.old.entries < most_entries * length self.old.calls }
-        ensures answer { Becomes self.new (with_entry self.old (record { unit = unit; part = part })) }
+        ensures answer { Becomes self.new (log_with_entry self.old (record { unit = unit; part = part })) }
     {
         self.entries.push(Issued { unit, part });
     }
@@ -326,8 +326,8 @@ impl CallLog {
     #[tactic(auto, using(crate::proofs::LogLemmas::named_here, crate::proofs::LogLemmas::cut_lines, crate::proofs::LogLemmas::cut_later))]
     fn end_at_cut(&mut self, cut: Cut) -> Report
         requires open { self.old.end ≡ None }
-        requires performed { cut.performed ≤ pending self.old }
-        requires confirmed { cut.confirmed < pending self.old }
+        requires performed { cut.performed ≤ entries_pending self.old }
+        requires confirmed { cut.confirmed < entries_pending self.old }
         ensures answer { IsLogCut cut.performed cut.confirmed cut.response self.old self.new result }
         ensures sound { IsSoundState self.new }
     {
@@ -350,8 +350,8 @@ impl CallLog {
     // The access ends so, and answers that from now on.
     pub(crate) fn stop(&mut self, end: FlightEnd) -> Stop
         requires open { self.old.end ≡ None }
-        requires short { IsShort (pending self.old) (Some end) }
-        ensures answer { IsStopped end self.old self.new result }
+        requires short { IsShort (entries_pending self.old) (Some end) }
+        ensures answer { LogIsStopped end self.old self.new result }
         ensures sound { IsSoundState self.new }
     {
         let stop = match end {

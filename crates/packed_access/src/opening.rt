@@ -6,7 +6,7 @@ ghost use Rattle.batch_packer.specs.Exchanges.{IsOpen};
 ghost use Rattle.batch_packer.specs.Flying.{IsWithin};
 ghost use Rattle.bench_flights.specs.Flown.{BenchGoesOn};
 ghost use Rattle.access_calls.specs.Opening.{HasOpened, HasTried, MayBegin, opened_bench};
-ghost use Rattle.bench_flights.specs.Opening.{IsRefusal};
+ghost use Rattle.bench_flights.specs.Opening.{IsOpeningRefusal};
 ghost use Rattle.packed_access.specs.Logs.{nothing_logged};
 ghost use Rattle.packed_access.specs.Sparing.{HasBegunSet};
 
@@ -45,7 +45,7 @@ pub(crate) fn begin_over<B: Bench, F: FlightsOver<B>>(
     ensures goes { IfOk result (λ a. BenchGoesOn (B.reported bench) (F.Flights.reported a.sender.flights) (B.state bench) (F.Flights.state a.sender.flights)) }
     ensures identity { IfOk result (λ a. F.Flights.identity a.sender.flights ≡ B.identity bench) }
     // Why it did not begin.
-    ensures refused { IfErr result (λ n. IsRefusal n.stop (B.reported bench) (B.reported n.bench) (take n.sent_length n.sent) (take n.got_length n.got)) }
+    ensures refused { IfErr result (λ n. IsOpeningRefusal n.stop (B.reported bench) (B.reported n.bench) (take n.sent_length n.sent) (take n.got_length n.got)) }
     ensures lengths { IfErr result (λ n. (n.sent_length ≤ 1024) × (n.got_length ≤ 1024)) }
     // Where the bench is observable no reply is bad, and the settings were made or not.
     ensures left { IfErr result (λ n. StepsTo (λ m o. MayBegin m → (n.stop ≡ Stop.ReplyBad → ⊥) × HasTried config m o) (B.state bench) (B.state n.bench)) }

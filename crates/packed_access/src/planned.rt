@@ -11,13 +11,13 @@ ghost use Rattle.target_machine.specs.Counts.{one_if};
 ghost use Rattle.access_regs.specs.Journal.{by_csw, gives, port_of};
 ghost use Rattle.access_regs.specs.Plan.{cfg_plan, first_plan, last_access, leads, learned, learned_cfg, made, needs_cfg, needs_csw};
 ghost use Rattle.bench_flights.specs.Flown.{IsSetTo};
-ghost use Rattle.packed_access.specs.Begun.{entries_of, steps_left, target_issued};
+ghost use Rattle.packed_access.specs.Begun.{steps_left, strict_entries, target_issued};
 ghost use Rattle.packed_access.specs.Logs.{asks_of, most_entries, with_needs};
 ghost use Rattle.target_machine.specs.declared.unit.Call.TheVariants.{Access};
 ghost use Rattle.target_machine.specs.declared.unit.Unit.TheVariants as unit;
 ghost use Rattle.packed_access.specs.Gives.{AsksFor, Issues, Plans, Reads};
-ghost use Rattle.packed_access.specs.Frame.{AsksWhole, CanIssue, Further, IsSoundAccess, IssuesFew, Steps};
-ghost use Rattle.packed_access.specs.Views.{IsBegun, IsPaid, IsToIssue};
+ghost use Rattle.packed_access.specs.Frame.{AsksWhole, CanIssue, Further, IsSoundAccess, IssuesFew, SenderSteps};
+ghost use Rattle.packed_access.specs.Views.{IsPaid, IsToIssue, SenderHasBegun};
 
 use crate::issuing::list_accesses;
 use crate::seen::Seen;
@@ -45,14 +45,14 @@ impl<F: Flights> Sender<F> {
         requires unknown { needs_cfg self.old.managed unit.now ≡ true }
         requires ready { CanIssue 2 (⟦<Self as Seen>⟧.view self.old) }
         ensures gives { Reads result (⟦<Self as Seen>⟧.view self.old) (⟦<Self as Seen>⟧.view self.new)
-            (λ rest. entries_of (length self.old.log.calls) Leads (cfg_plan self.old.managed (port_of unit.now)) ++ rest)
+            (λ rest. strict_entries (length self.old.log.calls) Leads (cfg_plan self.old.managed (port_of unit.now)) ++ rest)
             (λ m0. learned_cfg self.old.managed (port_of unit.now)
             (gives (target_issued F.planner self.old.log m0) (cfg_plan self.old.managed (port_of unit.now)))) }
         ensures spare { (m0 : BenchState) (rest : List Entry) (left : ℕ)
-            → IsToIssue (⟦<Self as Seen>⟧.view self.old) (entries_of (length self.old.log.calls) Leads (cfg_plan self.old.managed (port_of unit.now)) ++ rest) m0
+            → IsToIssue (⟦<Self as Seen>⟧.view self.old) (strict_entries (length self.old.log.calls) Leads (cfg_plan self.old.managed (port_of unit.now)) ++ rest) m0
             → IsPaid (⟦<Self as Seen>⟧.view self.old) left m0 → OnOk result (IsPaid (⟦<Self as Seen>⟧.view self.new) left m0) }
         ensures large { (m0 : BenchState) (rest : List Entry)
-            → IsToIssue (⟦<Self as Seen>⟧.view self.old) (entries_of (length self.old.log.calls) Leads (cfg_plan self.old.managed (port_of unit.now)) ++ rest) m0
+            → IsToIssue (⟦<Self as Seen>⟧.view self.old) (strict_entries (length self.old.log.calls) Leads (cfg_plan self.old.managed (port_of unit.now)) ++ rest) m0
             → IfOk result (λ large. large ≡ has_bit (gives (target_issued F.planner self.old.log m0) (cfg_plan self.old.managed (port_of unit.now))) cfg_la) }
         ensures issues { IssuesFew result 2 (⟦<Self as Seen>⟧.view self.old) (⟦<Self as Seen>⟧.view self.new) }
         ensures empty { OnOk result (F.accesses self.new.flights ≡ []) }
@@ -78,11 +78,11 @@ impl<F: Flights> Sender<F> {
         requires unknown { needs_csw self.old.managed unit.now ≡ true }
         requires ready { CanIssue 2 (⟦<Self as Seen>⟧.view self.old) }
         ensures gives { Reads result (⟦<Self as Seen>⟧.view self.old) (⟦<Self as Seen>⟧.view self.new)
-            (λ rest. entries_of (length self.old.log.calls) Leads (first_plan self.old.managed (port_of unit.now)) ++ rest)
+            (λ rest. strict_entries (length self.old.log.calls) Leads (first_plan self.old.managed (port_of unit.now)) ++ rest)
             (λ m0. learned self.old.managed (port_of unit.now)
             (gives (target_issued F.planner self.old.log m0) (first_plan self.old.managed (port_of unit.now)))) }
         ensures spare { (m0 : BenchState) (rest : List Entry) (left : ℕ)
-            → IsToIssue (⟦<Self as Seen>⟧.view self.old) (entries_of (length self.old.log.calls) Leads (first_plan self.old.managed (port_of unit.now)) ++ rest) m0
+            → IsToIssue (⟦<Self as Seen>⟧.view self.old) (strict_entries (length self.old.log.calls) Leads (first_plan self.old.managed (port_of unit.now)) ++ rest) m0
             → IsPaid (⟦<Self as Seen>⟧.view self.old) left m0 → OnOk result (IsPaid (⟦<Self as Seen>⟧.view self.new) left m0) }
         ensures issues { IssuesFew result 2 (⟦<Self as Seen>⟧.view self.old) (⟦<Self as Seen>⟧.view self.new) }
         ensures empty { OnOk result (F.accesses self.new.flights ≡ []) }
@@ -109,8 +109,8 @@ impl<F: Flights> Sender<F> {
         requires ready { CanIssue 5 (⟦<Self as Seen>⟧.view self.old) }
         requires sound { IsSound unit.now }
         ensures gives { Issues result (⟦<Self as Seen>⟧.view self.old) (⟦<Self as Seen>⟧.view self.new)
-            (λ rest. entries_of (length self.old.log.calls) Leads (leads self.old.managed unit.now)
-            ++ (entries_of (length self.old.log.calls) Ends (last_access unit.now ∷ []) ++ rest)) }
+            (λ rest. strict_entries (length self.old.log.calls) Leads (leads self.old.managed unit.now)
+            ++ (strict_entries (length self.old.log.calls) Ends (last_access unit.now ∷ []) ++ rest)) }
         ensures further { Further result (made self.old.managed unit.now) (⟦<Self as Seen>⟧.view self.old) (⟦<Self as Seen>⟧.view self.new) }
         ensures entries { OnOk result (length self.new.log.entries ≤ length self.old.log.entries + 5) }
         ensures pending { OnOk result (self.new.log.confirmed < length self.new.log.entries) }
@@ -163,8 +163,8 @@ impl<F: Flights> Sender<F> {
         requires ready { CanIssue most_entries (⟦<Self as Seen>⟧.view self.old) }
         requires sound { IsSound (unit.Poll mask requested turns) }
         ensures gives { AsksFor result (⟦<Self as Seen>⟧.view self.old) (⟦<Self as Seen>⟧.view self.new)
-            (λ m0 ask. (IsSetTo config.idle config.retry m0) × (ask.call ≡ Access (unit.Poll mask requested turns))) IsBegun }
-        ensures step { Steps result (⟦<Self as Seen>⟧.view self.old) (⟦<Self as Seen>⟧.view self.new) }
+            (λ m0 ask. (IsSetTo config.idle config.retry m0) × (ask.call ≡ Access (unit.Poll mask requested turns))) SenderHasBegun }
+        ensures step { SenderSteps result (⟦<Self as Seen>⟧.view self.old) (⟦<Self as Seen>⟧.view self.new) }
         ensures asks { AsksWhole result (⟦<Self as Seen>⟧.view self.old) (⟦<Self as Seen>⟧.view self.new) }
     {
         match self.send() {

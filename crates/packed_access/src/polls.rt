@@ -12,11 +12,11 @@ ghost use Rattle.access_regs.specs.Plan.{bank_zero};
 ghost use Rattle.access_regs.specs.declared.planner.Planner.TheVariants.{Managed};
 ghost use Rattle.access_calls.specs.Left.{IsLeft};
 ghost use Rattle.batch_packer.specs.Flying.{CanFly};
-ghost use Rattle.packed_access.specs.Begun.{StopsThere};
-ghost use Rattle.bench_flights.specs.Flown.{CanMatch, HasDone, KeepsFlights, LeftOff, NamesNone, SendsFew, matched_word};
+ghost use Rattle.packed_access.specs.Begun.{StopsAfterLines};
+ghost use Rattle.bench_flights.specs.Flown.{CanMatch, HasDoneWhole, KeepsFlights, LeftActionOff, NamesNoAccess, SendsFew, matched_word};
 ghost use Rattle.packed_access.specs.Polls.{HasPoll};
 ghost use Rattle.packed_access.specs.Frame.{CanAdd, Exchanges};
-ghost use Rattle.packed_access.specs.Views.{IsAtEnd, IsSparing, IsToIssueNext, access_view};
+ghost use Rattle.packed_access.specs.Views.{IsAtEnd, IsToIssueNext, SenderIsSparing, access_view};
 
 use crate::seen::Seen;
 use crate::sender::Sender;
@@ -47,15 +47,15 @@ fn make_poll<F: Flights>(
     requires empty { F.accesses flights.old ≡ [] }
     requires turns { 1 ≤ turns }
     ensures done { IfOk result (λ found. StepsTo (λ m o. CanFly m → (zero ≡ true → CanMatch config.idle config.retry m)
-        → HasDone (Polls mask requested turns) (matched_word found.matched) m o) (F.state flights.old) (F.state flights.new)) }
+        → HasDoneWhole (Polls mask requested turns) (matched_word found.matched) m o) (F.state flights.old) (F.state flights.new)) }
     ensures packets { IfOk result (λ found. StepsTo (λ m o. CanFly m → (zero ≡ true → CanMatch config.idle config.retry m)
         → SendsFew (found.points - 1) m o) (F.state flights.old) (F.state flights.new)) }
     ensures some { IfOk result (λ found. 1 ≤ found.points) }
     ensures points { IfOk result (λ found. StepsTo (λ m o. CanFly m
         → found.points ≡ 1 + (if zero then portions turns else (polled turns mask requested (target_of m.probe)).reads)) (F.state flights.old) (F.state flights.new)) }
     ensures left { IfErr result (λ end. StepsTo (λ m o. CanFly m → (zero ≡ true → CanMatch config.idle config.retry m)
-        → LeftOff (Polls mask requested turns) end m o) (F.state flights.old) (F.state flights.new)) }
-    ensures none { IfErr result NamesNone }
+        → LeftActionOff (Polls mask requested turns) end m o) (F.state flights.old) (F.state flights.new)) }
+    ensures none { IfErr result NamesNoAccess }
     ensures keeps { KeepsFlights F.reported F.state F.identity F.accesses F.ended F.limits F.packet F.reply result flights.old flights.new }
 {
     if zero {
@@ -104,7 +104,8 @@ impl<F: Flights> Sender<F> {
             → OnOk result (IsToIssueNext (⟦<Self as Seen>⟧.view self.new) [] m0) }
         ensures spare { (m0 : BenchState) (calls : List Ask) (ask : Ask) (paid : ℕ)
             → HasPoll F.planner (F.state self.old.flights) self.old.log self.old.managed calls ask mask requested turns config.idle config.retry m0
-            → IsSparing (⟦<Self as Seen>⟧.view self.old) (paid + 1) m0 → IfOk result (λ points. IsSparing (⟦<Self as Seen>⟧.view self.new) (paid + points) m0) }
+            → SenderIsSparing (⟦<Self as Seen>⟧.view self.old) (paid + 1) m0
+            → IfOk result (λ points. SenderIsSparing (⟦<Self as Seen>⟧.view self.new) (paid + points) m0) }
         ensures points { F.planner ≡ Managed → (m0 : BenchState) (calls : List Ask) (ask : Ask)
             → HasPoll F.planner (F.state self.old.flights) self.old.log self.old.managed calls ask mask requested turns config.idle config.retry m0
             → IfOk result (λ points. points ≡ poll_cost self.old.managed (target_by F.planner (target_of m0.probe) calls) mask requested turns) }
@@ -113,7 +114,7 @@ impl<F: Flights> Sender<F> {
             → IfErr result (IsAtEnd (⟦<Self as Seen>⟧.view self.new) m0) }
         ensures stops { (m0 : BenchState) (calls : List Ask) (ask : Ask) (answered : Option ℕ)
             → HasPoll F.planner (F.state self.old.flights) self.old.log self.old.managed calls ask mask requested turns config.idle config.retry m0
-            → IsLeft (access_view (⟦<Self as Seen>⟧.view self.new)) answered → IfErr result (StopsThere m0 answered self.old.log.calls self.new.log.lines) }
+            → IsLeft (access_view (⟦<Self as Seen>⟧.view self.new)) answered → IfErr result (StopsAfterLines m0 answered self.old.log.calls self.new.log.lines) }
         ensures exchanges { Exchanges result (⟦<Self as Seen>⟧.view self.old) (⟦<Self as Seen>⟧.view self.new) }
         ensures known { OnOk result (self.new.log.known ≡ length self.new.log.calls) }
         ensures whole { OnOk result (self.new.log.whole ≡ length self.new.log.calls) }

@@ -2,7 +2,7 @@
 ghost use Rattle.std.specs.Prelude.{◌≡◌, ◌-◌, None, Some, length};
 ghost use Rattle.access_calls.specs.declared.stop.Stop.TheVariants.{OutOfMemory};
 ghost use Rattle.packed_access.specs.Logs.{IsSoundState};
-ghost use Rattle.packed_access.specs.Sparing.{counted};
+ghost use Rattle.packed_access.specs.Sparing.{managed_points};
 
 use crate::log::CallLog;
 use access_regs::Managed;
@@ -23,7 +23,7 @@ pub(crate) struct Sender<F: Flights> {
 
 // So many need points, which an access counts unless it makes each unit alone.
 pub(crate) fn count_points<F: Flights>(points: u64) -> u64
-    ensures { result ≡ counted F.planner points }
+    ensures { result ≡ managed_points F.planner points }
 {
     if F::plans_alone() { 0 } else { points }
 }

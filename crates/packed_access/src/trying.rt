@@ -10,7 +10,7 @@ ghost use Rattle.probe_core.specs.Bench.{BenchState, StepsTo};
 ghost use Rattle.access_calls.specs.Issued.{lines_before_kept};
 ghost use Rattle.bench_flights.specs.Clearing.{IsOneTransfer};
 ghost use Rattle.bench_flights.specs.Flown.{LeavesBench};
-ghost use Rattle.packed_access.specs.Forgiving.{IsNext, LeadsCame, with_accesses};
+ghost use Rattle.packed_access.specs.Forgiving.{AreNextAccesses, LeadsCame, with_accesses};
 ghost use Rattle.packed_access.specs.Sparing.{WentFew};
 ghost use Rattle.batch_packer.specs.Flying.{CanFly};
 ghost use Rattle.packed_access.specs.Logs.{IsOfCall};
@@ -19,7 +19,7 @@ ghost use Rattle.access_regs.specs.Plan.{select_value};
 ghost use Rattle.access_regs.specs.declared.planner.Planner.TheVariants.{Managed};
 ghost use Rattle.packed_access.specs.Gives.{TriesNext};
 ghost use Rattle.packed_access.specs.Frame.{CanAdd, CanTry, Tries};
-ghost use Rattle.packed_access.specs.Views.{HasSpace, IsBroken, IsTried};
+ghost use Rattle.packed_access.specs.Views.{HasSpace, IsTried, SenderIsBroken};
 
 use crate::seen::Seen;
 use crate::sender::Sender;
@@ -110,12 +110,12 @@ impl<F: Flights> Sender<F> {
         requires taken { AllByRecursion IsTaken leads.now }
         ensures on { (m0 : BenchState) (asked : AccessUnit) (k : Kept) (t : TargetState) (made : List RegAccess)
             (last : RegAccess) (ends : Bool) (rest more : List Action)
-            → IsTried (⟦<Self as Seen>⟧.view self.old) forgive asked k t made rest m0 → IsNext asked t made leads.now last ends rest more
+            → IsTried (⟦<Self as Seen>⟧.view self.old) forgive asked k t made rest m0 → AreNextAccesses asked t made leads.now last ends rest more
             → IfOk result (λ came. LeadsCame came F.planner forgive (F.state self.new.flights) self.new.log asked k t made leads.now last more m0) }
         ensures broke { (m0 : BenchState) (asked : AccessUnit) (k : Kept) (t : TargetState) (made : List RegAccess)
             (last : RegAccess) (ends : Bool) (rest more : List Action)
-            → IsTried (⟦<Self as Seen>⟧.view self.old) forgive asked k t made rest m0 → IsNext asked t made leads.now last ends rest more
-            → IfErr result (IsBroken (⟦<Self as Seen>⟧.view self.new) self.old.log.calls m0) }
+            → IsTried (⟦<Self as Seen>⟧.view self.old) forgive asked k t made rest m0 → AreNextAccesses asked t made leads.now last ends rest more
+            → IfErr result (SenderIsBroken (⟦<Self as Seen>⟧.view self.new) self.old.log.calls m0) }
         ensures tries { Tries result (length leads.now + 2) (⟦<Self as Seen>⟧.view self.old) (⟦<Self as Seen>⟧.view self.new) }
         ensures space { IfOk result (λ came. came ≡ true → HasSpace (⟦<Self as Seen>⟧.view self.new)) }
         ensures entries { IfOk result (λ came. length self.new.log.entries ≤ length self.old.log.entries + (length leads.now + (if came then 0 else 1))) }

@@ -5,7 +5,7 @@ use Rattle.packet_words.specs.declared.fate.Fate.{Fate}
 use Rattle.register_words.specs.declared.known.Known.{Known}
 use Rattle.register_words.specs.declared.access.Access.{Access}
 use Rattle.packet_words.specs.Accesses.{request_access, requests_accesses}
-use Rattle.packet_words.specs.Requests.{Left, after_request, after_requests, block_requests, fate_of, left_after, request_line, request_lines}
+use Rattle.packet_words.specs.Requests.{RequestsLeft, after_request, after_requests, block_requests, fate_of, left_after_request, request_line, request_lines}
 
 -- the item at a place, and those after it
 pub drop_at : (xs : List ℕ) (i x : ℕ) → slice_get xs i ≡ Some x → drop i xs ≡ x ∷ drop (i + 1) xs
@@ -20,9 +20,9 @@ abbrev word_request : ℕ → ℕ → Request
 word_request byte word = record { byte = byte; word = word }
 
 -- one word more is written
-pub block_text : (line next all : List ℕ) (known later : Known) (left rest : Left) (byte : ℕ) (words : List ℕ) (i word : ℕ) (fate : Fate)
+pub block_text : (line next all : List ℕ) (known later : Known) (left rest : RequestsLeft) (byte : ℕ) (words : List ℕ) (i word : ℕ) (fate : Fate)
     → slice_get words i ≡ Some word → fate ≡ fate_of left (word_request byte word) → next ≡ line ++ request_line known (word_request byte word) fate
-    → later ≡ after_request known (word_request byte word) fate → rest ≡ left_after left (word_request byte word)
+    → later ≡ after_request known (word_request byte word) fate → rest ≡ left_after_request left (word_request byte word)
     → line ++ request_lines known left (block_requests byte (drop i words)) ≡ all
     → next ++ request_lines later rest (block_requests byte (drop (i + 1) words)) ≡ all
 block_text line next all known later left rest byte words i word fate at fate_is next_is later_is rest_is before =
@@ -30,9 +30,9 @@ block_text line next all known later left rest byte words i word fate at fate_is
     simp (next_is, later_is, rest_is, fate_is, append_assoc) h
 
 -- one access more
-pub block_accesses : (made next all : List Access) (known later : Known) (left rest : Left) (byte : ℕ) (words : List ℕ) (i word : ℕ) (fate : Fate)
+pub block_accesses : (made next all : List Access) (known later : Known) (left rest : RequestsLeft) (byte : ℕ) (words : List ℕ) (i word : ℕ) (fate : Fate)
     → slice_get words i ≡ Some word → fate ≡ fate_of left (word_request byte word) → next ≡ made ++ request_access known (word_request byte word) fate
-    → later ≡ after_request known (word_request byte word) fate → rest ≡ left_after left (word_request byte word)
+    → later ≡ after_request known (word_request byte word) fate → rest ≡ left_after_request left (word_request byte word)
     → made ++ requests_accesses known left (block_requests byte (drop i words)) ≡ all
     → next ++ requests_accesses later rest (block_requests byte (drop (i + 1) words)) ≡ all
 block_accesses made next all known later left rest byte words i word fate at fate_is next_is later_is rest_is before =
@@ -40,9 +40,9 @@ block_accesses made next all known later left rest byte words i word fate at fat
     simp (next_is, later_is, rest_is, fate_is, append_assoc) h
 
 -- what is known after one word more
-pub block_known : (known later end : Known) (left rest : Left) (byte : ℕ) (words : List ℕ) (i word : ℕ) (fate : Fate)
+pub block_known : (known later end : Known) (left rest : RequestsLeft) (byte : ℕ) (words : List ℕ) (i word : ℕ) (fate : Fate)
     → slice_get words i ≡ Some word → fate ≡ fate_of left (word_request byte word)
-    → later ≡ after_request known (word_request byte word) fate → rest ≡ left_after left (word_request byte word)
+    → later ≡ after_request known (word_request byte word) fate → rest ≡ left_after_request left (word_request byte word)
     → after_requests known left (block_requests byte (drop i words)) ≡ end
     → after_requests later rest (block_requests byte (drop (i + 1) words)) ≡ end
 block_known known later end left rest byte words i word fate at fate_is later_is rest_is before =

@@ -11,7 +11,7 @@ use Rattle.dap_messages.specs.Commands.{Packet}
 use Rattle.dap_messages.specs.PacketReading.{packet_read}
 use Rattle.register_words.specs.declared.known.Known.{Known}
 use Rattle.packet_words.specs.Laws.{AreBytes}
-use Rattle.packet_words.specs.Requests.{first_of}
+use Rattle.packet_words.specs.Requests.{first_read_word}
 use Rattle.packet_words.specs.Exchange.{exchange, no_packet_line, replied_line, reply_line, said_of, trace_lines, unreplied_line}
 
 -- ---- line feeds
@@ -73,7 +73,7 @@ same_digit_line xs ys s t p q e =
 -- ---- the lines of a trace
 
 -- the words begin with an `e`
-starts : (known : Known) (number size : ℕ) (r : Result Packet MessageError) (reply : Option (List ℕ)) → first_of (said_of known number size r reply).text ≡ Some 101
+starts : (known : Known) (number size : ℕ) (r : Result Packet MessageError) (reply : Option (List ℕ)) → first_read_word (said_of known number size r reply).text ≡ Some 101
 unfolding replied_line unreplied_line no_packet_line
 starts known number size (Ok p) None = refl
 starts known number size (Ok p) (Some reply) = refl
@@ -103,11 +103,11 @@ different : (n : ℕ) → n ≡ 60 → n ≡ 101 → ⊥
 different n p q = omega (arith, p, q)
 
 -- a reply is no beginning of words
-apart : (x y : List ℕ) → first_of x ≡ Some 101 → x ≡ 60 ∷ y → ⊥
-apart x y start e = different 101 (same_found 101 60 (sym start ∙ ap first_of e)) refl
+apart : (x y : List ℕ) → first_read_word x ≡ Some 101 → x ≡ 60 ∷ y → ⊥
+apart x y start e = different 101 (same_found 101 60 (sym start ∙ ap first_read_word e)) refl
 
 -- equal lines of replies, before words, are of equal replies
-same_reply : (a b : Option (List ℕ)) (x y : List ℕ) → AreBytes a → AreBytes b → first_of x ≡ Some 101 → first_of y ≡ Some 101 → reply_line a ++ x ≡ reply_line b ++ y → a ≡ b
+same_reply : (a b : Option (List ℕ)) (x y : List ℕ) → AreBytes a → AreBytes b → first_read_word x ≡ Some 101 → first_read_word y ≡ Some 101 → reply_line a ++ x ≡ reply_line b ++ y → a ≡ b
 same_reply None None x y p q s t e = refl
 same_reply None (Some b) x y p q s t e = absurd (apart x _ s (sym (none_shape x) ∙ e ∙ reply_shape b y))
 same_reply (Some a) None x y p q s t e = absurd (apart y _ t (sym (none_shape y) ∙ sym e ∙ reply_shape a x))

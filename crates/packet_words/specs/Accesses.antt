@@ -20,8 +20,8 @@ use Rattle.register_words.specs.declared.register.Register.TheVariants as at
 use Rattle.register_words.specs.Registers.{register_of}
 use Rattle.packet_words.specs.declared.fate.Fate.{Fate}
 use Rattle.packet_words.specs.declared.fate.Fate.TheVariants as fates
-use Rattle.packet_words.specs.Requests.{Left, fate_of, left_after, after_request}
-use Rattle.packet_words.specs.Commands.{left_of, after_command}
+use Rattle.packet_words.specs.Requests.{RequestsLeft, fate_of, left_after_request, after_request}
+use Rattle.packet_words.specs.Commands.{requests_left, after_command}
 use Rattle.packet_words.specs.Exchange.{head_fault}
 use Rattle.packet_words.specs.Replies.{own_bytes}
 
@@ -40,22 +40,22 @@ done_accesses Posted register = []
 done_accesses Read register = []
 
 -- the access of a request to this register, by what became of it
-unfoldable pub access_of : RequestKind → Register → Fate → List Access
-access_of asks register fates.Done = done_accesses asks register
-access_of asks register (fates.Gave word) = one_access register false
-access_of asks register fates.NoWord = one_access register false
-access_of asks register fates.Skipped = []
-access_of asks register fates.NotKnown = []
+unfoldable pub access_by_fate : RequestKind → Register → Fate → List Access
+access_by_fate asks register fates.Done = done_accesses asks register
+access_by_fate asks register (fates.Gave word) = one_access register false
+access_by_fate asks register fates.NoWord = one_access register false
+access_by_fate asks register fates.Skipped = []
+access_by_fate asks register fates.NotKnown = []
 
 -- the access of a request
 abbrev pub request_access : Known → Request → Fate → List Access
-request_access known r fate = access_of (kind r) (register_of known.select r.byte) fate
+request_access known r fate = access_by_fate (kind r) (register_of known.select r.byte) fate
 
 -- the accesses of requests, where this is left of their reply
-abbrev pub requests_accesses : Known → Left → List Request → List Access
+abbrev pub requests_accesses : Known → RequestsLeft → List Request → List Access
 requests_accesses known left [] = []
 requests_accesses known left (r ∷ rs) =
-    request_access known r (fate_of left r) ++ requests_accesses (after_request known r (fate_of left r)) (left_after left r) rs
+    request_access known r (fate_of left r) ++ requests_accesses (after_request known r (fate_of left r)) (left_after_request left r) rs
 
 -- ---- commands
 
@@ -66,7 +66,7 @@ own_access other = []
 
 -- the accesses of a command that has a reply
 abbrev pub command_accesses : Known → CommandValue → Shown → List Access
-command_accesses known c reply = own_access c ++ requests_accesses known (left_of (Some reply)) (requests_of c)
+command_accesses known c reply = own_access c ++ requests_accesses known (requests_left (Some reply)) (requests_of c)
 
 -- those of a reply that was read, and none where it has a fault
 abbrev pub where_read : Result Shown MessageError → (Shown → List Access) → List Access
@@ -98,11 +98,11 @@ packet_accesses Execute known commands bytes = all_accesses Execute known comman
 packet_accesses Queue known commands bytes = all_accesses Queue known commands bytes
 
 -- the same where the packet may be none
-abbrev pub accesses_of : Known → Result Packet MessageError → List ℕ → List Access
-accesses_of known (Ok p) bytes = packet_accesses p.kind known p.commands bytes
-accesses_of known (Err fault) bytes = []
+abbrev pub accesses_if_packet : Known → Result Packet MessageError → List ℕ → List Access
+accesses_if_packet known (Ok p) bytes = packet_accesses p.kind known p.commands bytes
+accesses_if_packet known (Err fault) bytes = []
 
 -- The register accesses of an exchange that were made, in order, where this was known before it. Without a reply none is known to be made.
 abbrev pub exchange_accesses : Known → List ℕ → Option (List ℕ) → List Access
 exchange_accesses known packet None = []
-exchange_accesses known packet (Some reply) = accesses_of known (packet_read packet) reply
+exchange_accesses known packet (Some reply) = accesses_if_packet known (packet_read packet) reply

@@ -13,8 +13,8 @@ use Rattle.dap_replies.specs.ReplyReading.{reply_read}
 use Rattle.dap_replies.specs.ReplyViews.{Shown}
 use Rattle.text_lines.specs.Hex.{hex2}
 use Rattle.register_words.specs.declared.known.Known.{Known}
-use Rattle.register_words.specs.Known.{unknown}
-use Rattle.packet_words.specs.Commands.{first_byte, command_lines, after_command}
+use Rattle.register_words.specs.Known.{nothing_known}
+use Rattle.packet_words.specs.Commands.{leading_byte, command_lines, after_command}
 use Rattle.packet_words.specs.Replies.{own_bytes}
 
 -- What is said of a packet or a reply: the text, what is known after it, and whether it is one.
@@ -30,17 +30,17 @@ after_text text said = record said { text = text ++ said.text }
 -- ---- faults
 
 -- the kind of a fault of a packet or a reply
-unfoldable pub fault_name : MessageError → List ℕ
-fault_name (Long place) = codes "Long"
-fault_name (Short place) = codes "Short"
-fault_name (BadId place) = codes "BadId"
-fault_name (BadCount place) = codes "BadCount"
-fault_name (BadRequest place) = codes "BadRequest"
-fault_name (TrailingBytes place) = codes "TrailingBytes"
+unfoldable pub message_fault_name : MessageError → List ℕ
+message_fault_name (Long place) = codes "Long"
+message_fault_name (Short place) = codes "Short"
+message_fault_name (BadId place) = codes "BadId"
+message_fault_name (BadCount place) = codes "BadCount"
+message_fault_name (BadRequest place) = codes "BadRequest"
+message_fault_name (TrailingBytes place) = codes "TrailingBytes"
 
 -- the first fault from the left, with its place
-unfoldable pub fault_words : MessageError → List ℕ
-fault_words fault = fault_name fault ++ codes " at " ++ decimal (place_of fault)
+unfoldable pub message_fault_words : MessageError → List ℕ
+message_fault_words fault = message_fault_name fault ++ codes " at " ++ decimal (place_of fault)
 
 -- ---- commands and their replies
 
@@ -51,17 +51,17 @@ unanswered_lines known (c ∷ commands) = command_lines known c None ++ unanswer
 
 -- commands without a reply
 abbrev pub unanswered : Known → List CommandValue → Bool → Said
-unanswered known commands good = record { text = unanswered_lines known commands; known = unknown; good = good }
+unanswered known commands good = record { text = unanswered_lines known commands; known = nothing_known; good = good }
 
 -- the line of a reply that is none: its fault, and the bytes in which the place counts
 unfoldable pub misanswer_line : MessageError → List ℕ → List ℕ
-misanswer_line fault bytes = codes "  no reply: " ++ fault_words fault ++ codes " of " ++ encode_lower bytes ++ codes "\n"
+misanswer_line fault bytes = codes "  no reply: " ++ message_fault_words fault ++ codes " of " ++ encode_lower bytes ++ codes "\n"
 
 -- commands of which these bytes are no reply, with the fault of the bytes
 abbrev pub misanswered : Known → List CommandValue → MessageError → List ℕ → Said
 misanswered known commands fault bytes = record {
   text = misanswer_line fault bytes ++ unanswered_lines known commands;
-  known = unknown;
+  known = nothing_known;
   good = false;
 }
 
@@ -71,11 +71,11 @@ by_reply (Ok reply) good bad = good reply
 by_reply (Err fault) good bad = bad fault
 
 -- The commands in order, each with its reply; from the first on whose reply is none, they are without.
-abbrev pub answered : Known → List CommandValue → List ℕ → Said
-answered known [] bytes = record { text = []; known = known; good = true }
-answered known (c ∷ commands) bytes =
+abbrev pub commands_said : Known → List CommandValue → List ℕ → Said
+commands_said known [] bytes = record { text = []; known = known; good = true }
+commands_said known (c ∷ commands) bytes =
     by_reply (reply_read c (take (own_bytes commands c bytes) bytes))
-    (λ reply. after_text (command_lines known c (Some reply)) (answered (after_command known c (Some reply)) commands (drop (own_bytes commands c bytes) bytes)))
+    (λ reply. after_text (command_lines known c (Some reply)) (commands_said (after_command known c (Some reply)) commands (drop (own_bytes commands c bytes) bytes)))
     (λ fault. misanswered known (c ∷ commands) fault bytes)
 
 -- ---- packets
@@ -89,8 +89,8 @@ kind_words Queue count = codes "queue " ++ decimal count
 -- the first byte of the reply to several commands
 unfoldable pub head_words : PacketKind → List ℕ → List ℕ
 head_words Plain bytes = []
-head_words Execute bytes = codes " -> " ++ hex2 (first_byte bytes)
-head_words Queue bytes = codes " -> " ++ hex2 (first_byte bytes)
+head_words Execute bytes = codes " -> " ++ hex2 (leading_byte bytes)
+head_words Queue bytes = codes " -> " ++ hex2 (leading_byte bytes)
 
 -- whether a reply to several commands may begin with this byte: 0x7F, and for a queue 0x7E too
 abbrev pub is_head : PacketKind → ℕ → Bool
@@ -107,7 +107,7 @@ head_fault kind count (id ∷ number ∷ bytes) = if is_head kind id then (if nu
 -- the reply to several commands: after its first two bytes their replies
 abbrev pub by_head : Option MessageError → Known → List CommandValue → List ℕ → Said
 by_head (Some fault) known commands bytes = misanswered known commands fault bytes
-by_head None known commands bytes = answered known commands (drop 2 bytes)
+by_head None known commands bytes = commands_said known commands (drop 2 bytes)
 
 -- the reply to several commands
 abbrev pub all_answered : PacketKind → Known → List CommandValue → List ℕ → Said
@@ -115,7 +115,7 @@ all_answered kind known commands bytes = by_head (head_fault kind (length comman
 
 -- the reply to a packet of this kind
 abbrev pub packet_answered : PacketKind → Known → List CommandValue → List ℕ → Said
-packet_answered Plain known commands bytes = answered known commands bytes
+packet_answered Plain known commands bytes = commands_said known commands bytes
 packet_answered Execute known commands bytes = all_answered Execute known commands bytes
 packet_answered Queue known commands bytes = all_answered Queue known commands bytes
 
@@ -137,11 +137,11 @@ packet_said known number size p (Some reply) = after_text (replied_line number p
 
 -- the line of what is no packet
 unfoldable pub no_packet_line : ℕ → MessageError → List ℕ
-no_packet_line number fault = codes "exchange " ++ decimal number ++ codes " is no packet: " ++ fault_words fault ++ codes "\n"
+no_packet_line number fault = codes "exchange " ++ decimal number ++ codes " is no packet: " ++ message_fault_words fault ++ codes "\n"
 
 -- what is no packet
 abbrev pub no_packet : ℕ → MessageError → Said
-no_packet number fault = record { text = no_packet_line number fault; known = unknown; good = false }
+no_packet number fault = record { text = no_packet_line number fault; known = nothing_known; good = false }
 
 -- the same where the packet may be none
 abbrev pub said_of : Known → ℕ → ℕ → Result Packet MessageError → Option (List ℕ) → Said

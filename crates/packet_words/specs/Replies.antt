@@ -9,15 +9,15 @@ use Rattle.dap_messages.specs.Requests.{reads_in}
 
 -- How many words a reply has: those of the normal reads that were executed. It has one fewer where the last request executed is a posted read,
 -- the response is not 01, and the bytes are too few.
-unfoldable pub words_given : ℕ → Bool → ℕ → ℕ → ℕ
-words_given reads posted response size = if posted && not (response == 0x01) && nat_lt size (4 * reads) then reads - 1 else reads
+unfoldable pub words_in_reply : ℕ → Bool → ℕ → ℕ → ℕ
+words_in_reply reads posted response size = if posted && not (response == 0x01) && nat_lt size (4 * reads) then reads - 1 else reads
 
 -- The length of the reply to DAP_Transfer that these bytes begin with. It is all of them where they are too few for its head, or the executed
 -- number is greater than the number of requests.
 unfoldable pub transfer_size : List Request → List ℕ → ℕ
 transfer_size rs (id ∷ count ∷ response ∷ words) =
     if nat_lt (length rs) count then 3 + length words else
-    3 + 4 * words_given (reads_in (take count rs)) (last_is_posted rs count) response (length words)
+    3 + 4 * words_in_reply (reads_in (take count rs)) (last_is_posted rs count) response (length words)
 transfer_size rs bytes = length bytes
 
 -- the length of the reply to a command that these bytes begin with

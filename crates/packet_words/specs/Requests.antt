@@ -19,41 +19,41 @@ use Rattle.register_words.specs.Flags.{ctrl_stat_flags, abort_flags, select_word
 -- ---- what became of the requests
 
 -- What a reply says of the requests that are left: whether it was read, how many of them were executed, and the words read.
-pub record Left : Type 0 where
+pub record RequestsLeft : Type 0 where
   pub read : Bool
   pub done : ℕ
   pub words : List ℕ
 
 -- the first of the words
-abbrev pub first_of : List ℕ → Option ℕ
-first_of [] = None
-first_of (word ∷ words) = Some word
+abbrev pub first_read_word : List ℕ → Option ℕ
+first_read_word [] = None
+first_read_word (word ∷ words) = Some word
 
 -- the words after it
-abbrev pub rest_of : List ℕ → List ℕ
-rest_of [] = []
-rest_of (word ∷ words) = words
+abbrev pub words_after_first : List ℕ → List ℕ
+words_after_first [] = []
+words_after_first (word ∷ words) = words
 
 -- a normal read that was executed: its word, where it came
-abbrev pub given : Option ℕ → Fate
-given None = fates.NoWord
-given (Some word) = fates.Gave word
+abbrev pub fate_of_read : Option ℕ → Fate
+fate_of_read None = fates.NoWord
+fate_of_read (Some word) = fates.Gave word
 
 -- what became of a request that was executed
 abbrev pub executed : Request → List ℕ → Fate
-executed r words = if gives_word (kind r) then given (first_of words) else fates.Done
+executed r words = if gives_word (kind r) then fate_of_read (first_read_word words) else fates.Done
 
 -- what became of the first request that is left
-unfoldable pub fate_of : Left → Request → Fate
+unfoldable pub fate_of : RequestsLeft → Request → Fate
 fate_of left r = if left.read then (if left.done == 0 then fates.Skipped else executed r left.words) else fates.NotKnown
 
 -- the words that are left after it
-abbrev pub words_after : Left → Request → List ℕ
-words_after left r = if left.done == 0 then left.words else if gives_word (kind r) then rest_of left.words else left.words
+abbrev pub words_after : RequestsLeft → Request → List ℕ
+words_after left r = if left.done == 0 then left.words else if gives_word (kind r) then words_after_first left.words else left.words
 
 -- what a reply says of the requests after this one
-unfoldable pub left_after : Left → Request → Left
-left_after left r = record { read = left.read; done = left.done - 1; words = words_after left r }
+unfoldable pub left_after_request : RequestsLeft → Request → RequestsLeft
+left_after_request left r = record { read = left.read; done = left.done - 1; words = words_after left r }
 
 -- ---- what is known after a request
 
@@ -158,13 +158,13 @@ request_note known r fates.Skipped = codes " not done"
 request_note known r fates.NotKnown = []
 
 -- the line of a request of this kind: its mark, its byte, the register, the value, and what is known of it
-unfoldable pub line_of : RequestKind → Known → Request → Fate → List ℕ
-line_of asks known r fate =
+unfoldable pub line_of_request : RequestKind → Known → Request → Fate → List ℕ
+line_of_request asks known r fate =
     mark fate ++ hex2 r.byte ++ codes " " ++ subject asks known r.byte ++ value_part asks r.word fate ++ request_note known r fate ++ codes "\n"
 
 -- the line of a request
 abbrev pub request_line : Known → Request → Fate → List ℕ
-request_line known r fate = line_of (kind r) known r fate
+request_line known r fate = line_of_request (kind r) known r fate
 
 -- ---- the words of all requests
 
@@ -173,12 +173,12 @@ abbrev pub block_requests : ℕ → List ℕ → List Request
 block_requests byte words = map (λ word. record { byte = byte; word = word }) words
 
 -- the lines of requests, where this is left of their reply
-abbrev pub request_lines : Known → Left → List Request → List ℕ
+abbrev pub request_lines : Known → RequestsLeft → List Request → List ℕ
 request_lines known left [] = []
 request_lines known left (r ∷ rs) =
-    request_line known r (fate_of left r) ++ request_lines (after_request known r (fate_of left r)) (left_after left r) rs
+    request_line known r (fate_of left r) ++ request_lines (after_request known r (fate_of left r)) (left_after_request left r) rs
 
 -- what is known of the registers after these requests
-abbrev pub after_requests : Known → Left → List Request → Known
+abbrev pub after_requests : Known → RequestsLeft → List Request → Known
 after_requests known left [] = known
-after_requests known left (r ∷ rs) = after_requests (after_request known r (fate_of left r)) (left_after left r) rs
+after_requests known left (r ∷ rs) = after_requests (after_request known r (fate_of left r)) (left_after_request left r) rs

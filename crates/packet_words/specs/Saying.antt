@@ -5,7 +5,7 @@ use Rattle.packet_words.specs.declared.exchange.Said as call
 use Rattle.packet_words.specs.Exchange.{Said}
 
 -- The text was added to a line, this is known now, and the packet and the reply are good or not.
-pub record Says (line : List ℕ) (said : Said) (answer : call.Said) (known : Known) : Type 0 where
+pub record AddsSaid (line : List ℕ) (said : Said) (answer : call.Said) (known : Known) : Type 0 where
   pub text : answer.line ≡ line ++ said.text
   pub known_is : known ≡ said.known
   pub good : answer.is_good ≡ said.good

@@ -7,7 +7,7 @@ ghost use Rattle.dap_messages.specs.PacketReading.{packet_read};
 ghost use Rattle.register_words.specs.Registers.{register_of};
 ghost use Rattle.packet_words.specs.Requests.{after_requests, block_requests};
 ghost use Rattle.packet_words.specs.Commands.{after_command};
-ghost use Rattle.packet_words.specs.Accesses.{one_access, done_accesses, access_of, request_access, requests_accesses, own_access};
+ghost use Rattle.packet_words.specs.Accesses.{one_access, done_accesses, access_by_fate, request_access, requests_accesses, own_access};
 ghost use Rattle.packet_words.specs.Accesses.{command_accesses, answered_accesses, all_accesses, packet_accesses, exchange_accesses};
 
 use crate::command_words::{follow_reply, left_of};
@@ -49,7 +49,7 @@ fn add_done(
 }
 
 // The access of a request, by what became of it.
-#[tactic(auto, unfolding(crate::specs::Accesses::access_of))]
+#[tactic(auto, unfolding(crate::specs::Accesses::access_by_fate))]
 fn add_request(
     accesses: &mut Accesses,
     known: &Known,

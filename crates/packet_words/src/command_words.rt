@@ -4,8 +4,8 @@ ghost use Rattle.dap_replies.specs.ReplyReading.{id_byte};
 ghost use Rattle.hex.specs.Hex.{encode_lower};
 ghost use Rattle.dap_messages.specs.Commands.{IsCommand, requests_of};
 ghost use Rattle.dap_messages.specs.Responses.{response_of};
-ghost use Rattle.packet_words.specs.Commands.{response_name, outcome, info_number, info_outcome, first_byte, pins_outcome, info_name};
-ghost use Rattle.packet_words.specs.Commands.{pins_head, command_words, command_mark, command_line, left_of, command_lines};
+ghost use Rattle.packet_words.specs.Commands.{response_name, outcome_words, info_number, info_outcome, leading_byte, pins_outcome, info_name};
+ghost use Rattle.packet_words.specs.Commands.{pins_head, command_words, command_mark, packet_command_line, requests_left, command_lines};
 ghost use Rattle.packet_words.specs.Commands.{after_response, after_pins, after_known, after_command};
 ghost use Rattle.packet_words.specs.Requests.{request_lines, after_requests};
 
@@ -45,9 +45,9 @@ fn response_name(response: Option<Response>) -> &'static str
 }
 
 // How a transfer or a block ended.
-#[tactic(auto, unfolding(crate::specs::Commands::outcome))]
+#[tactic(auto, unfolding(crate::specs::Commands::outcome_words))]
 fn with_outcome(line: Line, reply: &Reply<'_>) -> Result<Line, OutOfMemory>
-    ensures { IfOk result (λ l. l ≡ line ++ outcome reply.now) }
+    ensures { IfOk result (λ l. l ≡ line ++ outcome_words reply.now) }
 {
     let Some(reply) = reply else {
         return Ok(line);
@@ -81,9 +81,9 @@ fn with_info_outcome(alloc: Global, line: Line, reply: &Reply<'_>) -> Result<Lin
 }
 
 /// The first byte; 0 where there is none.
-#[tactic(auto, unfolding(crate::specs::Commands::first_byte))]
+#[tactic(auto, unfolding(crate::specs::Commands::leading_byte))]
 pub fn first_byte(bytes: &[u8]) -> u8
-    ensures { result ≡ first_byte bytes.now }
+    ensures { result ≡ leading_byte bytes.now }
 {
     match bytes {
         [first, ..] => *first,
@@ -141,7 +141,7 @@ fn with_line(line: Line, count: u8, bits: u64) -> Result<Line, OutOfMemory>
 
 // How many requests a transfer or a block has, and how it ended.
 fn with_counted(line: Line, label: &str, count: u64, reply: &Reply<'_>) -> Result<Line, OutOfMemory>
-    ensures { IfOk result (λ l. l ≡ line ++ (label.now ++ decimal count ++ outcome reply.now)) }
+    ensures { IfOk result (λ l. l ≡ line ++ (label.now ++ decimal count ++ outcome_words reply.now)) }
 {
     with_outcome(line.add_labelled(label, count)?, reply)
 }
@@ -236,14 +236,14 @@ fn id_byte(command: &CommandValue<'_>) -> u8
 }
 
 // The line of a command.
-#[tactic(auto, unfolding(crate::specs::Commands::command_line))]
+#[tactic(auto, unfolding(crate::specs::Commands::packet_command_line))]
 fn with_command_line(
     alloc: Global,
     line: Line,
     command: &CommandView<'_>,
     reply: &Reply<'_>,
 ) -> Result<Line, OutOfMemory>
-    ensures { IfOk result (λ l. l ≡ line ++ command_line command.now reply.now) }
+    ensures { IfOk result (λ l. l ≡ line ++ packet_command_line command.now reply.now) }
 {
     let value = command.value();
     let line = line.text(command_mark(reply))?.hex2(id_byte(value))?;
@@ -251,9 +251,9 @@ fn with_command_line(
 }
 
 // What a reply says of the requests of its command.
-#[tactic(auto, unfolding(crate::specs::Commands::left_of))]
+#[tactic(auto, unfolding(crate::specs::Commands::requests_left))]
 pub fn left_of<'a>(reply: &Reply<'a>) -> Left<'a>
-    ensures { result ≡ left_of reply.now }
+    ensures { result ≡ requests_left reply.now }
 {
     match reply {
         Some(reply) => Left {

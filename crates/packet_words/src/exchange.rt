@@ -2,9 +2,9 @@
 ghost use Rattle.std.specs.Prelude.{◌≡◌, ◌++◌, ◌∷◌, IfOk, OnOk, codes, decimal, drop, length};
 ghost use Rattle.std.specs.Option.{option_copied};
 ghost use Rattle.dap_messages.specs.PacketReading.{packet_read};
-ghost use Rattle.register_words.specs.Known.{unknown};
-ghost use Rattle.packet_words.specs.Saying.{Says, SaysAll};
-ghost use Rattle.packet_words.specs.Exchange.{unanswered_lines, misanswer_line, misanswered, answered, kind_words, head_words, is_head};
+ghost use Rattle.register_words.specs.Known.{nothing_known};
+ghost use Rattle.packet_words.specs.Saying.{AddsSaid, SaysAll};
+ghost use Rattle.packet_words.specs.Exchange.{unanswered_lines, misanswer_line, misanswered, commands_said, kind_words, head_words, is_head};
 ghost use Rattle.packet_words.specs.Exchange.{head_fault, all_answered, packet_answered, replied_line, unreplied_line, packet_said};
 ghost use Rattle.packet_words.specs.Exchange.{no_packet_line, no_packet, said_of, reply_line, trace_lines, exchange};
 
@@ -35,7 +35,7 @@ fn with_unanswered(
     commands: &Commands<'_>,
 ) -> Result<Line, OutOfMemory>
     ensures text { IfOk result (λ l. l ≡ line ++ unanswered_lines known.old commands.now) }
-    ensures known { OnOk result (known.new ≡ unknown) }
+    ensures known { OnOk result (known.new ≡ nothing_known) }
 {
     let mut line = line;
     let mut left = commands.iter();
@@ -69,7 +69,7 @@ fn with_misanswered(
     fault: MessageError,
     bytes: &[u8],
 ) -> Result<Said, OutOfMemory>
-    ensures { IfOk result (λ s. Says line (misanswered known.old commands.now fault bytes.now) s known.new) }
+    ensures { IfOk result (λ s. AddsSaid line (misanswered known.old commands.now fault bytes.now) s known.new) }
 {
     let line = with_misanswer(alloc, line, fault, bytes)?;
     let line = with_unanswered(alloc, line, known, commands)?;
@@ -89,7 +89,7 @@ fn with_misanswered_first(
     fault: MessageError,
     bytes: &[u8],
 ) -> Result<Said, OutOfMemory>
-    ensures { IfOk result (λ s. Says line (misanswered known.old (command.now ∷ later.now) fault bytes.now) s known.new) }
+    ensures { IfOk result (λ s. AddsSaid line (misanswered known.old (command.now ∷ later.now) fault bytes.now) s known.new) }
 {
     let line = with_misanswer(alloc, line, fault, bytes)?;
     let line = with_command(alloc, line, known, command, &None)?;
@@ -108,7 +108,7 @@ fn with_answers(
     commands: &Commands<'_>,
     bytes: &[u8],
 ) -> Result<Said, OutOfMemory>
-    ensures { IfOk result (λ s. Says line (answered known.old commands.now bytes.now) s known.new) }
+    ensures { IfOk result (λ s. AddsSaid line (commands_said known.old commands.now bytes.now) s known.new) }
 {
     let mut line = line;
     let mut left = commands.iter();
@@ -164,7 +164,7 @@ fn with_all_answers(
     packet: &PacketView<'_>,
     bytes: &[u8],
 ) -> Result<Said, OutOfMemory>
-    ensures { IfOk result (λ s. Says line (all_answered packet.now.kind known.old packet.now.commands bytes.now) s known.new) }
+    ensures { IfOk result (λ s. AddsSaid line (all_answered packet.now.kind known.old packet.now.commands bytes.now) s known.new) }
 {
     let commands = packet.commands();
     match head_fault(packet.kind(), packet.count(), bytes) {
@@ -191,7 +191,7 @@ fn with_packet_answers(
     packet: &PacketView<'_>,
     bytes: &[u8],
 ) -> Result<Said, OutOfMemory>
-    ensures { IfOk result (λ s. Says line (packet_answered packet.now.kind known.old packet.now.commands bytes.now) s known.new) }
+    ensures { IfOk result (λ s. AddsSaid line (packet_answered packet.now.kind known.old packet.now.commands bytes.now) s known.new) }
 {
     match packet.kind() {
         PacketKind::Plain => with_answers(alloc, line, known, &packet.commands(), bytes),
@@ -275,7 +275,7 @@ fn packet_said(
     packet: &PacketView<'_>,
     reply: Option<&[u8]>,
 ) -> Result<Said, OutOfMemory>
-    ensures { IfOk result (λ s. Says line (packet_said known.old number size packet.now (option_copied reply.entry)) s known.new) }
+    ensures { IfOk result (λ s. AddsSaid line (packet_said known.old number size packet.now (option_copied reply.entry)) s known.new) }
 {
     match reply {
         Some(reply) => {
@@ -311,7 +311,7 @@ fn no_packet(
     number: u64,
     fault: MessageError,
 ) -> Result<Said, OutOfMemory>
-    ensures { IfOk result (λ s. Says line (no_packet number fault) s known.new) }
+    ensures { IfOk result (λ s. AddsSaid line (no_packet number fault) s known.new) }
 {
     known.forget();
     Ok(Said {
@@ -329,7 +329,7 @@ fn said_of(
     packet: &[u8],
     reply: Option<&[u8]>,
 ) -> Result<Said, OutOfMemory>
-    ensures { IfOk result (λ s. Says line (said_of known.old number (length packet.now) (packet_read packet.now) (option_copied reply.entry)) s known.new) }
+    ensures { IfOk result (λ s. AddsSaid line (said_of known.old number (length packet.now) (packet_read packet.now) (option_copied reply.entry)) s known.new) }
 {
     match packet_view(packet) {
         Ok(view) => packet_said(alloc, line, known, number, packet.len(), &view, reply),

@@ -3,7 +3,7 @@ ghost use Rattle.std.specs.Prelude.{◌≡◌};
 ghost use Rattle.dap_messages.specs.Words.{words_in};
 ghost use Rattle.dap_messages.specs.Requests.{kind_of};
 ghost use Rattle.register_words.specs.Registers.{register_of};
-ghost use Rattle.packet_words.specs.Requests.{first_of, rest_of, given, executed, fate_of, left_after, after_done, after_request};
+ghost use Rattle.packet_words.specs.Requests.{first_read_word, words_after_first, fate_of_read, executed, fate_of, left_after_request, after_done, after_request};
 
 use dap_messages::{Request, RequestKind};
 use register_words::{Known, register_of};
@@ -37,16 +37,16 @@ pub struct Left<'a> {
 
 impl<'a> Model for Left<'a> {
     ghost use Rattle.dap_messages.specs.Words.{words_in};
-    ghost use Rattle.packet_words.specs.Requests.{Left};
+    ghost use Rattle.packet_words.specs.Requests.{RequestsLeft};
 
-    ghost Value = { Left };
+    ghost Value = { RequestsLeft };
 
     ghost view = { λ l. record { read = l.is_read; done = l.done; words = words_in l.words.now } };
 }
 
 // The first of the words that these bytes make.
 fn first_word(bytes: &[u8]) -> Option<u32>
-    ensures { result ≡ first_of (words_in bytes.now) }
+    ensures { result ≡ first_read_word (words_in bytes.now) }
 {
     match bytes {
         [a, b, c, d, ..] => Some(u32::from_le_bytes([*a, *b, *c, *d])),
@@ -56,7 +56,7 @@ fn first_word(bytes: &[u8]) -> Option<u32>
 
 // The bytes of the words after it.
 fn other_words(bytes: &[u8]) -> &[u8]
-    ensures { words_in result.now ≡ rest_of (words_in bytes.now) }
+    ensures { words_in result.now ≡ words_after_first (words_in bytes.now) }
 {
     match bytes {
         [_, _, _, _, others @ ..] => others,
@@ -93,9 +93,9 @@ impl<'a> Left<'a> {
     }
 
     // What is left after it.
-    #[tactic(auto, unfolding(crate::specs::Requests::left_after))]
+    #[tactic(auto, unfolding(crate::specs::Requests::left_after_request))]
     pub fn after(&self, request: Request) -> Left<'a>
-        ensures { result ≡ left_after self.now request }
+        ensures { result ≡ left_after_request self.now request }
     {
         let words = if self.done != 0 && request.is_read() {
             other_words(self.words)

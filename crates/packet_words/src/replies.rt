@@ -2,7 +2,7 @@
 ghost use Rattle.std.specs.Prelude.{◌≡◌, ◌≤◌, ◌<◌, ◌+◌, length, take, if◌then◌else◌};
 ghost use Rattle.dap_messages.specs.Replies.{last_is_posted};
 ghost use Rattle.dap_messages.specs.Requests.{reads_in, gives_word, is_posted, kind};
-ghost use Rattle.packet_words.specs.Replies.{words_given, transfer_size, reply_size, own_bytes};
+ghost use Rattle.packet_words.specs.Replies.{words_in_reply, transfer_size, reply_size, own_bytes};
 
 use dap_messages::{CommandValue, Commands, Request, RequestKind, Requests};
 
@@ -51,10 +51,10 @@ impl Executed {
 }
 
 // How many words a reply has.
-#[tactic(auto, unfolding(crate::specs::Replies::words_given))]
+#[tactic(auto, unfolding(crate::specs::Replies::words_in_reply))]
 fn words_given(executed: Executed, response: u8, size: usize) -> usize
     requires { executed.reads ≤ 255 }
-    ensures value { result ≡ words_given executed.reads executed.last_is_posted response size }
+    ensures value { result ≡ words_in_reply executed.reads executed.last_is_posted response size }
     ensures few { result ≤ 255 }
 {
     if executed.last_is_posted && response != 0x01 && size < 4 * executed.reads {

@@ -2,7 +2,7 @@
 ghost use Rattle.std.specs.Prelude.{◌≡◌, ◌++◌, ◌<◌, ◌^◌, IfOk, OnOk, codes, length, option_map};
 ghost use Rattle.text_lines.specs.Hex.{hex2};
 ghost use Rattle.packet_words.specs.Requests.{mark, subject, read_part, value_part, address_words, banked_address, csw_note, port_note};
-ghost use Rattle.packet_words.specs.Requests.{note, match_note, done_note, request_note, line_of, request_line, block_requests};
+ghost use Rattle.packet_words.specs.Requests.{note, match_note, done_note, request_note, line_of_request, request_line, block_requests};
 ghost use Rattle.packet_words.specs.Requests.{request_lines, after_requests};
 
 use crate::fate::{Fate, Left, follow};
@@ -203,7 +203,7 @@ fn with_mark(line: Line, byte: u8, fate: Fate) -> Result<Line, OutOfMemory>
 }
 
 // The line of a request of this kind.
-#[tactic(auto, unfolding(crate::specs::Requests::line_of))]
+#[tactic(auto, unfolding(crate::specs::Requests::line_of_request))]
 fn with_line(
     line: Line,
     kind: RequestKind,
@@ -211,7 +211,7 @@ fn with_line(
     request: Request,
     fate: Fate,
 ) -> Result<Line, OutOfMemory>
-    ensures { IfOk result (λ l. l ≡ line ++ line_of kind known.now request fate) }
+    ensures { IfOk result (λ l. l ≡ line ++ line_of_request kind known.now request fate) }
 {
     let line = with_mark(line, request.byte, fate)?;
     let line = with_subject(line, kind, known, request.byte)?;

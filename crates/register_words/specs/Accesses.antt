@@ -27,8 +27,8 @@ abbrev pub place : Access → ℕ
 place access = 2 * register_place access.register + (if access.is_write then 1 else 0)
 
 -- the register of the debug port at a place below 12
-unfoldable pub dp_at : ℕ → Register
-dp_at place =
+unfoldable pub dp_register_at : ℕ → Register
+dp_register_at place =
     if place == 0 then at.Dpidr else
     if place == 1 then at.Abort else
     if place == 2 then at.CtrlStat else
@@ -44,5 +44,5 @@ dp_at place =
 -- the register at a place below 16,400
 unfoldable pub register_at : ℕ → Register
 register_at place =
-    if nat_lt place 12 then dp_at place else
+    if nat_lt place 12 then dp_register_at place else
     if nat_lt place 16 then at.UnknownAp (4 * (place - 12)) else at.Ap ((place - 16) / 64) (4 * ((place - 16) % 64))

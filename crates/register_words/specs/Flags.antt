@@ -6,28 +6,28 @@ use Rattle.text_lines.specs.Hex.{hex2}
 use Rattle.register_words.specs.Registers.{apsel}
 
 -- a name, where the bit is set
-unfoldable pub flag : ℕ → ℕ → List ℕ → List ℕ
-flag word mask name = if has_bit word mask then name else []
+unfoldable pub flag_word : ℕ → ℕ → List ℕ → List ℕ
+flag_word word mask name = if has_bit word mask then name else []
 
 -- ---- CTRL/STAT
 
 -- bits 31 to 28: the power of the system and of debug
 unfoldable pub power_flags : ℕ → List ℕ
 power_flags word =
-    flag word 0x8000_0000 (codes " CSYSPWRUPACK") ++ flag word 0x4000_0000 (codes " CSYSPWRUPREQ")
-    ++ flag word 0x2000_0000 (codes " CDBGPWRUPACK") ++ flag word 0x1000_0000 (codes " CDBGPWRUPREQ")
+    flag_word word 0x8000_0000 (codes " CSYSPWRUPACK") ++ flag_word word 0x4000_0000 (codes " CSYSPWRUPREQ")
+    ++ flag_word word 0x2000_0000 (codes " CDBGPWRUPACK") ++ flag_word word 0x1000_0000 (codes " CDBGPWRUPREQ")
 
 -- bits 27 and 26, the reset of debug, then bits 7 and 6
 unfoldable pub reset_flags : ℕ → List ℕ
 reset_flags word =
-    flag word 0x0800_0000 (codes " CDBGRSTACK") ++ flag word 0x0400_0000 (codes " CDBGRSTREQ")
-    ++ flag word 0x80 (codes " WDATAERR") ++ flag word 0x40 (codes " READOK")
+    flag_word word 0x0800_0000 (codes " CDBGRSTACK") ++ flag_word word 0x0400_0000 (codes " CDBGRSTREQ")
+    ++ flag_word word 0x80 (codes " WDATAERR") ++ flag_word word 0x40 (codes " READOK")
 
 -- bits 5, 4, 1 and 0: the sticky flags, and ORUNDETECT
 unfoldable pub sticky_flags : ℕ → List ℕ
 sticky_flags word =
-    flag word 0x20 (codes " STICKYERR") ++ flag word 0x10 (codes " STICKYCMP")
-    ++ flag word 0x02 (codes " STICKYORUN") ++ flag word 0x01 (codes " ORUNDETECT")
+    flag_word word 0x20 (codes " STICKYERR") ++ flag_word word 0x10 (codes " STICKYCMP")
+    ++ flag_word word 0x02 (codes " STICKYORUN") ++ flag_word word 0x01 (codes " ORUNDETECT")
 
 -- the bits of CTRL/STAT that are set, from the highest
 unfoldable pub ctrl_stat_flags : ℕ → List ℕ
@@ -38,12 +38,12 @@ ctrl_stat_flags word = power_flags word ++ reset_flags word ++ sticky_flags word
 -- bits 4 to 1 of ABORT, which clear sticky flags
 unfoldable pub clear_flags : ℕ → List ℕ
 clear_flags word =
-    flag word 0x10 (codes " ORUNERRCLR") ++ flag word 0x08 (codes " WDERRCLR")
-    ++ flag word 0x04 (codes " STKERRCLR") ++ flag word 0x02 (codes " STKCMPCLR")
+    flag_word word 0x10 (codes " ORUNERRCLR") ++ flag_word word 0x08 (codes " WDERRCLR")
+    ++ flag_word word 0x04 (codes " STKERRCLR") ++ flag_word word 0x02 (codes " STKCMPCLR")
 
 -- the bits of ABORT that are set, from the highest
 unfoldable pub abort_flags : ℕ → List ℕ
-abort_flags word = clear_flags word ++ flag word 0x01 (codes " DAPABORT")
+abort_flags word = clear_flags word ++ flag_word word 0x01 (codes " DAPABORT")
 
 -- ---- CSW
 
@@ -63,7 +63,7 @@ increment_name increment =
 
 -- bits 31, 7 and 6 of CSW
 unfoldable pub csw_flags : ℕ → List ℕ
-csw_flags word = flag word 0x8000_0000 (codes " DbgSwEnable") ++ flag word 0x80 (codes " TrInProg") ++ flag word 0x40 (codes " DeviceEn")
+csw_flags word = flag_word word 0x8000_0000 (codes " DbgSwEnable") ++ flag_word word 0x80 (codes " TrInProg") ++ flag_word word 0x40 (codes " DeviceEn")
 
 -- Size, AddrInc and these bits
 unfoldable pub csw_words : ℕ → List ℕ
@@ -84,12 +84,12 @@ select_words word =
 
 -- nRESET and nTRST
 unfoldable pub reset_pins : ℕ → List ℕ
-reset_pins pins = flag pins 0x80 (codes " nRESET") ++ flag pins 0x20 (codes " nTRST")
+reset_pins pins = flag_word pins 0x80 (codes " nRESET") ++ flag_word pins 0x20 (codes " nTRST")
 
 -- the pins of JTAG, of which SWD uses the last two
 unfoldable pub line_pins : ℕ → List ℕ
 line_pins pins =
-    flag pins 0x08 (codes " TDO") ++ flag pins 0x04 (codes " TDI") ++ flag pins 0x02 (codes " SWDIO/TMS") ++ flag pins 0x01 (codes " SWCLK/TCK")
+    flag_word pins 0x08 (codes " TDO") ++ flag_word pins 0x04 (codes " TDI") ++ flag_word pins 0x02 (codes " SWDIO/TMS") ++ flag_word pins 0x01 (codes " SWCLK/TCK")
 
 -- the pins of DAP_SWJ_Pins by name, from the highest bit
 unfoldable pub pin_names : ℕ → List ℕ

@@ -17,22 +17,22 @@ abbrev pub unknown_ports : List Port
 unknown_ports = replicate 256 unknown_port
 
 -- nothing is known
-abbrev pub unknown : Known
-unknown = record { select = None; ports = unknown_ports }
+abbrev pub nothing_known : Known
+nothing_known = record { select = None; ports = unknown_ports }
 
 -- what is known of the port of this number
 abbrev pub port_at : Known → ℕ → Port
 port_at known ap = slice_index_or known.ports ap unknown_port
 
 -- the same with this for one port
-abbrev pub with_port : Known → ℕ → Port → Known
-with_port known ap port = record known { ports = slice_set known.ports ap port }
+abbrev pub known_with_port : Known → ℕ → Port → Known
+known_with_port known ap port = record known { ports = slice_set known.ports ap port }
 
 -- ---- TAR after an access of DRW
 
 -- TAR after an access of so many bytes, within the same 1,024 bytes; at their end it is not known
-abbrev pub moved : ℕ → ℕ → Option ℕ
-moved tar size = if nat_lt (tar % 1024 + size) 1024 then Some (tar + size) else None
+abbrev pub tar_after : ℕ → ℕ → Option ℕ
+tar_after tar size = if nat_lt (tar % 1024 + size) 1024 then Some (tar + size) else None
 
 -- the bytes of an access, by CSW.Size, where they are 1, 2 or 4
 abbrev pub bytes_of : ℕ → Option ℕ
@@ -41,7 +41,7 @@ bytes_of size = if size == 0 then Some 1 else if size == 1 then Some 2 else if s
 -- the same where the bytes of the access may not be known
 abbrev pub moved_by : ℕ → Option ℕ → Option ℕ
 moved_by tar None = None
-moved_by tar (Some size) = moved tar size
+moved_by tar (Some size) = tar_after tar size
 
 -- TAR after an access, by CSW.AddrInc: the same where it is off, moved where it is single; else not known
 unfoldable pub stepped : ℕ → ℕ → Option ℕ
@@ -50,13 +50,13 @@ stepped csw tar =
     if bit_and csw csw_addrinc == addrinc_single then moved_by tar (bytes_of (bit_and csw csw_size)) else None
 
 -- the same where CSW or TAR may not be known
-abbrev pub next_tar : Option ℕ → Option ℕ → Option ℕ
-next_tar (Some csw) (Some tar) = stepped csw tar
-next_tar csw tar = None
+abbrev pub known_next_tar : Option ℕ → Option ℕ → Option ℕ
+known_next_tar (Some csw) (Some tar) = stepped csw tar
+known_next_tar csw tar = None
 
 -- a port after one access of DRW
 abbrev pub accessed : Port → Port
-accessed port = record port { tar = next_tar port.csw port.tar }
+accessed port = record port { tar = known_next_tar port.csw port.tar }
 
 -- TAR after several accesses whose number is not known: the same where AddrInc is off
 abbrev pub kept_tar : Option ℕ → Option ℕ → Option ℕ
@@ -85,7 +85,7 @@ port_matched port register = if register == drw_register then record port { tar 
 
 -- ABORT.DAPABORT (bit 0), after which nothing is known
 abbrev pub after_abort : Known → ℕ → Known
-after_abort known word = if has_bit word 1 then unknown else known
+after_abort known word = if has_bit word 1 then nothing_known else known
 
 -- A write: SELECT is known from now on; CTRL/STAT may take the power from the ports; TARGETSEL chooses another debug port.
 unfoldable pub after_write : Known → Register → ℕ → Known
@@ -93,16 +93,16 @@ after_write known at.Select word = record known { select = Some word }
 after_write known at.Abort word = after_abort known word
 after_write known at.CtrlStat word = record known { ports = unknown_ports }
 after_write known at.Banked word = record known { ports = unknown_ports }
-after_write known at.Targetsel word = unknown
-after_write known (at.Ap ap register) word = with_port known ap (port_written (port_at known ap) register word)
+after_write known at.Targetsel word = nothing_known
+after_write known (at.Ap ap register) word = known_with_port known ap (port_written (port_at known ap) register word)
 after_write known other word = known
 
 -- a read, whose value came or not
 unfoldable pub after_read : Known → Register → Option ℕ → Known
-after_read known (at.Ap ap register) value = with_port known ap (port_read (port_at known ap) register value)
+after_read known (at.Ap ap register) value = known_with_port known ap (port_read (port_at known ap) register value)
 after_read known other value = known
 
 -- a read that was repeated until its value matched
 unfoldable pub after_match : Known → Register → Known
-after_match known (at.Ap ap register) = with_port known ap (port_matched (port_at known ap) register)
+after_match known (at.Ap ap register) = known_with_port known ap (port_matched (port_at known ap) register)
 after_match known other = known

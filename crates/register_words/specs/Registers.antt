@@ -22,8 +22,8 @@ banked None = at.Banked
 banked (Some select) = in_bank (bit_and select dpbanksel)
 
 -- a register of the debug port, by SELECT, whether it is read, and its address
-unfoldable pub dp_register : Option ℕ → Bool → ℕ → Register
-dp_register select read addr =
+unfoldable pub selected_dp_register : Option ℕ → Bool → ℕ → Register
+selected_dp_register select read addr =
     if addr == 0x0 then (if read then at.Dpidr else at.Abort) else
     if addr == 0x4 then banked select else
     if addr == 0x8 then (if read then at.Resend else at.Select) else
@@ -34,14 +34,14 @@ abbrev pub apsel : ℕ → ℕ
 apsel select = select / 2 ^ 24
 
 -- a register of the access port that SELECT chooses: the bank is SELECT's, the other bits are the request's
-abbrev pub ap_register : Option ℕ → ℕ → Register
-ap_register None addr = at.UnknownAp addr
-ap_register (Some select) addr = at.Ap (apsel select) (bit_and select apbanksel + addr)
+abbrev pub selected_ap_register : Option ℕ → ℕ → Register
+selected_ap_register None addr = at.UnknownAp addr
+selected_ap_register (Some select) addr = at.Ap (apsel select) (bit_and select apbanksel + addr)
 
 -- the register that a request with this byte accesses
 unfoldable pub register_of : Option ℕ → ℕ → Register
 register_of select byte =
-    if has_bit byte apndp then ap_register select (bit_and byte address_bits) else dp_register select (has_bit byte rnw) (bit_and byte address_bits)
+    if has_bit byte apndp then selected_ap_register select (bit_and byte address_bits) else selected_dp_register select (has_bit byte rnw) (bit_and byte address_bits)
 
 -- the name of a register of a MEM-AP, where it has one, else its address
 unfoldable pub ap_name : ℕ → List ℕ

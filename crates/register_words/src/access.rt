@@ -1,6 +1,6 @@
 //! Accesses of registers, and their order.
 ghost use Rattle.std.specs.Prelude.{◌≡◌, ◌<◌};
-ghost use Rattle.register_words.specs.Accesses.{register_place, place, dp_at, register_at};
+ghost use Rattle.register_words.specs.Accesses.{register_place, place, dp_register_at, register_at};
 
 use crate::register::Register;
 
@@ -46,9 +46,9 @@ impl Access {
 }
 
 // The register of the debug port at a place below 12.
-#[tactic(auto, unfolding(crate::specs::Accesses::dp_at))]
+#[tactic(auto, unfolding(crate::specs::Accesses::dp_register_at))]
 fn dp_at(place: u16) -> Register
-    ensures { result ≡ dp_at place }
+    ensures { result ≡ dp_register_at place }
 {
     match place {
         0 => Register::Dpidr,

@@ -1,15 +1,15 @@
 //! The bits of registers, the pins and the line sequences by name.
 ghost use Rattle.std.specs.Prelude.{◌≡◌, ◌++◌, IfOk};
-ghost use Rattle.register_words.specs.Flags.{flag, power_flags, reset_flags, sticky_flags, ctrl_stat_flags, clear_flags, abort_flags, size_name, increment_name, csw_flags, csw_words, dp_bank_words, select_words, reset_pins, line_pins, pin_names, switch_name, reset_name, line_name};
+ghost use Rattle.register_words.specs.Flags.{flag_word, power_flags, reset_flags, sticky_flags, ctrl_stat_flags, clear_flags, abort_flags, size_name, increment_name, csw_flags, csw_words, dp_bank_words, select_words, reset_pins, line_pins, pin_names, switch_name, reset_name, line_name};
 
 use dap_base::OutOfMemory;
 use target_machine::registers::{APBANKSEL, CSW_ADDRINC, CSW_SIZE, DPBANKSEL};
 use text_lines::Line;
 
 // A name, where the bit is set.
-#[tactic(auto, unfolding(crate::specs::Flags::flag))]
+#[tactic(auto, unfolding(crate::specs::Flags::flag_word))]
 fn with_flag(line: Line, word: u32, mask: u32, name: &str) -> Result<Line, OutOfMemory>
-    ensures { IfOk result (λ l. l ≡ line ++ flag word mask name.now) }
+    ensures { IfOk result (λ l. l ≡ line ++ flag_word word mask name.now) }
 {
     if word & mask != 0 {
         line.text(name)

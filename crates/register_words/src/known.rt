@@ -1,7 +1,7 @@
 //! What is known of SELECT, and of CSW and TAR of each access port.
 ghost use Rattle.std.specs.Prelude.{◌≡◌, ◌⊎◌, Option, bit_and};
 ghost use Rattle.target_machine.specs.Registers.{csw_size};
-ghost use Rattle.register_words.specs.Known.{unknown_port, unknown, unknown_ports, port_at, with_port, moved, bytes_of, moved_by, stepped, next_tar, accessed, kept_tar, port_written, port_read, port_matched, after_abort, after_write, after_read, after_match};
+ghost use Rattle.register_words.specs.Known.{unknown_port, nothing_known, unknown_ports, port_at, known_with_port, tar_after, bytes_of, moved_by, stepped, known_next_tar, accessed, kept_tar, port_written, port_read, port_matched, after_abort, after_write, after_read, after_match};
 
 use crate::register::Register;
 use target_machine::registers::{ADDRINC_SINGLE, CSW, CSW_ADDRINC, CSW_SIZE, DRW, TAR};
@@ -29,7 +29,7 @@ const UNKNOWN_PORT: Port = Port {
 // TAR after an access of so many bytes.
 fn move_tar(tar: u32, size: u32) -> Option<u32>
     requires { (size ≡ 1) ⊎ (size ≡ 2) ⊎ (size ≡ 4) }
-    ensures { result ≡ moved tar size }
+    ensures { result ≡ tar_after tar size }
 {
     if tar % 1024 + size < 1024 {
         Some(tar + size)
@@ -129,7 +129,7 @@ impl Port {
 impl Known {
     /// Nothing is known.
     pub fn new() -> Known
-        ensures { result ≡ unknown }
+        ensures { result ≡ nothing_known }
     {
         Known {
             select: None,
@@ -139,7 +139,7 @@ impl Known {
 
     /// From now on nothing is known.
     pub fn forget(&mut self)
-        ensures { self.new ≡ unknown }
+        ensures { self.new ≡ nothing_known }
     {
         self.select = None;
         self.forget_ports();
@@ -159,7 +159,7 @@ impl Known {
     }
 
     fn set_port(&mut self, ap: u8, port: Port)
-        ensures { self.new ≡ with_port self.old ap port }
+        ensures { self.new ≡ known_with_port self.old ap port }
     {
         self.ports[ap as usize] = port;
     }

@@ -1,6 +1,6 @@
 //! The register that a request accesses, and its name.
 ghost use Rattle.std.specs.Prelude.{◌≡◌, ◌<◌, ◌++◌, Option, IfOk, codes};
-ghost use Rattle.register_words.specs.Registers.{in_bank, banked, dp_register, apsel, ap_register, register_of, ap_name, register_name};
+ghost use Rattle.register_words.specs.Registers.{in_bank, banked, selected_dp_register, apsel, selected_ap_register, register_of, ap_name, register_name};
 
 use dap_base::OutOfMemory;
 use dap_messages::{ADDRESS_BITS, APNDP, RNW};
@@ -63,9 +63,9 @@ fn banked_register(select: Option<u32>) -> Register
     }
 }
 
-#[tactic(auto, unfolding(crate::specs::Registers::dp_register))]
+#[tactic(auto, unfolding(crate::specs::Registers::selected_dp_register))]
 fn dp_register(select: Option<u32>, is_read: bool, addr: u8) -> Register
-    ensures { result ≡ dp_register select is_read addr }
+    ensures { result ≡ selected_dp_register select is_read addr }
 {
     match (addr, is_read) {
         (0x0, true) => Register::Dpidr,
@@ -87,7 +87,7 @@ fn apsel(select: u32) -> u8
 
 fn ap_register(select: Option<u32>, addr: u8) -> Register
     requires { addr < 16 }
-    ensures { result ≡ ap_register select addr }
+    ensures { result ≡ selected_ap_register select addr }
 {
     match select {
         Some(select) => Register::Ap {

@@ -9,7 +9,7 @@ use Rattle.target_machine.specs.State.{TargetState}
 use Rattle.probe_core.specs.Bench.{BenchState, IsAsBefore, Seen}
 use Rattle.probe_core.specs.Probe.{target_of}
 use Rattle.report_lines.specs.Target.{lines_below}
-use Rattle.report_lines.specs.Views.{IsViewedAsBefore, View, target_in}
+use Rattle.report_lines.specs.Views.{IsViewedAsBefore, View, observed_target}
 use Rattle.text_lines.specs.Causes.{NamesFault}
 use Rattle.report_lines.specs.declared.put.TextEnd.{TextEnd}
 use Rattle.report_lines.specs.declared.put.TextEnd.TheVariants as ends
@@ -29,7 +29,7 @@ viewed-trans a b c first second = record {
 }
 
 -- what is known of the target of a bench
-pub of_bench : (s : Option BenchState) (P : TargetState → Type 0) → IfSome (target_in s) P → IfSome s (λ m. P (target_of m.probe))
+pub of_bench : (s : Option BenchState) (P : TargetState → Type 0) → IfSome (observed_target s) P → IfSome s (λ m. P (target_of m.probe))
 of_bench None P h = tt
 of_bench (Some m) P h = h
 

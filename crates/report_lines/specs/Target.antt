@@ -20,8 +20,8 @@ part_line (ask.Word address) (part.Word image) = word_line address image
 part_line asked other = []
 
 -- the line of what a target shows
-unfoldable pub part_of : TargetState → ImageAsk → List ℕ
-part_of t asked = part_line asked (shown t asked)
+unfoldable pub shown_line : TargetState → ImageAsk → List ℕ
+shown_line t asked = part_line asked (shown t asked)
 
 -- the lines of the numbers below one
 abbrev pub lines_below : (ℕ → List ℕ) → ℕ → List ℕ
@@ -29,16 +29,16 @@ lines_below line zero = []
 lines_below line (suc n) = lines_below line n ++ line n
 
 -- the line of an access port that the job lists
-abbrev pub port_of : TargetState → List ApJob → ℕ → List ℕ
-port_of t aps number = if list_any (λ port. port.ap == number) aps then part_of t (ask.Ap number) else []
+abbrev pub listed_port_line : TargetState → List ApJob → ℕ → List ℕ
+listed_port_line t aps number = if list_any (λ port. port.ap == number) aps then shown_line t (ask.Ap number) else []
 
 -- the lines of the access ports that the job lists, in rising order
 abbrev pub port_lines : TargetState → List ApJob → List ℕ
-port_lines t aps = lines_below (port_of t aps) 256
+port_lines t aps = lines_below (listed_port_line t aps) 256
 
 -- the lines of words in a row from an address on
 abbrev pub word_lines : TargetState → ℕ → ℕ → List ℕ
-word_lines t address n = lines_below (λ i. part_of t (ask.Word (address + 4 * i))) n
+word_lines t address n = lines_below (λ i. shown_line t (ask.Word (address + 4 * i))) n
 
 -- the lines of the words that are watched
 abbrev pub watch_lines : TargetState → List WatchItem → List ℕ
@@ -46,7 +46,7 @@ watch_lines t watch = flat_map (λ item. word_lines t item.address item.words) w
 
 -- the lines of the probe, and those of the words that are watched
 abbrev pub outside_lines : TargetState → List WatchItem → List ℕ
-outside_lines t watch = part_of t ask.Lines ++ watch_lines t watch
+outside_lines t watch = shown_line t ask.Lines ++ watch_lines t watch
 
 -- the lines of the access ports, and what follows them
 abbrev pub ports_on : TargetState → List ApJob → List WatchItem → List ℕ
@@ -54,7 +54,7 @@ ports_on t aps watch = port_lines t aps ++ outside_lines t watch
 
 -- the lines of a target: the debug port, the access ports, the lines of the probe, and the words that are watched
 abbrev pub target_lines : TargetState → List ApJob → List WatchItem → List ℕ
-target_lines t aps watch = part_of t ask.Dp ++ ports_on t aps watch
+target_lines t aps watch = shown_line t ask.Dp ++ ports_on t aps watch
 
 -- words whose addresses are below 2^64
 abbrev pub IsLow : WatchItem → Type 0

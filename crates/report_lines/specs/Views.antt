@@ -11,13 +11,13 @@ pub record View : Type 0 where
   pub identity : ℕ
 
 -- the target of a bench, where it is observable
-abbrev pub target_in : Option BenchState → Option TargetState
-target_in None = None
-target_in (Some m) = Some (target_of m.probe)
+abbrev pub observed_target : Option BenchState → Option TargetState
+observed_target None = None
+observed_target (Some m) = Some (target_of m.probe)
 
 -- a bench as what shows its target
 abbrev pub bench_view : Seen → ℕ → View
-bench_view bench identity = record { target = target_in bench.state; bench = bench; identity = identity }
+bench_view bench identity = record { target = observed_target bench.state; bench = bench; identity = identity }
 
 -- where a target shows itself no bench does, and so none fails
 abbrev pub no_bench : Seen
@@ -27,8 +27,8 @@ no_bench = record {
 }
 
 -- a target as what shows itself
-abbrev pub own_view : TargetState → View
-own_view t = record { target = Some t; bench = no_bench; identity = 0 }
+abbrev pub target_view : TargetState → View
+target_view t = record { target = Some t; bench = no_bench; identity = 0 }
 
 -- all is as it was except for the count of faults
 pub record IsViewedAsBefore (old new : View) : Type 0 where

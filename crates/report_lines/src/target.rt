@@ -4,7 +4,7 @@
 ghost use Rattle.std.specs.Prelude.{◌≡◌, ◌+◌, ◌*◌, ◌^◌, ◌≤◌, ◌==◌, [], unwrap_or, IfOk};
 ghost use Rattle.std.specs.List.{All, list_any};
 ghost use Rattle.report_lines.specs.Frame.{PutsTarget};
-ghost use Rattle.report_lines.specs.Target.{IsLow, outside_lines, part_line, part_of, port_lines, port_of, ports_on, target_lines, watch_lines, word_lines};
+ghost use Rattle.report_lines.specs.Target.{IsLow, listed_port_line, outside_lines, part_line, port_lines, ports_on, shown_line, target_lines, watch_lines, word_lines};
 
 use crate::lines::{ap_text, dp_text, lines_text, word_text};
 use crate::put::{TextEnd, put};
@@ -31,14 +31,14 @@ fn part_text(alloc: Global, ask: ImageAsk, part: &ImagePart) -> Result<Option<Li
 }
 
 // Puts the line of a part of the target.
-#[tactic(auto, unfolding(crate::specs::Target::part_of), using(text_lines::proofs::PutLemmas::no_part, text_lines::proofs::PutLemmas::nothing, crate::proofs::FrameLemmas::frames))]
+#[tactic(auto, unfolding(crate::specs::Target::shown_line), using(text_lines::proofs::PutLemmas::no_part, text_lines::proofs::PutLemmas::nothing, crate::proofs::FrameLemmas::frames))]
 fn write_part<K: Sink, S: ShowsTarget>(
     alloc: Global,
     ask: ImageAsk,
     shower: &mut S,
     sink: &mut K,
 ) -> Result<(), TextEnd>
-    ensures puts { PutsTarget (λ t. part_of t ask) result S.known K.written K.faults shower.old shower.new sink.old sink.new }
+    ensures puts { PutsTarget (λ t. shown_line t ask) result S.known K.written K.faults shower.old shower.new sink.old sink.new }
 {
     let Ok(part) = shower.part(ask) else {
         return Err(TextEnd::BenchFault);
@@ -66,7 +66,7 @@ fn write_port<K: Sink, S: ShowsTarget>(
     shower: &mut S,
     sink: &mut K,
 ) -> Result<(), TextEnd>
-    ensures puts { PutsTarget (λ t. port_of t aps.now number) result S.known K.written K.faults shower.old shower.new sink.old sink.new }
+    ensures puts { PutsTarget (λ t. listed_port_line t aps.now number) result S.known K.written K.faults shower.old shower.new sink.old sink.new }
 {
     if is_listed(aps, number) {
         write_part(alloc, ImageAsk::Ap(number), shower, sink)

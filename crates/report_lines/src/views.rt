@@ -3,7 +3,7 @@ ghost use Rattle.std.specs.Prelude.{◌≡◌, IfOk, IfSome};
 ghost use Rattle.dap_base.specs.Causes.{HasCause};
 ghost use Rattle.probe_core.specs.Bench.{seen};
 ghost use Rattle.target_machine.specs.Image.{shown};
-ghost use Rattle.report_lines.specs.Views.{IsViewedAsBefore, View, bench_view, own_view};
+ghost use Rattle.report_lines.specs.Views.{IsViewedAsBefore, View, bench_view, target_view};
 
 use dap_base::Failed;
 use probe_core::Bench;
@@ -37,7 +37,7 @@ pub struct OwnTarget<'a> {
 }
 
 impl ShowsTarget for OwnTarget<'_> {
-    ghost known = { λ s. own_view s.target.now };
+    ghost known = { λ s. target_view s.target.now };
 
     fn part(&mut self, ask: ImageAsk) -> Result<ImagePart, Failed> {
         Ok(self.target.view(ask))

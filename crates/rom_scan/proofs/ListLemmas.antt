@@ -7,8 +7,8 @@ use Rattle.std.proofs.Math.Seq.{take-append-add}
 use Rattle.target_calls.specs.declared.calls.Ask.{Ask}
 use Rattle.sequels.specs.Sequel.{Sequel, Ends, Writes, after, answered}
 use Rattle.sequels.proofs.SequelLemmas.{answered_after}
-use Rattle.rom_scan.specs.Components.{base_ask, by_words, component_at, component_line, identified, is_known, is_no_base, is_table, known_as, named_by, page, unknown_at, word_ask, words}
-use Rattle.rom_scan.specs.Listing.{ListsComponents, component_of, components_by, lines_of, listed_within, with_component, with_entries, words_at}
+use Rattle.rom_scan.specs.Components.{base_ask, by_words, component_at, component_line, identified, is_component, is_no_base, is_table, known_as, named_by, page, unknown_at, word_ask, words_sequel}
+use Rattle.rom_scan.specs.Listing.{ListsComponents, component_lines, component_of, components_by, listed_within, row_of_words, with_component, with_entries}
 use Rattle.rom_scan.specs.Walk.{Walked, Listed, Full, component, entries, entry, is_listed, on, on_listed, visited}
 use Rattle.rom_scan.specs.declared.component.Component.{Component}
 
@@ -55,7 +55,7 @@ module _ (word : ℕ → ℕ) where
 
 -- From the components so far a walk goes on to all of these, within the limit.
 pub record Goes (f : Ask → ℕ) (most : ℕ) (s : Sequel Walked) (listed all : List Component) : Type 0 where
-  pub written : lines_of listed ++ (answered f s).0 ≡ lines_of (take most all)
+  pub written : component_lines listed ++ (answered f s).0 ≡ component_lines (take most all)
   pub end : (answered f s).1 ≡ listed_within most all
 
 take_all : (most : ℕ) (l : List Component) → length l ≤ most → take most l ≡ l
@@ -76,20 +76,20 @@ past : (most : ℕ) (all : List Component) → most < length all → listed_with
 past most all lt = ap (λ (b : Bool). cond b (Listed all) Full) (lt-leb (length all) most lt)
 
 -- the lines of those that come first, where there are as many
-lines_past : (most : ℕ) (mid all : List Component) → most ≤ length mid → Adds mid all → lines_of (take most mid) ≡ lines_of (take most all)
-lines_past most mid all le grows = ap lines_of (sym (ap (take most) grows.joined ∙ take-append-le most mid grows.more le))
+lines_past : (most : ℕ) (mid all : List Component) → most ≤ length mid → Adds mid all → component_lines (take most mid) ≡ component_lines (take most all)
+lines_past most mid all le grows = ap component_lines (sym (ap (take most) grows.joined ∙ take-append-le most mid grows.more le))
 
 more_than : (most : ℕ) (mid all : List Component) → most < length mid → Adds mid all → most < length all
 more_than most mid all lt grows = (let count : length all ≡ length mid + length grows.more = ap length grows.joined ∙ length-append mid grows.more in omega (arith, lt, count))
 
 -- the line of one more
-one_more : (listed : List Component) (c : Component) → lines_of listed ++ component_line c ≡ lines_of (listed ++ c ∷ [])
+one_more : (listed : List Component) (c : Component) → component_lines listed ++ component_line c ≡ component_lines (listed ++ c ∷ [])
 one_more listed c = flat_map_more component_line [] listed c
 
 module _ (f : Ask → ℕ) (most : ℕ) where
   goes_nowhere : (listed : List Component) → length listed ≤ most → Goes f most (Ends (Listed listed)) listed listed
   goes_nowhere listed le = record {
-    written = append-nil (lines_of listed) ∙ ap lines_of (sym (take_all most listed le));
+    written = append-nil (component_lines listed) ∙ ap component_lines (sym (take_all most listed le));
     end = sym (within most listed le);
   }
 
@@ -116,8 +116,8 @@ module _ (f : Ask → ℕ) (most : ℕ) where
           let q = by_end (Listed mid) (g.end ∙ within most mid le) in
           record {
             written =
-                ap (λ (p : List ℕ × Walked). lines_of listed ++ p.0) q ∙ sym (append_assoc (lines_of listed) first (answered f (next mid)).0)
-                ∙ ap (λ (l : List ℕ). l ++ (answered f (next mid)).0) (g.written ∙ ap lines_of (take_all most mid le)) ∙ r.written;
+                ap (λ (p : List ℕ × Walked). component_lines listed ++ p.0) q ∙ sym (append_assoc (component_lines listed) first (answered f (next mid)).0)
+                ∙ ap (λ (l : List ℕ). l ++ (answered f (next mid)).0) (g.written ∙ ap component_lines (take_all most mid le)) ∙ r.written;
             end = ap (λ (p : List ℕ × Walked). p.1) q ∙ r.end;
           }
       one false e =
@@ -125,7 +125,7 @@ module _ (f : Ask → ℕ) (most : ℕ) where
           let q = by_end Full (g.end ∙ past most mid lt) in
           record {
             written =
-                ap (λ (p : List ℕ × Walked). lines_of listed ++ p.0) q ∙ ap (λ (l : List ℕ). lines_of listed ++ l) (append-nil first)
+                ap (λ (p : List ℕ × Walked). component_lines listed ++ p.0) q ∙ ap (λ (l : List ℕ). component_lines listed ++ l) (append-nil first)
                 ∙ g.written ∙ lines_past most mid all (omega (arith, lt)) grows;
             end = ap (λ (p : List ℕ × Walked). p.1) q ∙ sym (past most all (more_than most mid all lt grows));
           }
@@ -140,25 +140,25 @@ module _ (f : Ask → ℕ) (most : ℕ) where
     abbrev word : ℕ → ℕ
     word address = f (word_ask ap_ address)
 
-    words_are : (n address : ℕ) (read : List ℕ) → answered f (words ap_ n address read) ≡ ([], read ++ words_at word n address)
+    words_are : (n address : ℕ) (read : List ℕ) → answered f (words_sequel ap_ n address read) ≡ ([], read ++ row_of_words word n address)
     words_are zero address read = ap (λ (l : List ℕ). ([], l)) (sym (append-nil read))
     words_are (suc n) address read =
-        words_are n (address + 4) (read ++ word address ∷ []) ∙ ap (λ (l : List ℕ). ([], l)) (append_assoc read (word address ∷ []) (words_at word n (address + 4)))
+        words_are n (address + 4) (read ++ word address ∷ []) ∙ ap (λ (l : List ℕ). ([], l)) (append_assoc read (word address ∷ []) (row_of_words word n (address + 4)))
 
-    identified_is : (address depth : ℕ) (cidr : List ℕ) → answered f (identified ap_ address depth cidr) ≡ ([], known_as address depth cidr (words_at word 1 (address + 0xFD0)) (words_at word 4 (address + 0xFE0)))
+    identified_is : (address depth : ℕ) (cidr : List ℕ) → answered f (identified ap_ address depth cidr) ≡ ([], known_as address depth cidr (row_of_words word 1 (address + 0xFD0)) (row_of_words word 4 (address + 0xFE0)))
     identified_is address depth cidr =
-        silent (words ap_ 1 (address + 0xFD0) []) (λ fourth. after (words ap_ 4 (address + 0xFE0) []) (λ first. Ends (known_as address depth cidr fourth first))) (words_at word 1 (address + 0xFD0)) (words_are 1 (address + 0xFD0) [])
-        ∙ silent (words ap_ 4 (address + 0xFE0) []) (λ first. Ends (known_as address depth cidr (words_at word 1 (address + 0xFD0)) first)) (words_at word 4 (address + 0xFE0)) (words_are 4 (address + 0xFE0) [])
+        silent (words_sequel ap_ 1 (address + 0xFD0) []) (λ fourth. after (words_sequel ap_ 4 (address + 0xFE0) []) (λ first. Ends (known_as address depth cidr fourth first))) (row_of_words word 1 (address + 0xFD0)) (words_are 1 (address + 0xFD0) [])
+        ∙ silent (words_sequel ap_ 4 (address + 0xFE0) []) (λ first. Ends (known_as address depth cidr (row_of_words word 1 (address + 0xFD0)) first)) (row_of_words word 4 (address + 0xFE0)) (words_are 4 (address + 0xFE0) [])
 
     component_is : (address depth : ℕ) → answered f (component_at ap_ address depth) ≡ ([], component_of word address depth)
     unfolding component_at component_of
     component_is address depth =
-        silent (words ap_ 4 (address + 0xFF0) []) (λ cidr. by_words ap_ address depth cidr) (words_at word 4 (address + 0xFF0)) (words_are 4 (address + 0xFF0) [])
-        ∙ one (is_known (words_at word 4 (address + 0xFF0)))
+        silent (words_sequel ap_ 4 (address + 0xFF0) []) (λ cidr. by_words ap_ address depth cidr) (row_of_words word 4 (address + 0xFF0)) (words_are 4 (address + 0xFF0) [])
+        ∙ one (is_component (row_of_words word 4 (address + 0xFF0)))
       where
-        one : (b : Bool) → answered f (cond b (identified ap_ address depth (words_at word 4 (address + 0xFF0))) (Ends (unknown_at address depth)))
-            ≡ ([], cond b (known_as address depth (words_at word 4 (address + 0xFF0)) (words_at word 1 (address + 0xFD0)) (words_at word 4 (address + 0xFE0))) (unknown_at address depth))
-        one true = identified_is address depth (words_at word 4 (address + 0xFF0))
+        one : (b : Bool) → answered f (cond b (identified ap_ address depth (row_of_words word 4 (address + 0xFF0))) (Ends (unknown_at address depth)))
+            ≡ ([], cond b (known_as address depth (row_of_words word 4 (address + 0xFF0)) (row_of_words word 1 (address + 0xFD0)) (row_of_words word 4 (address + 0xFE0))) (unknown_at address depth))
+        one true = identified_is address depth (row_of_words word 4 (address + 0xFF0))
         one false = refl
 
     -- it has room, or there are as many as may be listed
@@ -184,8 +184,8 @@ module _ (f : Ask → ℕ) (most : ℕ) where
             let q : answered f (after (component_at ap_ address depth) lined) ≡ answered f (lined c) = silent (component_at ap_ address depth) lined c (component_is address depth) in
             record {
               written =
-                  ap (λ (p : List ℕ × Walked). lines_of listed ++ p.0) q
-                  ∙ sym (append_assoc (lines_of listed) (component_line c) (answered f (inside c (listed ++ c ∷ []))).0)
+                  ap (λ (p : List ℕ × Walked). component_lines listed ++ p.0) q
+                  ∙ sym (append_assoc (component_lines listed) (component_line c) (answered f (inside c (listed ++ c ∷ []))).0)
                   ∙ ap (λ (l : List ℕ). l ++ (answered f (inside c (listed ++ c ∷ []))).0) (one_more listed c)
                   ∙ r.written;
               end = ap (λ (p : List ℕ × Walked). p.1) q ∙ r.end;
@@ -193,7 +193,7 @@ module _ (f : Ask → ℕ) (most : ℕ) where
         one false e =
             let many : most < length (listed ++ c ∷ []) = (let ge = ltb-false (length listed) most e in omega (arith, count, ge)) in
             record {
-              written = append-nil (lines_of listed) ∙ ap lines_of (sym (take_all most listed le)) ∙ lines_past most listed all (let ge = ltb-false (length listed) most e in ge)
+              written = append-nil (component_lines listed) ∙ ap component_lines (sym (take_all most listed le)) ∙ lines_past most listed all (let ge = ltb-false (length listed) most e in ge)
                   (adds_on listed (listed ++ c ∷ []) all (record { more = c ∷ []; joined = refl }) grows);
               end = sym (past most all (more_than most (listed ++ c ∷ []) all many grows));
             }

@@ -3,9 +3,9 @@ use Rattle.std.proofs.Common.{◌≡◌, ℕ, zero, suc, ◌+◌, ◌-◌, ◌*�
 use Rattle.target_calls.specs.declared.calls.Ask.{Ask}
 use Rattle.sequels.specs.Sequel.{Sequel, Asks, Ends, Writes, after}
 use Rattle.sequels.specs.Steady.{OnlyAsks}
-use Rattle.rom_scan.specs.Components.{by_words, component_at, component_line, identified, is_known, is_no_base, is_table, known_as, named_by, page, unknown_at, word_ask}
-use Rattle.rom_scan.specs.Components.{words as words_from}
-use Rattle.rom_scan.specs.Walk.{Walked, Listed, Full, below, component, entries, entry, is_listed, on, on_listed, visited}
+use Rattle.rom_scan.specs.Components.{by_words, component_at, component_line, identified, is_component, is_no_base, is_table, known_as, named_by, page, unknown_at, word_ask}
+use Rattle.rom_scan.specs.Components.{words_sequel as words_from}
+use Rattle.rom_scan.specs.Walk.{Walked, Listed, Full, components_below, component, entries, entry, is_listed, on, on_listed, visited}
 use Rattle.rom_scan.specs.declared.component.Component.{Component}
 
 -- a read of a word of the first 4 GB
@@ -62,7 +62,7 @@ module _ (n : ℕ) where
   unfolding component_at
   only_component address depth aligned low =
       only_then (words_from n 4 (address + 0xFF0) []) (λ cidr. by_words n address depth cidr) (only_words 4 (address + 0xFF0) [] (omega (arith, aligned)) (omega (arith, aligned, low)))
-      (λ cidr. only_either (is_known cidr) (identified n address depth cidr) (Ends (unknown_at address depth)) (only_identified address depth cidr aligned low) tt)
+      (λ cidr. only_either (is_component cidr) (identified n address depth cidr) (Ends (unknown_at address depth)) (only_identified address depth cidr aligned low) tt)
 
   -- it stands where it was read
   IsAt : ℕ → Component → Type 0
@@ -70,7 +70,7 @@ module _ (n : ℕ) where
 
   component_ends : (address depth : ℕ) → EachEnd (IsAt address) (component_at n address depth)
   unfolding component_at EachEnd IsAt
-  component_ends address depth = ends_after (IsAt address) (words_from n 4 (address + 0xFF0) []) (λ cidr. by_words n address depth cidr) (λ cidr. one cidr (is_known cidr))
+  component_ends address depth = ends_after (IsAt address) (words_from n 4 (address + 0xFF0) []) (λ cidr. by_words n address depth cidr) (λ cidr. one cidr (is_component cidr))
     where
       one : (cidr : List ℕ) (b : Bool) → EachEnd (IsAt address) (cond b (identified n address depth cidr) (Ends (unknown_at address depth)))
       one cidr true =
@@ -116,5 +116,5 @@ module _ (n : ℕ) where
       (λ c l is. only_either (is_table c.known) (entries n (component most n levels) c.address 960 l) (Ends (Listed l))
       (only_entries (component most n levels) (only_below most levels) c.address 960 l (rw is aligned) (rw is low)) tt)
 
-  pub only_all : (most k : ℕ) → k < 2 ^ 32 → OnlyAsks (Reads n) (below most n k)
+  pub only_all : (most k : ℕ) → k < 2 ^ 32 → OnlyAsks (Reads n) (components_below most n k)
   only_all most k low = only_either (is_no_base k) (Ends (Listed [])) (component most n 7 (page k) []) tt (only_below most 7 (page k) [] (omega arith) (omega (arith, low)))

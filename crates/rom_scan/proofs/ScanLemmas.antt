@@ -16,12 +16,12 @@ use Rattle.access_calls.specs.declared.stop.StopCause.TheVariants.{Faulted, NoAn
 use Rattle.sequels.specs.Meeting.{Gave, Reaches}
 use Rattle.sequels.specs.Sequel.{Sequel, Ends, asks}
 use Rattle.sequels.proofs.MeetingLemmas.{gave_by, left_on, reaches_by, reaches_on, reaches_to, whole_after}
-use Rattle.rom_scan.specs.Arrivals.{HasSinkCause, IsOpen, ScanEndIs, Walks, left_of}
+use Rattle.rom_scan.specs.Arrivals.{IsOpenTable, ScanEndIs, ScanHasSinkCause, Walks, reads_left}
 use Rattle.rom_scan.specs.Components.{base_ask, is_no_base, page}
-use Rattle.rom_scan.specs.Meets.{Finished, StopsAfter, StopsIn}
-use Rattle.rom_scan.specs.Scans.{Lists}
-use Rattle.rom_scan.specs.Tables.{reached, unwound}
-use Rattle.rom_scan.specs.Walk.{Walked, Listed, Full, below, component, scanned}
+use Rattle.rom_scan.specs.Meets.{Finished, StopsIn, StopsInFinish}
+use Rattle.rom_scan.specs.Scans.{ScanComesTo}
+use Rattle.rom_scan.specs.Tables.{unwound, walk_from_component}
+use Rattle.rom_scan.specs.Walk.{Walked, Listed, Full, components_below, component, scanned}
 use Rattle.rom_scan.specs.declared.component.Component.{Component}
 use Rattle.rom_scan.specs.declared.scan_end.ScanEnd.{ScanEnd}
 use Rattle.rom_scan.specs.declared.scan_end.ScanEnd.TheVariants as e
@@ -32,46 +32,46 @@ use Rattle.rom_scan.proofs.WalkLemmas.{root}
 
 -- a walk that has no good end
 pub lists_end : (w : World) (lines n : ℕ) (s : Sequel Walked) (end : ScanEnd) (opening : List Table) (more : List Component) (old new : List Ask) (before now : Option (List ℕ)) → Walks w lines n s (Err end) opening more old new before now
-    → Lists w lines s (Err end) old new before now
+    → ScanComesTo w lines s (Err end) old new before now
 lists_end w lines n s e.Full opening more old new before now h = h
 lists_end w lines n s e.WriteFault opening more old new before now h = h
 lists_end w lines n s (e.Stop st) opening more old new before now h = h
 
 -- a walk after which no table is open
 pub lists_done : (w : World) (lines n k : ℕ) (s : Sequel Walked) (opening : List Table) (more : List Component) (old new : List Ask) (before now : Option (List ℕ)) → Reaches w s old new before now (unwound 1024 n opening more) → opening ≡ []
-    → Lists w lines s (Ok k) old new before now
+    → ScanComesTo w lines s (Ok k) old new before now
 lists_done w lines n k s opening more old new before now r none =
     (more, gave_by w s (Listed more) old new before now (reaches_to w s (unwound 1024 n opening more) (Ends (Listed more)) old new before now (ap (λ (o : List Table). unwound 1024 n o more) none) r))
 
 -- the same sequel under another name
-pub lists_as : (w : World) (lines : ℕ) (s q : Sequel Walked) (r : Result ℕ ScanEnd) (old new : List Ask) (before now : Option (List ℕ)) → s ≡ q → Lists w lines q r old new before now → Lists w lines s r old new before now
-lists_as w lines s q r old new before now same h = subst (λ (x : Sequel Walked). Lists w lines x r old new before now) (sym same) h
+pub lists_as : (w : World) (lines : ℕ) (s q : Sequel Walked) (r : Result ℕ ScanEnd) (old new : List Ask) (before now : Option (List ℕ)) → s ≡ q → ScanComesTo w lines q r old new before now → ScanComesTo w lines s r old new before now
+lists_as w lines s q r old new before now same h = subst (λ (x : Sequel Walked). ScanComesTo w lines x r old new before now) (sym same) h
 
 -- the same end under another name
-pub lists_at : (w : World) (lines : ℕ) (s : Sequel Walked) (x y : ScanEnd) (old new : List Ask) (before now : Option (List ℕ)) → x ≡ y → Lists w lines s (Err x) old new before now → Lists w lines s (Err y) old new before now
-lists_at w lines s x y old new before now same h = subst (λ (r : ScanEnd). Lists w lines s (Err r) old new before now) same h
+pub lists_at : (w : World) (lines : ℕ) (s : Sequel Walked) (x y : ScanEnd) (old new : List Ask) (before now : Option (List ℕ)) → x ≡ y → ScanComesTo w lines s (Err x) old new before now → ScanComesTo w lines s (Err y) old new before now
+lists_at w lines s x y old new before now same h = subst (λ (r : ScanEnd). ScanComesTo w lines s (Err r) old new before now) same h
 
 pub end_at : (x y : ScanEnd) (end : Option Stop) → x ≡ y → ScanEndIs {A = ℕ} (Err x) end → ScanEndIs {A = ℕ} (Err y) end
 end_at x y end same h = subst (λ (r : ScanEnd). ScanEndIs {A = ℕ} (Err r) end) same h
 
 -- the root is reached with no table open
-pub root_at : (n address : ℕ) (tables : List Table) (listed : List Component) → tables ≡ [] → listed ≡ [] → component 1024 n 7 address [] ≡ reached 1024 n tables address listed
+pub root_at : (n address : ℕ) (tables : List Table) (listed : List Component) → tables ≡ [] → listed ≡ [] → component 1024 n 7 address [] ≡ walk_from_component 1024 n tables address listed
 root_at n address tables listed none empty =
-    root 1024 n address ∙ ap (λ (t : List Table). reached 1024 n t address []) (sym none) ∙ ap (λ (l : List Component). reached 1024 n tables address l) (sym empty)
+    root 1024 n address ∙ ap (λ (t : List Table). walk_from_component 1024 n t address []) (sym none) ∙ ap (λ (l : List Component). walk_from_component 1024 n tables address l) (sym empty)
 
-pub left_start : (tables : List Table) (listed : List Component) → tables ≡ [] → listed ≡ [] → left_of tables listed ≡ 993280
-left_start tables listed none empty = ap (λ (t : List Table). left_of t listed) none ∙ ap (λ (l : List Component). left_of [] l) empty
+pub left_start : (tables : List Table) (listed : List Component) → tables ≡ [] → listed ≡ [] → reads_left tables listed ≡ 993280
+left_start tables listed none empty = ap (λ (t : List Table). reads_left t listed) none ∙ ap (λ (l : List Component). reads_left [] l) empty
 
-pub none_open : (tables : List Table) → tables ≡ [] → All IsOpen tables
-none_open tables none = subst (λ (t : List Table). All IsOpen t) (sym none) (All-nil IsOpen)
+pub none_open : (tables : List Table) → tables ≡ [] → All IsOpenTable tables
+none_open tables none = subst (λ (t : List Table). All IsOpenTable t) (sym none) (All-nil IsOpenTable)
 
 -- the end of the sink's faults
-pub caused_on : (r : Result ℕ ScanEnd) (before mid now : ℕ) → mid ≡ before → HasSinkCause r mid now → HasSinkCause r before now
-caused_on r before mid now same h = subst (λ (k : ℕ). HasSinkCause r k now) same h
+pub caused_on : (r : Result ℕ ScanEnd) (before mid now : ℕ) → mid ≡ before → ScanHasSinkCause r mid now → ScanHasSinkCause r before now
+caused_on r before mid now same h = subst (λ (k : ℕ). ScanHasSinkCause r k now) same h
 
 -- what comes of the rest
-pub lists_on : (w : World) (lines : ℕ) (s rest : Sequel Walked) (r : Result ℕ ScanEnd) (old mid new : List Ask) (b m now : Option (List ℕ)) → stop w old ≡ None → Reaches w s old mid b m rest → Lists w lines rest r mid new m now
-    → Lists w lines s r old new b now
+pub lists_on : (w : World) (lines : ℕ) (s rest : Sequel Walked) (r : Result ℕ ScanEnd) (old mid new : List Ask) (b m now : Option (List ℕ)) → stop w old ≡ None → Reaches w s old mid b m rest → ScanComesTo w lines rest r mid new m now
+    → ScanComesTo w lines s r old new b now
 lists_on w lines s rest (Ok n) old mid new b m now whole q h =
     (h.0, gave_by w s (Listed h.0) old new b now (reaches_on w s rest (Ends (Listed h.0)) old mid new b m now whole q (reaches_end w rest (Listed h.0) mid new m now h.1)))
 lists_on w lines s rest (Err e.Full) old mid new b m now whole q h = gave_by w s Full old new b now (reaches_on w s rest (Ends Full) old mid new b m now whole q (reaches_end w rest Full mid new m now h))
@@ -86,20 +86,20 @@ module _ (w : World) (n : ℕ) (old : List Ask) (before : Option (List ℕ)) (u 
 
   pub base_stops : (lines : ℕ) (new : List Ask) (st : Stop) → StopsIn w lines (asks u) old new before before st → StopsIn w lines all old new before before st
   base_stops lines new st h =
-      stops_by w lines (asks (base_ask n)) (λ k. below 1024 n k) old new before before st (subst (λ (a : Ask). StopsIn w lines (asks a) old new before before st) is h)
+      stops_by w lines (asks (base_ask n)) (λ k. components_below 1024 n k) old new before before st (subst (λ (a : Ask). StopsIn w lines (asks a) old new before before st) is h)
 
   module _ (new : List Ask) (base : ℕ) (g : Gave w (asks u) old new before before base) where
-    reads : Reaches w all old new before before (below 1024 n base)
-    reads = reaches_by w (asks (base_ask n)) (λ k. below 1024 n k) base old new before before (subst (λ (a : Ask). Gave w (asks a) old new before before base) is g)
+    reads : Reaches w all old new before before (components_below 1024 n base)
+    reads = reaches_by w (asks (base_ask n)) (λ k. components_below 1024 n k) base old new before before (subst (λ (a : Ask). Gave w (asks a) old new before before base) is g)
 
-    by_test : (b : Bool) → is_no_base base ≡ b → below 1024 n base ≡ cond b (Ends (Listed [])) (component 1024 n 7 (page base) [])
+    by_test : (b : Bool) → is_no_base base ≡ b → components_below 1024 n base ≡ cond b (Ends (Listed [])) (component 1024 n 7 (page base) [])
     by_test b e = ap (λ (x : Bool). cond x (Ends (Listed [])) (component 1024 n 7 (page base) [])) e
 
-    pub base_none : (lines k : ℕ) → is_no_base base ≡ true → Lists w lines all (Ok k) old new before before
-    base_none lines k e = ([], gave_by w all (Listed []) old new before before (reaches_to w all (below 1024 n base) (Ends (Listed [])) old new before before (by_test true e) reads))
+    pub base_none : (lines k : ℕ) → is_no_base base ≡ true → ScanComesTo w lines all (Ok k) old new before before
+    base_none lines k e = ([], gave_by w all (Listed []) old new before before (reaches_to w all (components_below 1024 n base) (Ends (Listed [])) old new before before (by_test true e) reads))
 
     pub base_some : (address : ℕ) → is_no_base base ≡ false → address ≡ page base → Reaches w all old new before before (component 1024 n 7 address [])
-    base_some address e at = reaches_to w all (below 1024 n base) (component 1024 n 7 address []) old new before before (by_test false e ∙ ap (λ (a : ℕ). component 1024 n 7 a []) (sym at)) reads
+    base_some address e at = reaches_to w all (components_below 1024 n base) (component 1024 n 7 address []) old new before before (by_test false e ∙ ap (λ (a : ℕ). component 1024 n 7 a []) (sym at)) reads
 
 -- ---- the `finish`
 
@@ -115,7 +115,7 @@ module _ {X : Type 0} (w : World) (s : Sequel X) (old : List Ask) (before now : 
   finished = record { asked = a.asks.calls; gave = g; marked = finish_marks a b none calls }
 
   -- at a cut a retry ended after all calls
-  pub stops_finishing : (st : Stop) → stop w old ≡ None → StopsSettling w a.asks.calls b.lines st → StopsAfter w b.lines s old b.asks.calls before now st
+  pub stops_finishing : (st : Stop) → stop w old ≡ None → StopsSettling w a.asks.calls b.lines st → StopsInFinish w b.lines s old b.asks.calls before now st
   stops_finishing st whole stops = record { x = x; finished = finished; cut = by_stop st stops.so }
     where
       no_stop : stop w a.asks.calls ≡ None

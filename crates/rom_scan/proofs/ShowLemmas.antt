@@ -19,7 +19,7 @@ use Rattle.target_calls.specs.World.{World, done_now, end_result, is_faulted, ne
 use Rattle.target_calls.specs.declared.calls.Ask.{Ask}
 use Rattle.sequels.specs.Sequel.{Sequel, Asks, Ends, Writes, comes}
 use Rattle.sequels.specs.Steady.{OnlyAsks, Steady}
-use Rattle.rom_scan.specs.Showing.{IsSingle, value_of}
+use Rattle.rom_scan.specs.Showing.{HasOneValueAtMost, cell_value}
 use Rattle.rom_scan.specs.Walk.{on}
 use Rattle.rom_scan.proofs.OnlyLemmas.{Reads}
 use Rattle.rom_scan.proofs.PortLemmas.{above_low, above_raised, aimed_at, base_gives, got_put, pointed, same_inserted, sized_port, word_gives}
@@ -42,10 +42,10 @@ pub record Gives (n : ℕ) (words : Memory) (result : ℕ) (large : List ℕ) (d
   pub large_is : d.large ≡ large
   pub next : Ready n words large d.next
 
-moved_same : (c : Cell) → IsSingle c → moved_on c ≡ c
+moved_same : (c : Cell) → HasOneValueAtMost c → moved_on c ≡ c
 moved_same c single = (let last : nat_lt (c.place + 1) (length c.values) ≡ false = le-ltb (c.place + 1) (length c.values) (omega (arith, single)) in ap (λ (b : Bool). record c { place = cond b (c.place + 1) c.place }) last)
 
-module _ (n : ℕ) (port : n < 256) (words : Memory) (single : EachValue IsSingle words) (range : EachValue IsCellInRange words) (large : List ℕ) (address : ℕ) (aligned : address % 4 ≡ 0) (low : address < 2 ^ 32) where
+module _ (n : ℕ) (port : n < 256) (words : Memory) (single : EachValue HasOneValueAtMost words) (range : EachValue IsCellInRange words) (large : List ℕ) (address : ℕ) (aligned : address % 4 ≡ 0) (low : address < 2 ^ 32) where
   module _ (t : TargetState) (r : Ready n words large t) where
     abbrev aimed : Bool → TargetState
     aimed b = aimed_at n port t r.port address r.clear r.power r.some b
@@ -109,7 +109,7 @@ module _ (n : ℕ) (port : n < 256) (words : Memory) (single : EachValue IsSingl
         words_are = words_are;
       }
 
-      by_cell : (o : Option Cell) → map.get words address ≡ o → Gives n words (value_of o) large (made (read_through (aimed b) (aimed b) 0xFFFF_FFFF (read_cell words address o).value (read_cell words address o).next) all)
+      by_cell : (o : Option Cell) → map.get words address ≡ o → Gives n words (cell_value o) large (made (read_through (aimed b) (aimed b) 0xFFFF_FFFF (read_cell words address o).value (read_cell words address o).next) all)
       by_cell None is = record {
         goes = refl;
         result_is = refl;
@@ -131,15 +131,15 @@ module _ (n : ℕ) (port : n < 256) (words : Memory) (single : EachValue IsSingl
 
     -- a read that came to this
     by_read : (x : Attempt) (all : List Action) → x ≡ read_through (aimed (contains large n)) (aimed (contains large n)) 0xFFFF_FFFF (word_read t.words address).value (word_read t.words address).next
-        → Gives n words (value_of (map.get words address)) large (made x all)
+        → Gives n words (cell_value (map.get words address)) large (made x all)
     by_read x all is =
-        subst (λ (y : Attempt). Gives n words (value_of (map.get words address)) large (made y all))
+        subst (λ (y : Attempt). Gives n words (cell_value (map.get words address)) large (made y all))
         (sym (is ∙ ap (λ (m : Memory). read_through (aimed (contains large n)) (aimed (contains large n)) 0xFFFF_FFFF (word_read m address).value (word_read m address).next) r.words_are))
         (by_cell (contains large n) (points (contains large n) refl).1 all (map.get words address) refl)
 
-    pub word_call : Gives n words (value_of (map.get words address)) large (call_done t large true (Access (unit.Memory 4 true n address 0)))
+    pub word_call : Gives n words (cell_value (map.get words address)) large (call_done t large true (Access (unit.Memory 4 true n address 0)))
     word_call =
-        subst (Gives n words (value_of (map.get words address)) large) (sym called)
+        subst (Gives n words (cell_value (map.get words address)) large) (sym called)
         (by_read (in_order t actions) (issued t actions) (word_gives n port t r.port address r.clear r.power r.some (contains large n) (points (contains large n) refl).0 aligned low))
 
 -- ---- the base
@@ -161,10 +161,10 @@ base_call n port words large t r =
 
 -- ---- all calls
 
-module _ (n : ℕ) (port : n < 256) (words : Memory) (single : EachValue IsSingle words) (range : EachValue IsCellInRange words) (base : ℕ) where
+module _ (n : ℕ) (port : n < 256) (words : Memory) (single : EachValue HasOneValueAtMost words) (range : EachValue IsCellInRange words) (base : ℕ) where
   -- what a call gives
   unfoldable pub by_unit : AccessUnit → ℕ
-  by_unit (unit.Memory size read ap_ address value) = value_of (map.get words address)
+  by_unit (unit.Memory size read ap_ address value) = cell_value (map.get words address)
   by_unit (unit.Ap read ap_ addr value) = base
   by_unit (unit.Dp read addr value) = 0
   by_unit (unit.Poll mask value turns) = 0
@@ -186,16 +186,16 @@ module _ (n : ℕ) (port : n < 256) (words : Memory) (single : EachValue IsSingl
   pub goes_here : (w : World) (ask : Ask) (result : ℕ) → Fine w → Gives n words result w.large (done_now w ask) → stops_here w ask ≡ false
   goes_here w ask result p g = let free = p.free in let goes = g.goes in rw free goes
 
-  word_done : (w : World) → Fine w → (ask : Ask) → (q : Reads n ask) → Gives n words (value_of (map.get words q.address)) w.large (done_now w ask)
+  word_done : (w : World) → Fine w → (ask : Ask) → (q : Reads n ask) → Gives n words (cell_value (map.get words q.address)) w.large (done_now w ask)
   word_done w p ask q =
-      subst (λ (a : Ask). Gives n words (value_of (map.get words q.address)) w.large (done_now w a)) (sym q.is) (word_call n port words single range w.large q.address q.aligned q.low w.target p.ready)
+      subst (λ (a : Ask). Gives n words (cell_value (map.get words q.address)) w.large (done_now w a)) (sym q.is) (word_call n port words single range w.large q.address q.aligned q.low w.target p.ready)
 
   pub steady : Steady Fine (Reads n) f
   unfolding f by_call by_unit
   steady = record {
-    goes = λ w ask p q. goes_here w ask (value_of (map.get words q.address)) p (word_done w p ask q);
+    goes = λ w ask p q. goes_here w ask (cell_value (map.get words q.address)) p (word_done w p ask q);
     result = λ w ask p q. (word_done w p ask q).result_is ∙ ap (λ (a : Ask). by_call a.call) (sym q.is);
-    next = λ w ask p q. fine_next w ask (value_of (map.get words q.address)) p (word_done w p ask q);
+    next = λ w ask p q. fine_next w ask (cell_value (map.get words q.address)) p (word_done w p ask q);
   }
 
   -- the world after all calls is such a one too

@@ -7,10 +7,10 @@ use Rattle.access_calls.specs.declared.stop.Stop.{Stop}
 use Rattle.sequels.specs.Meeting.{Gave, Reaches}
 use Rattle.sequels.specs.Sequel.{Sequel, Asks, Ends, Comes, asks}
 use Rattle.sequels.proofs.MeetingLemmas.{gave_by, left_on, reaches_by, reaches_on, reaches_to}
-use Rattle.rom_scan.specs.Arrivals.{Walks, left_of}
+use Rattle.rom_scan.specs.Arrivals.{Walks, reads_left}
 use Rattle.rom_scan.specs.Components.{named_by, word_ask}
 use Rattle.rom_scan.specs.Meets.{StopsIn}
-use Rattle.rom_scan.specs.Tables.{next_entry, reached, unwound}
+use Rattle.rom_scan.specs.Tables.{next_entry, unwound, walk_from_component}
 use Rattle.rom_scan.specs.Walk.{Walked, Full, is_listed}
 use Rattle.rom_scan.specs.declared.component.Component.{Component}
 use Rattle.rom_scan.specs.declared.tables.Table.{Table}
@@ -67,7 +67,7 @@ module _ (w : World) (n : ℕ) (t : Table) (tables : List Table) (listed : List 
     reads = subst (λ (s : Sequel Walked). Reaches w s old new before before (on_entry x)) (sym asks_is) (reaches_by w (asks u) on_entry x old new before before g)
 
     by_tests : (a b d : Bool) → (x == 0) ≡ a → (x % 2 == 0) ≡ b → is_listed (named_by t.address x) listed ≡ d
-        → on_entry x ≡ cond a (unwound 1024 n tables listed) (cond b (unwound 1024 n kept listed) (cond d (unwound 1024 n kept listed) (reached 1024 n kept (named_by t.address x) listed)))
+        → on_entry x ≡ cond a (unwound 1024 n tables listed) (cond b (unwound 1024 n kept listed) (cond d (unwound 1024 n kept listed) (walk_from_component 1024 n kept (named_by t.address x) listed)))
     by_tests a b d p q r = rw (p, q, r) refl
 
     pub step_ends : (opening : List Table) → opening ≡ tables → x ≡ 0 → Reaches w all old new before before (unwound 1024 n opening listed)
@@ -82,9 +82,9 @@ module _ (w : World) (n : ℕ) (t : Table) (tables : List Table) (listed : List 
     step_knows opening same not_none odd here = reaches_to w all (on_entry x) (unwound 1024 n opening listed) old new before before
         (by_tests false false true (ne_eqb x 0 not_none) (ne_eqb (x % 2) 0 odd) here ∙ ap (λ (o : List Table). unwound 1024 n o listed) (sym same)) reads
 
-    pub step_visits : (opening : List Table) (address : ℕ) → opening ≡ kept → address ≡ named_by t.address x → (x ≡ 0 → ⊥) → (x % 2 ≡ 0 → ⊥) → is_listed (named_by t.address x) listed ≡ false → Reaches w all old new before before (reached 1024 n opening address listed)
-    step_visits opening address same named not_none odd here = reaches_to w all (on_entry x) (reached 1024 n opening address listed) old new before before
-        (by_tests false false false (ne_eqb x 0 not_none) (ne_eqb (x % 2) 0 odd) here ∙ ap (λ (o : List Table). reached 1024 n o (named_by t.address x) listed) (sym same) ∙ ap (λ (a : ℕ). reached 1024 n opening a listed) (sym named)) reads
+    pub step_visits : (opening : List Table) (address : ℕ) → opening ≡ kept → address ≡ named_by t.address x → (x ≡ 0 → ⊥) → (x % 2 ≡ 0 → ⊥) → is_listed (named_by t.address x) listed ≡ false → Reaches w all old new before before (walk_from_component 1024 n opening address listed)
+    step_visits opening address same named not_none odd here = reaches_to w all (on_entry x) (walk_from_component 1024 n opening address listed) old new before before
+        (by_tests false false false (ne_eqb x 0 not_none) (ne_eqb (x % 2) 0 odd) here ∙ ap (λ (o : List Table). walk_from_component 1024 n o (named_by t.address x) listed) (sym same) ∙ ap (λ (a : ℕ). walk_from_component 1024 n opening a listed) (sym named)) reads
 
 -- ---- all tables
 
@@ -92,5 +92,5 @@ module _ (w : World) (n : ℕ) (t : Table) (tables : List Table) (listed : List 
 pub closed_table : (n : ℕ) (t : Table) (tables : List Table) (listed : List Component) → t.left ≡ 0 → unwound 1024 n (t ∷ tables) listed ≡ unwound 1024 n tables listed
 closed_table n t tables listed none = ap (λ (k : ℕ). unwound 1024 n (record { address = t.address; left = k } ∷ tables) listed) none
 
-pub left_tail : (t : Table) (tables : List Table) (listed : List Component) → left_of tables listed ≤ left_of (t ∷ tables) listed
+pub left_tail : (t : Table) (tables : List Table) (listed : List Component) → reads_left tables listed ≤ reads_left (t ∷ tables) listed
 left_tail t tables listed = (let all = sum_by-cons (λ (x : Table). x.left + 1) t tables in omega (arith, all))

@@ -13,9 +13,9 @@ use Rattle.sequels.specs.Sequel.{Sequel, Asks, Comes, answered, comes, with_call
 use Rattle.sequels.specs.Steady.{OnlyAsks}
 use Rattle.sequels.proofs.SequelLemmas.{steady_comes}
 use Rattle.rom_scan.specs.Components.{base_ask, word_ask}
-use Rattle.rom_scan.specs.Listing.{ListsComponents, components, components_by, lines_of, listed_within}
-use Rattle.rom_scan.specs.Showing.{CanScan, IsLow, ListsTarget, base_at, base_in, shows}
-use Rattle.rom_scan.specs.Walk.{Walked, below, scanned}
+use Rattle.rom_scan.specs.Listing.{ListsComponents, component_lines, components, components_by, listed_within}
+use Rattle.rom_scan.specs.Showing.{CanScan, HasLowTar, ListsTarget, base_at, base_in, shows}
+use Rattle.rom_scan.specs.Walk.{Walked, components_below, scanned}
 use Rattle.rom_scan.specs.declared.component.Component.{Component}
 use Rattle.rom_scan.proofs.ListLemmas.{lists_components}
 use Rattle.rom_scan.proofs.OnlyLemmas.{Reads, only_all}
@@ -38,7 +38,7 @@ module _ (w : World) (most n : ℕ) (port : n < 2 ^ 8) (can : CanScan w n) where
   by_aim false false c h = absurd (cc)
   by_aim false true false h = absurd (cc)
 
-  port_of : (o : Option ApState) → map.get w.target.aps n ≡ o → is_some o ≡ true → IsLow o ⊎ (contains w.large n ≡ true)
+  port_of : (o : Option ApState) → map.get w.target.aps n ≡ o → is_some o ≡ true → HasLowTar o ⊎ (contains w.large n ≡ true)
       → (r : Ready n w.target.words w.large w.target) × (base_in o ≡ r.port.base) × (r.port.base < 2 ^ 32)
   port_of None is h low = absurd (cc)
   port_of (Some p) is h low =
@@ -75,11 +75,11 @@ module _ (w : World) (most n : ℕ) (port : n < 2 ^ 8) (can : CanScan w n) where
   fine : Fine n port words can.single can.range.words base after_base
   fine = fine_next n port words can.single can.range.words base w (base_ask n) base begun first
 
-  only : OnlyAsks (Reads n) (below most n base)
+  only : OnlyAsks (Reads n) (components_below most n base)
   only = only_all n most base (let is = start.1 in let lt = start.2 in omega (arith, is, lt))
 
-  rest : AsAnswered g after_base (below most n base)
-  rest = steady_comes (Fine n port words can.single can.range.words base) (Reads n) g after_base (below most n base) (steady n port words can.single can.range.words base) fine only
+  rest : AsAnswered g after_base (components_below most n base)
+  rest = steady_comes (Fine n port words can.single can.range.words base) (Reads n) g after_base (components_below most n base) (steady n port words can.single can.range.words base) fine only
 
   law : ListsComponents g most n
   law = lists_components g most n
@@ -96,21 +96,21 @@ module _ (w : World) (most n : ℕ) (port : n < 2 ^ 8) (can : CanScan w n) where
   shown : components_by g n ≡ components (shows w.target) base
   shown = ap (components (λ address. g (word_ask n address))) by_base ∙ ap (λ (word : ℕ → ℕ). components word base) (λ i address. by_words address i)
 
-  from_base : answered g (scanned most n) ≡ answered g (below most n base)
-  from_base = ap (λ (k : ℕ). answered g (below most n k)) by_base
+  from_base : answered g (scanned most n) ≡ answered g (components_below most n base)
+  from_base = ap (λ (k : ℕ). answered g (components_below most n k)) by_base
 
-  comes_is : comes w (scanned most n) ≡ with_call (base_ask n) (comes after_base (below most n base))
-  comes_is = asks_comes w (base_ask n) (λ k. below most n k) base goes first.result_is
+  comes_is : comes w (scanned most n) ≡ with_call (base_ask n) (comes after_base (components_below most n base))
+  comes_is = asks_comes w (base_ask n) (λ k. components_below most n k) base goes first.result_is
 
   pub lists_target : ListsTarget w most n
   lists_target = record {
     written =
         ap (λ (c : Comes Walked). c.written) comes_is ∙ rest.written ∙ ap (λ (p : List ℕ × Walked). p.0) (sym from_base) ∙ law.written
-        ∙ ap (λ (l : List Component). lines_of (take most l)) shown;
+        ∙ ap (λ (l : List Component). component_lines (take most l)) shown;
     end =
         ap (λ (c : Comes Walked). c.end) comes_is ∙ rest.end ∙ ap (λ (p : List ℕ × Walked). Some p.1) (sym from_base) ∙ ap Some law.end
         ∙ ap (λ (l : List Component). Some (listed_within most l)) shown;
     words =
-        ap (λ (c : Comes Walked). (world_after w c.calls).target.words) comes_is ∙ ap (λ (u : World). u.target.words) (asks_after w (base_ask n) (comes after_base (below most n base)).calls goes)
-        ∙ (fine_after n port words can.single can.range.words base after_base (below most n base) fine only).ready.words_are;
+        ap (λ (c : Comes Walked). (world_after w c.calls).target.words) comes_is ∙ ap (λ (u : World). u.target.words) (asks_after w (base_ask n) (comes after_base (components_below most n base)).calls goes)
+        ∙ (fine_after n port words can.single can.range.words base after_base (components_below most n base) fine only).ready.words_are;
   }

@@ -7,7 +7,7 @@ use Rattle.rom_scan.specs.declared.component.Component.{Component}
 use Rattle.rom_scan.specs.Components.{component_at, component_line, is_table, named_by, word_ask}
 use Rattle.rom_scan.specs.Walk.{Walked, Listed, Full, component, entries, entry, is_listed, on, on_listed, visited}
 use Rattle.rom_scan.specs.declared.tables.Table.{Table}
-use Rattle.rom_scan.specs.Tables.{GoesOnByEntry, OpensTables, next_entry, opened, reached, unwound}
+use Rattle.rom_scan.specs.Tables.{GoesOnByEntry, OpensTables, next_entry, tables_after, unwound, walk_from_component}
 
 -- one part of a walk after the other
 pub on_on : (s : Sequel Walked) (f g : List Component → Sequel Walked) → on (on s f) g ≡ on s (λ l. on (f l) g)
@@ -40,7 +40,7 @@ module _ (most ap_ : ℕ) where
 
   -- what comes after the line of a component
   next_of : (tables : List Table) (levels : ℕ) (c : Component) (more : List Component) → 7 - length tables ≡ suc levels
-      → on (cond (is_table c.known) (entries ap_ (component most ap_ levels) c.address 960 more) (Ends (Listed more))) (λ l. unwound most ap_ tables l) ≡ unwound most ap_ (opened tables c) more
+      → on (cond (is_table c.known) (entries ap_ (component most ap_ levels) c.address 960 more) (Ends (Listed more))) (λ l. unwound most ap_ tables l) ≡ unwound most ap_ (tables_after tables c) more
   next_of tables levels c more is =
       one (is_table c.known)
       ∙ ap (λ (b : Bool). unwound most ap_ (cond (is_table c.known && b) (record { address = c.address; left = 960 } ∷ tables) tables) more) (sym (lt-ltb (length tables) 7 (omega (arith, is))))
@@ -53,7 +53,7 @@ module _ (most ap_ : ℕ) where
       one true = ap (λ (k : ℕ). on (entries ap_ (component most ap_ k) c.address 960 more) (λ l. unwound most ap_ tables l)) (sym level)
       one false = refl
 
-  last_of : (tables : List Table) (c : Component) (more : List Component) → 7 - length tables ≡ 0 → length tables ≤ 7 → unwound most ap_ tables more ≡ unwound most ap_ (opened tables c) more
+  last_of : (tables : List Table) (c : Component) (more : List Component) → 7 - length tables ≡ 0 → length tables ≤ 7 → unwound most ap_ tables more ≡ unwound most ap_ (tables_after tables c) more
   last_of tables c more is le = ap (λ (b : Bool). unwound most ap_ (cond b (record { address = c.address; left = 960 } ∷ tables) tables) more)
       (sym (and_false (is_table c.known) ∙ refl)) ∙ ap (λ (b : Bool). unwound most ap_ (cond (is_table c.known && b) (record { address = c.address; left = 960 } ∷ tables) tables) more) (sym (le-ltb (length tables) 7 (omega (arith, is, le))))
     where
@@ -72,22 +72,22 @@ module _ (most ap_ : ℕ) where
       full_by (suc levels) le = full_on (7 - levels) address listed (λ c more. cond (is_table c.known) (entries ap_ (component most ap_ levels) c.address 960 more) (Ends (Listed more))) (λ l. unwound most ap_ tables l) le
 
       room_by : (levels : ℕ) → 7 - length tables ≡ levels → length tables ≤ 7 → length listed < most → on (component most ap_ levels address listed) (λ l. unwound most ap_ tables l)
-          ≡ after (component_at ap_ address (1 + length tables)) (λ c. Writes (component_line c) (unwound most ap_ (opened tables c) (listed ++ c ∷ [])))
+          ≡ after (component_at ap_ address (1 + length tables)) (λ c. Writes (component_line c) (unwound most ap_ (tables_after tables c) (listed ++ c ∷ [])))
       room_by zero is le less =
           room_on 8 address listed (λ c more. Ends (Listed more)) (λ l. unwound most ap_ tables l) less
           ∙ (let depth : 8 ≡ 1 + length tables = omega (arith, is, le) in ap (λ (k : ℕ). after (component_at ap_ address k) (λ c. Writes (component_line c) (unwound most ap_ tables (listed ++ c ∷ [])))) depth)
-          ∙ after_same (component_at ap_ address (1 + length tables)) (λ c. Writes (component_line c) (unwound most ap_ tables (listed ++ c ∷ []))) (λ c. Writes (component_line c) (unwound most ap_ (opened tables c) (listed ++ c ∷ []))) (λ c. ap (Writes (component_line c)) (last_of tables c (listed ++ c ∷ []) is le))
+          ∙ after_same (component_at ap_ address (1 + length tables)) (λ c. Writes (component_line c) (unwound most ap_ tables (listed ++ c ∷ []))) (λ c. Writes (component_line c) (unwound most ap_ (tables_after tables c) (listed ++ c ∷ []))) (λ c. ap (Writes (component_line c)) (last_of tables c (listed ++ c ∷ []) is le))
       room_by (suc levels) is le less =
           room_on (7 - levels) address listed (λ c more. cond (is_table c.known) (entries ap_ (component most ap_ levels) c.address 960 more) (Ends (Listed more))) (λ l. unwound most ap_ tables l) less
           ∙ (let depth : 7 - levels ≡ 1 + length tables = omega (arith, is, le) in
           ap (λ (k : ℕ). after (component_at ap_ address k) (λ c. Writes (component_line c) (on (cond (is_table c.known) (entries ap_ (component most ap_ levels) c.address 960 (listed ++ c ∷ [])) (Ends (Listed (listed ++ c ∷ [])))) (λ l. unwound most ap_ tables l)))) depth)
           ∙ after_same (component_at ap_ address (1 + length tables))
           (λ c. Writes (component_line c) (on (cond (is_table c.known) (entries ap_ (component most ap_ levels) c.address 960 (listed ++ c ∷ [])) (Ends (Listed (listed ++ c ∷ [])))) (λ l. unwound most ap_ tables l)))
-          (λ c. Writes (component_line c) (unwound most ap_ (opened tables c) (listed ++ c ∷ [])))
+          (λ c. Writes (component_line c) (unwound most ap_ (tables_after tables c) (listed ++ c ∷ [])))
           (λ c. ap (Writes (component_line c)) (next_of tables levels c (listed ++ c ∷ []) is))
 
   -- the root
-  pub root : (address : ℕ) → component most ap_ 7 address [] ≡ reached most ap_ [] address []
+  pub root : (address : ℕ) → component most ap_ 7 address [] ≡ walk_from_component most ap_ [] address []
   root address = sym (on_listed_same (component most ap_ 7 address []))
 
   -- an entry of the innermost table
@@ -101,7 +101,7 @@ module _ (most ap_ : ℕ) where
       rest : List Component → Sequel Walked
       rest more = entries ap_ visit table n more
 
-      last : on (on (visit (named_by table e) listed) rest) (λ l. unwound most ap_ tables l) ≡ reached most ap_ (record { address = table; left = n } ∷ tables) (named_by table e) listed
+      last : on (on (visit (named_by table e) listed) rest) (λ l. unwound most ap_ tables l) ≡ walk_from_component most ap_ (record { address = table; left = n } ∷ tables) (named_by table e) listed
       last =
           on_on (visit (named_by table e) listed) rest (λ l. unwound most ap_ tables l)
           ∙ (let level : 6 - length tables ≡ 7 - suc (length tables) = omega arith in
@@ -110,7 +110,7 @@ module _ (most ap_ : ℕ) where
       one : (a b d : Bool)
           → on (cond a (Ends (Listed listed)) (cond b (rest listed) (cond d (rest listed) (on (visit (named_by table e) listed) rest)))) (λ l. unwound most ap_ tables l)
           ≡ cond a (unwound most ap_ tables listed) (cond b (unwound most ap_ (record { address = table; left = n } ∷ tables) listed)
-          (cond d (unwound most ap_ (record { address = table; left = n } ∷ tables) listed) (reached most ap_ (record { address = table; left = n } ∷ tables) (named_by table e) listed)))
+          (cond d (unwound most ap_ (record { address = table; left = n } ∷ tables) listed) (walk_from_component most ap_ (record { address = table; left = n } ∷ tables) (named_by table e) listed)))
       one true b d = refl
       one false true d = refl
       one false false true = refl

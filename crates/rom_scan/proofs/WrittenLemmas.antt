@@ -4,7 +4,7 @@ use Rattle.std.specs.Io.KnownBytes.{Appends}
 use Rattle.std.proofs.KnownBytes.{Appends-nil, Appends-trans}
 use Rattle.std.proofs.lemmas.List.Concat.{flat_map-append}
 use Rattle.rom_scan.specs.Components.{component_line}
-use Rattle.rom_scan.specs.Listing.{lines_of}
+use Rattle.rom_scan.specs.Listing.{component_lines}
 use Rattle.rom_scan.specs.Written.{AppendsComponents, WritesComponents}
 use Rattle.rom_scan.specs.declared.component.Component.{Component}
 use Rattle.rom_scan.specs.declared.scan_end.ScanEnd.{ScanEnd}
@@ -23,7 +23,7 @@ pub more_written : (a b c : Option (List ℕ)) → AppendsComponents a b → App
 more_written a b c first second = record {
   components = first.components ++ second.components;
   appends = subst (λ (l : List ℕ). Appends a c l) (sym (flat_map-append component_line first.components second.components))
-      (Appends-trans a b c (lines_of first.components) (lines_of second.components) first.appends second.appends);
+      (Appends-trans a b c (component_lines first.components) (component_lines second.components) first.appends second.appends);
 }
 
 -- after what was written before

@@ -5,7 +5,7 @@ use Rattle.target_calls.specs.World.{World}
 use Rattle.target_calls.specs.declared.calls.Ask.{Ask}
 use Rattle.access_calls.specs.declared.stop.Stop.{Stop}
 use Rattle.sequels.specs.Meeting.{Gave, LeftOff, Reaches}
-use Rattle.access_calls.specs.Asking.{EndsBy}
+use Rattle.access_calls.specs.Asking.{EndsByStop}
 use Rattle.rom_scan.specs.Meets.{StopsIn}
 use Rattle.sequels.specs.Sequel.{Sequel}
 use Rattle.rom_scan.specs.Tables.{unwound}
@@ -28,21 +28,21 @@ abbrev pub ScanEndIs : {A : Type 0} → Result A ScanEnd → Option Stop → Typ
 ScanEndIs (Ok x) end = end ≡ None
 ScanEndIs (Err e.Full) end = end ≡ None
 ScanEndIs (Err e.WriteFault) end = end ≡ None
-ScanEndIs (Err (e.Stop s)) end = EndsBy s end
+ScanEndIs (Err (e.Stop s)) end = EndsByStop s end
 
 -- the sink's count of faults rose, or is at its last value, where the sink failed, and else it is the same
-abbrev pub HasSinkCause : Result ℕ ScanEnd → ℕ → ℕ → Type 0
-HasSinkCause (Ok n) before now = now ≡ before
-HasSinkCause (Err e.Full) before now = now ≡ before
-HasSinkCause (Err e.WriteFault) before now = Rose before now
-HasSinkCause (Err (e.Stop s)) before now = now ≡ before
+abbrev pub ScanHasSinkCause : Result ℕ ScanEnd → ℕ → ℕ → Type 0
+ScanHasSinkCause (Ok n) before now = now ≡ before
+ScanHasSinkCause (Err e.Full) before now = now ≡ before
+ScanHasSinkCause (Err e.WriteFault) before now = Rose before now
+ScanHasSinkCause (Err (e.Stop s)) before now = now ≡ before
 
 -- how many entries and components are left to be read, at most: a component that is read takes 970, and its table gives 961
-abbrev pub left_of : List Table → List Component → ℕ
-left_of tables listed = 970 * (1024 - length listed) + sum_by (λ (t : Table). t.left + 1) tables
+abbrev pub reads_left : List Table → List Component → ℕ
+reads_left tables listed = 970 * (1024 - length listed) + sum_by (λ (t : Table). t.left + 1) tables
 
 -- the table stands at a page, and has at most 960 entries left
-pub record IsOpen (t : Table) : Type 0 where
+pub record IsOpenTable (t : Table) : Type 0 where
   pub page : t.address % 4096 ≡ 0
   pub few : t.left ≤ 960
 

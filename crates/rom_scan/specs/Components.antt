@@ -21,9 +21,9 @@ abbrev pub base_ask : ℕ → Ask
 base_ask ap = unit_ask (unit.Ap true ap 0xF8 0) true
 
 -- so many words from an address on, after those that were read
-abbrev pub words : ℕ → ℕ → ℕ → List ℕ → Sequel (List ℕ)
-words ap zero address read = Ends read
-words ap (suc n) address read = Asks (word_ask ap address) (λ word. words ap n (address + 4) (read ++ word ∷ []))
+abbrev pub words_sequel : ℕ → ℕ → ℕ → List ℕ → Sequel (List ℕ)
+words_sequel ap zero address read = Ends read
+words_sequel ap (suc n) address read = Asks (word_ask ap address) (λ word. words_sequel ap n (address + 4) (read ++ word ∷ []))
 
 -- ---- a component
 
@@ -32,8 +32,8 @@ abbrev pub low : ℕ → ℕ
 low word = word % 256
 
 -- CIDR0 to CIDR3, the four words from 0xFF0 on, are those of a component: all but the class are fixed numbers
-abbrev pub is_known : List ℕ → Bool
-is_known cidr =
+abbrev pub is_component : List ℕ → Bool
+is_component cidr =
     (low (slice_index cidr 0) == 0x0D) && ((low (slice_index cidr 1) % 16 == 0) && ((low (slice_index cidr 2) == 0x05) && (low (slice_index cidr 3) == 0xB1)))
 
 -- the component class, bits 7:4 of CIDR1
@@ -41,12 +41,13 @@ abbrev pub class_of : List ℕ → ℕ
 class_of cidr = low (slice_index cidr 1) / 16
 
 -- the low bytes of PIDR4, at 0xFD0, and of PIDR3 to PIDR0, which stand from 0xFE0 on
-abbrev pub id_of : List ℕ → List ℕ → List ℕ
-id_of fourth first = low (slice_index fourth 0) ∷ low (slice_index first 3) ∷ low (slice_index first 2) ∷ low (slice_index first 1) ∷ low (slice_index first 0) ∷ []
+abbrev pub component_id : List ℕ → List ℕ → List ℕ
+component_id fourth first =
+    low (slice_index fourth 0) ∷ low (slice_index first 3) ∷ low (slice_index first 2) ∷ low (slice_index first 1) ∷ low (slice_index first 0) ∷ []
 
 -- a component by its words
 abbrev pub known_as : ℕ → ℕ → List ℕ → List ℕ → List ℕ → Component
-known_as address depth cidr fourth first = record { address = address; depth = depth; known = Some (record { class = class_of cidr; id = id_of fourth first }) }
+known_as address depth cidr fourth first = record { address = address; depth = depth; known = Some (record { class = class_of cidr; id = component_id fourth first }) }
 
 -- where no component is known
 abbrev pub unknown_at : ℕ → ℕ → Component
@@ -55,31 +56,31 @@ unknown_at address depth = record { address = address; depth = depth; known = No
 -- what is read of a component that is known
 abbrev pub identified : ℕ → ℕ → ℕ → List ℕ → Sequel Component
 identified ap address depth cidr =
-    after (words ap 1 (address + 0xFD0) []) (λ fourth. after (words ap 4 (address + 0xFE0) []) (λ first. Ends (known_as address depth cidr fourth first)))
+    after (words_sequel ap 1 (address + 0xFD0) []) (λ fourth. after (words_sequel ap 4 (address + 0xFE0) []) (λ first. Ends (known_as address depth cidr fourth first)))
 
 -- what is read after the first four words
 abbrev pub by_words : ℕ → ℕ → ℕ → List ℕ → Sequel Component
-by_words ap address depth cidr = if is_known cidr then identified ap address depth cidr else Ends (unknown_at address depth)
+by_words ap address depth cidr = if is_component cidr then identified ap address depth cidr else Ends (unknown_at address depth)
 
 -- What is read of a component.
 unfoldable pub component_at : ℕ → ℕ → ℕ → Sequel Component
-component_at ap address depth = after (words ap 4 (address + 0xFF0) []) (λ cidr. by_words ap address depth cidr)
+component_at ap address depth = after (words_sequel ap 4 (address + 0xFF0) []) (λ cidr. by_words ap address depth cidr)
 
 -- how many words are read of a component
-abbrev pub words_of : Option Known → ℕ
-words_of None = 4
-words_of (Some k) = 9
+abbrev pub words_read_of : Option Known → ℕ
+words_read_of None = 4
+words_read_of (Some k) = 9
 
 -- ---- its line
 
 -- what is known of it, to the end of the line
-abbrev pub known_part : Option Known → ℕ → List ℕ
-known_part None depth = codes " unknown depth " ++ decimal depth ++ codes "\n"
-known_part (Some k) depth = codes " class " ++ decimal k.class ++ codes " depth " ++ decimal depth ++ codes " id 0x" ++ encode_lower k.id ++ codes "\n"
+abbrev pub component_details : Option Known → ℕ → List ℕ
+component_details None depth = codes " unknown depth " ++ decimal depth ++ codes "\n"
+component_details (Some k) depth = codes " class " ++ decimal k.class ++ codes " depth " ++ decimal depth ++ codes " id 0x" ++ encode_lower k.id ++ codes "\n"
 
 -- the line of a component
 abbrev pub component_line : Component → List ℕ
-component_line c = codes "component " ++ hex8 c.address ++ known_part c.known c.depth
+component_line c = codes "component " ++ hex8 c.address ++ component_details c.known c.depth
 
 -- ---- its table
 

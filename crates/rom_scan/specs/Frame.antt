@@ -4,10 +4,10 @@ use Rattle.probe_core.specs.Bench.{BenchState}
 use Rattle.target_calls.specs.World.{World, stop}
 use Rattle.target_calls.specs.declared.calls.Ask.{Ask}
 use Rattle.access_calls.specs.Asking.{MayAsk}
-use Rattle.access_calls.specs.Keeps.{Keeps}
+use Rattle.access_calls.specs.Keeps.{KeepsAccess}
 use Rattle.access_calls.specs.Left.{IsLeft}
 use Rattle.access_calls.specs.Reported.{AccessView, world_from}
-use Rattle.rom_scan.specs.Arrivals.{HasSinkCause, ScanEndIs}
+use Rattle.rom_scan.specs.Arrivals.{ScanEndIs, ScanHasSinkCause}
 use Rattle.rom_scan.specs.Written.{WritesComponents}
 use Rattle.rom_scan.specs.declared.scan_end.ScanEnd.{ScanEnd}
 
@@ -40,8 +40,8 @@ pub record EndsScan {S K : Type 0} (begun : S → BenchState → Type 0) (report
     (written : K → Option (List ℕ)) (faults : K → ℕ) (result : Result ℕ ScanEnd) (old new : S) (sink_old sink_new : K) : Type 0 where
   pub end : ScanEndIs result (reported new).end
   pub lines : WritesComponents result (written sink_old) (written sink_new)
-  pub cause : HasSinkCause result (faults sink_old) (faults sink_new)
-  pub keeps : Keeps begun reported identity old new
+  pub cause : ScanHasSinkCause result (faults sink_old) (faults sink_new)
+  pub keeps : KeepsAccess begun reported identity old new
 
 -- How a part with a sink ends that counts its units: at most so many were asked, and `Ok` has their number.
 pub record EndsCounting {S K : Type 0} (most : ℕ) (begun : S → BenchState → Type 0) (reported : S → AccessView) (identity : S → ℕ)

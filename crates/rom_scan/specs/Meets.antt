@@ -22,15 +22,15 @@ pub record Finished {X : Type 0} (w : World) (s : Sequel X) (old new : List Ask)
   pub marked : new ≡ settled_last asked
 
 -- The sequel came to its end, and the access stopped in the `finish` after it: at a cut a retry ended, after all calls.
-pub record StopsAfter {X : Type 0} (w : World) (lines : ℕ) (s : Sequel X) (old new : List Ask) (before now : Option (List ℕ)) (e : Stop) : Type 0 where
+pub record StopsInFinish {X : Type 0} (w : World) (lines : ℕ) (s : Sequel X) (old new : List Ask) (before now : Option (List ℕ)) (e : Stop) : Type 0 where
   pub x : X
   pub finished : Finished w s old new before now x
   pub cut : AtCut e (λ r. (r.cause ≡ NoAnswer) × (lines ≡ length new))
 
 -- what is answered is the end of the sequel
-abbrev pub Gives : {X : Type 0} → World → ℕ → Sequel X → Result X Stop → List Ask → List Ask → Option (List ℕ) → Option (List ℕ) → Type 0
-Gives w lines s (Ok x) old new before now = Gave w s old new before now x
-Gives w lines s (Err e) old new before now = StopsIn w lines s old new before now e
+abbrev pub GivesEnd : {X : Type 0} → World → ℕ → Sequel X → Result X Stop → List Ask → List Ask → Option (List ℕ) → Option (List ℕ) → Type 0
+GivesEnd w lines s (Ok x) old new before now = Gave w s old new before now x
+GivesEnd w lines s (Err e) old new before now = StopsIn w lines s old new before now e
 
 -- what is answered stands for the end of the sequel
 abbrev pub GivesBy : {A X : Type 0} → (A → X) → World → ℕ → Sequel X → Result A Stop → List Ask → List Ask → Option (List ℕ) → Option (List ℕ) → Type 0

@@ -53,9 +53,9 @@ component most ap (suc levels) address listed =
     (λ c more. if is_table c.known then entries ap (component most ap levels) c.address 960 more else Ends (Listed more))
 
 -- all below a base
-abbrev pub below : ℕ → ℕ → ℕ → Sequel Walked
-below most ap base = if is_no_base base then Ends (Listed []) else component most ap 7 (page base) []
+abbrev pub components_below : ℕ → ℕ → ℕ → Sequel Walked
+components_below most ap base = if is_no_base base then Ends (Listed []) else component most ap 7 (page base) []
 
 -- The components of an access port.
 abbrev pub scanned : ℕ → ℕ → Sequel Walked
-scanned most ap = Asks (base_ask ap) (λ base. below most ap base)
+scanned most ap = Asks (base_ask ap) (λ base. components_below most ap base)

@@ -3,9 +3,9 @@ ghost use Rattle.std.specs.Prelude.{◌≡◌, ◌+◌, ◌*◌, ◌≤◌, ◌%
 ghost use Rattle.target_calls.specs.Asks.{unit_ask};
 ghost use Rattle.access_calls.specs.Asking.{EndsAsking, IsSoundNarrow, MayAsk};
 ghost use Rattle.sequels.specs.Sequel.{asks};
-ghost use Rattle.rom_scan.specs.Components.{base_ask, word_ask, words};
+ghost use Rattle.rom_scan.specs.Components.{base_ask, word_ask, words_sequel};
 ghost use Rattle.rom_scan.specs.Frame.{GivesAsking};
-ghost use Rattle.rom_scan.specs.Meets.{Gives, GivesBy};
+ghost use Rattle.rom_scan.specs.Meets.{GivesBy, GivesEnd};
 
 use access_calls::{Access, Stop};
 use arrayvec::ArrayVec;
@@ -45,7 +45,7 @@ pub(crate) fn base_unit(ap: u8) -> Unit
 pub(crate) fn ask_now<A: Access>(unit: Unit, access: &mut A) -> Result<u32, Stop>
     requires narrow { IsSoundNarrow unit }
     requires may { MayAsk 9999999 (A.reported access.old) }
-    ensures gives { GivesAsking A.begun A.reported access.old access.new (λ w lines. Gives w lines (asks (unit_ask unit true)) result) }
+    ensures gives { GivesAsking A.begun A.reported access.old access.new (λ w lines. GivesEnd w lines (asks (unit_ask unit true)) result) }
     ensures count { OnOk result (length (A.reported access.new).asks.calls ≡ length (A.reported access.old).asks.calls + 1) }
     ensures ends { EndsAsking A.begun A.reported A.identity result access.old access.new }
 {
@@ -76,7 +76,7 @@ pub(crate) fn read_words<A: Access>(
     requires aligned { address % 4 ≡ 0 }
     requires low { address + 4 * count ≤ 2 ^ 32 }
     requires may { MayAsk 9000000 (A.reported access.old) }
-    ensures gives { GivesAsking A.begun A.reported access.old access.new (λ w lines. GivesBy (λ v. v.items) w lines (words ap count address []) result) }
+    ensures gives { GivesAsking A.begun A.reported access.old access.new (λ w lines. GivesBy (λ v. v.items) w lines (words_sequel ap count address []) result) }
     ensures items { IfOk result (λ v. length v.items ≡ count) }
     ensures count { OnOk result (length (A.reported access.new).asks.calls ≡ length (A.reported access.old).asks.calls + count) }
     ensures ends { EndsAsking A.begun A.reported A.identity result access.old access.new }

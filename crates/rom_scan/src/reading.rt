@@ -1,9 +1,9 @@
 //! One component.
 ghost use Rattle.std.specs.Prelude.{◌≡◌, ◌+◌, ◌≤◌, ◌%◌, length, IfOk};
 ghost use Rattle.access_calls.specs.Asking.{EndsAsking, MayAsk};
-ghost use Rattle.rom_scan.specs.Components.{component_at, is_known, known_as, words_of};
+ghost use Rattle.rom_scan.specs.Components.{component_at, is_component, known_as, words_read_of};
 ghost use Rattle.rom_scan.specs.Frame.{GivesAsking};
-ghost use Rattle.rom_scan.specs.Meets.{Gives};
+ghost use Rattle.rom_scan.specs.Meets.{GivesEnd};
 
 use crate::asking::read_words;
 use crate::component::{Component, Known};
@@ -19,7 +19,7 @@ fn low(word: u32) -> u8
 // Whether the words are those of a component that is known.
 fn is_known(cidr: &[u32]) -> bool
     requires { length cidr.now ≡ 4 }
-    ensures { result ≡ is_known cidr.now }
+    ensures { result ≡ is_component cidr.now }
 {
     low(cidr[0]) == 0x0D && low(cidr[1]) % 16 == 0 && low(cidr[2]) == 0x05 && low(cidr[3]) == 0xB1
 }
@@ -49,7 +49,7 @@ fn known_as(address: u32, depth: u8, cidr: &[u32], fourth: &[u32], first: &[u32]
 
 // How many words are read of a component.
 pub(crate) fn words_of(component: Component) -> u32
-    ensures words { result ≡ words_of component.known }
+    ensures words { result ≡ words_read_of component.known }
     ensures few { result ≤ 9 }
 {
     match component.known {
@@ -68,9 +68,9 @@ pub(crate) fn read_component<A: Access>(
 ) -> Result<Component, Stop>
     requires page { address % 4096 ≡ 0 }
     requires may { MayAsk 8000000 (A.reported access.old) }
-    ensures gives { GivesAsking A.begun A.reported access.old access.new (λ w lines. Gives w lines (component_at ap address depth) result) }
+    ensures gives { GivesAsking A.begun A.reported access.old access.new (λ w lines. GivesEnd w lines (component_at ap address depth) result) }
     ensures address { IfOk result (λ c. c.address ≡ address) }
-    ensures count { IfOk result (λ c. length (A.reported access.new).asks.calls ≡ length (A.reported access.old).asks.calls + words_of c.known) }
+    ensures count { IfOk result (λ c. length (A.reported access.new).asks.calls ≡ length (A.reported access.old).asks.calls + words_read_of c.known) }
     ensures ends { EndsAsking A.begun A.reported A.identity result access.old access.new }
 {
     let cidr = match read_words(ap, address + 0xFF0, 4, access) {

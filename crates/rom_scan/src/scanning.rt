@@ -4,7 +4,7 @@ ghost use Rattle.access_calls.specs.Asking.{MayAsk};
 ghost use Rattle.rom_scan.specs.Arrivals.{AtFull};
 ghost use Rattle.rom_scan.specs.Components.{is_no_base, page};
 ghost use Rattle.rom_scan.specs.Frame.{EndsCounting, GivesWriting, MayScan};
-ghost use Rattle.rom_scan.specs.Scans.{Lists, Scans};
+ghost use Rattle.rom_scan.specs.Scans.{ScanComesTo, Scans};
 ghost use Rattle.rom_scan.specs.Walk.{component, scanned};
 
 use crate::asking::{ask_now, base_unit};
@@ -43,7 +43,8 @@ fn list_from<A: Access, K: Sink>(
     requires room { units.old ≤ 100 }
     requires page { address % 4096 ≡ 0 }
     requires may { MayAsk 1000001 (A.reported access.old) }
-    ensures gives { GivesWriting A.begun A.reported K.written access.old access.new sink.old sink.new (λ w lines. Lists w lines (component 1024 ap 7 address []) result) }
+    ensures gives { GivesWriting A.begun A.reported K.written access.old access.new sink.old sink.new
+        (λ w lines. ScanComesTo w lines (component 1024 ap 7 address []) result) }
     ensures full { AtFull result (length (A.reported access.new).asks.calls + units.old ≡ length (A.reported access.old).asks.calls + units.new) }
     ensures most { units.new ≤ units.old + 7000010 }
     ensures ends { EndsCounting 993280 A.begun A.reported A.identity K.written K.faults result access.old access.new sink.old sink.new }
@@ -73,7 +74,7 @@ fn list_all<A: Access, K: Sink>(
     units: &mut u32,
 ) -> Result<u32, ScanEnd>
     requires may { MayScan units.old (A.reported access.old) }
-    ensures gives { GivesWriting A.begun A.reported K.written access.old access.new sink.old sink.new (λ w lines. Lists w lines (scanned 1024 ap) result) }
+    ensures gives { GivesWriting A.begun A.reported K.written access.old access.new sink.old sink.new (λ w lines. ScanComesTo w lines (scanned 1024 ap) result) }
     ensures full { AtFull result (length (A.reported access.new).asks.calls + units.old ≡ length (A.reported access.old).asks.calls + units.new) }
     ensures most { units.new ≤ units.old + 7000011 }
     ensures ends { EndsCounting 993281 A.begun A.reported A.identity K.written K.faults result access.old access.new sink.old sink.new }

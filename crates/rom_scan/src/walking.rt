@@ -2,11 +2,11 @@
 ghost use Rattle.std.specs.Prelude.{◌≡◌, ◌+◌, ◌≤◌, ◌%◌, ◌<◌, ◌∷◌, [], None, length, OnOk};
 ghost use Rattle.std.specs.List.{All};
 ghost use Rattle.access_calls.specs.Asking.{MayAsk, MayAskMore};
-ghost use Rattle.rom_scan.specs.Arrivals.{AtFull, IsOpen, Walks, left_of};
+ghost use Rattle.rom_scan.specs.Arrivals.{AtFull, IsOpenTable, Walks, reads_left};
 ghost use Rattle.rom_scan.specs.Components.{is_table, named_by};
 ghost use Rattle.rom_scan.specs.Frame.{EndsCounting, GivesWriting};
 ghost use Rattle.rom_scan.specs.Walk.{is_listed};
-ghost use Rattle.rom_scan.specs.Tables.{opened, reached, unwound};
+ghost use Rattle.rom_scan.specs.Tables.{tables_after, unwound, walk_from_component};
 
 use crate::asking::{ask_now, word_unit};
 use crate::component::Component;
@@ -31,7 +31,7 @@ fn is_table(component: Component) -> bool
 
 // Opens the table of a component, if it has one and stands above depth 8.
 fn open_table(component: Component, tables: &mut OpenTables)
-    ensures { tables.new ≡ opened tables.old component }
+    ensures { tables.new ≡ tables_after tables.old component }
 {
     if is_table(component) && tables.len() < 7 {
         tables.push(Table {
@@ -56,12 +56,12 @@ pub(crate) fn arrive<A: Access, K: Sink>(
     requires deep { length tables.old ≤ 7 }
     requires may { MayAsk 8000000 (A.reported access.old) }
     ensures gives { GivesWriting A.begun A.reported K.written access.old access.new sink.old sink.new
-        (λ w lines. Walks w lines ap (reached 1024 ap tables.old address listed.old) result tables.new listed.new) }
-    ensures count { OnOk result (length (A.reported access.new).asks.calls + left_of tables.new listed.new
-        ≤ length (A.reported access.old).asks.calls + left_of tables.old listed.old) }
-    ensures open { OnOk result (All IsOpen tables.old → All IsOpen tables.new) }
+        (λ w lines. Walks w lines ap (walk_from_component 1024 ap tables.old address listed.old) result tables.new listed.new) }
+    ensures count { OnOk result (length (A.reported access.new).asks.calls + reads_left tables.new listed.new
+        ≤ length (A.reported access.old).asks.calls + reads_left tables.old listed.old) }
+    ensures open { OnOk result (All IsOpenTable tables.old → All IsOpenTable tables.new) }
     ensures deep { OnOk result (length tables.new ≤ 7) }
-    ensures less { OnOk result (left_of tables.new listed.new < left_of tables.old listed.old) }
+    ensures less { OnOk result (reads_left tables.new listed.new < reads_left tables.old listed.old) }
     ensures full { AtFull result (length (A.reported access.new).asks.calls ≡ length (A.reported access.old).asks.calls) }
     ensures ends { EndsCounting 9 A.begun A.reported A.identity K.written K.faults result access.old access.new sink.old sink.new }
 {
@@ -119,10 +119,10 @@ fn step<A: Access, K: Sink>(
     requires may { MayAsk 7000000 (A.reported access.old) }
     ensures gives { GivesWriting A.begun A.reported K.written access.old access.new sink.old sink.new
         (λ w lines. Walks w lines ap (unwound 1024 ap (table ∷ tables.old) listed.old) result tables.new listed.new) }
-    ensures count { OnOk result (length (A.reported access.new).asks.calls + left_of tables.new listed.new
-        ≤ length (A.reported access.old).asks.calls + left_of (table ∷ tables.old) listed.old) }
-    ensures less { OnOk result (left_of tables.new listed.new < left_of (table ∷ tables.old) listed.old) }
-    ensures open { OnOk result (All IsOpen tables.old → All IsOpen tables.new) }
+    ensures count { OnOk result (length (A.reported access.new).asks.calls + reads_left tables.new listed.new
+        ≤ length (A.reported access.old).asks.calls + reads_left (table ∷ tables.old) listed.old) }
+    ensures less { OnOk result (reads_left tables.new listed.new < reads_left (table ∷ tables.old) listed.old) }
+    ensures open { OnOk result (All IsOpenTable tables.old → All IsOpenTable tables.new) }
     ensures deep { OnOk result (length tables.new ≤ 7) }
     ensures full { AtFull result (length (A.reported access.new).asks.calls ≡ length (A.reported access.old).asks.calls + 1) }
     ensures ends { EndsCounting 10 A.begun A.reported A.identity K.written K.faults result access.old access.new sink.old sink.new }
@@ -164,13 +164,13 @@ pub(crate) fn walk<A: Access, K: Sink>(
     units: &mut u32,
 ) -> Result<u32, ScanEnd>
     requires room { units.old ≤ 1000 }
-    requires tables { All IsOpen tables.old }
+    requires tables { All IsOpenTable tables.old }
     requires deep { length tables.old ≤ 7 }
-    requires may { MayAskMore (left_of tables.old listed.old) 7000000 (A.reported access.old) }
+    requires may { MayAskMore (reads_left tables.old listed.old) 7000000 (A.reported access.old) }
     ensures gives { GivesWriting A.begun A.reported K.written access.old access.new sink.old sink.new
         (λ w lines. Walks w lines ap (unwound 1024 ap tables.old listed.old) result tables.new listed.new) }
     ensures none { OnOk result (tables.new ≡ []) }
-    ensures count { OnOk result (length (A.reported access.new).asks.calls ≤ length (A.reported access.old).asks.calls + left_of tables.old listed.old) }
+    ensures count { OnOk result (length (A.reported access.new).asks.calls ≤ length (A.reported access.old).asks.calls + reads_left tables.old listed.old) }
     ensures full { AtFull result (length (A.reported access.new).asks.calls + units.old ≡ length (A.reported access.old).asks.calls + units.new) }
     ensures most { units.new ≤ units.old + 7000001 }
     ensures ends { EndsCounting 7000000 A.begun A.reported A.identity K.written K.faults result access.old access.new sink.old sink.new }

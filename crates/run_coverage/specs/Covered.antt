@@ -6,12 +6,12 @@ use Rattle.dap_base.specs.declared.text.OutOfMemory.{OutOfMemory}
 use Rattle.run_events.specs.Events.{Event, Begins, Tests, Chooses, Loops, Turns, Finds, Leaves, TimesOut, Matches, Assigns, Makes, Writes, Calls, Returns}
 use Rattle.log_lines.specs.Places.{spot_words}
 use Rattle.run_coverage.specs.declared.coverage.Coverage.{Coverage}
-use Rattle.run_coverage.specs.Items.{ran_words, chosen, left_words, timed_out_words}
+use Rattle.run_coverage.specs.Items.{ran_words, branch_words, left_words, timed_out_words}
 
 -- what happens at an event, in words. The debug variables have no step, and do not count.
 abbrev pub event_words : Event → Option (List ℕ)
 event_words (Begins spot st) = if is_some spot.sequence then Some (ran_words spot) else None
-event_words (Chooses spot n) = Some (chosen n ++ spot_words spot)
+event_words (Chooses spot n) = Some (branch_words n ++ spot_words spot)
 event_words (Leaves spot n) = Some (left_words spot)
 event_words (Matches spot) = Some (left_words spot)
 event_words (TimesOut spot n) = Some (timed_out_words spot)
@@ -26,13 +26,13 @@ event_words (Calls name) = None
 event_words Returns = None
 
 -- an event, if it has words, has these
-abbrev pub is_word : List ℕ → Option (List ℕ) → Bool
-is_word words None = false
-is_word words (Some said) = bytes_eq words said
+abbrev pub has_item_words : List ℕ → Option (List ℕ) → Bool
+has_item_words words None = false
+has_item_words words (Some said) = bytes_eq words said
 
 -- at one of the events this happens
 abbrev pub happens : List Event → List ℕ → Bool
-happens events words = list_any (λ e. is_word words (event_words e)) events
+happens events words = list_any (λ e. has_item_words words (event_words e)) events
 
 -- a coverage has these words
 abbrev pub has : Coverage → List ℕ → Bool

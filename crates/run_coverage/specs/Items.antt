@@ -5,7 +5,7 @@ use Rattle.sequence_trees.specs.Trees.{CodeStep, Block, Control, CodeSteps, NoSt
 use Rattle.sequence_trees.specs.declared.spot.Part.TheVariants as parts
 use Rattle.sequence_trees.specs.declared.spot.Spot.{Spot}
 use Rattle.run_events.specs.OfRuns.{steps_in}
-use Rattle.log_lines.specs.Places.{spot_words, spot_in, condition_spot}
+use Rattle.log_lines.specs.Places.{spot_words, spot_in_step, condition_spot}
 use Rattle.run_coverage.specs.declared.items.Item.{Item}
 
 -- the statement at a place runs
@@ -21,8 +21,8 @@ abbrev pub skipped_words : Spot → List ℕ
 skipped_words spot = codes "skipped " ++ spot_words spot
 
 -- what happens at an `if` of this value
-abbrev pub chosen : ℕ → List ℕ
-chosen n = if nat_eq n 0 then codes "skipped " else codes "taken "
+abbrev pub branch_words : ℕ → List ℕ
+branch_words n = if nat_eq n 0 then codes "skipped " else codes "taken "
 
 -- the `while` at a place is left by its condition
 abbrev pub left_words : Spot → List ℕ
@@ -43,8 +43,8 @@ of_condition words = record { is_statement = false; words = words }
 -- a statement runs; `;` alone does not count
 abbrev pub statement_items : List ℕ → List ℕ → StmtTree → List Item
 statement_items name path (Empty at) = []
-statement_items name path (Declare x e) = of_statement (ran_words (spot_in name path parts.Block x.at)) ∷ []
-statement_items name path (Plain at e) = of_statement (ran_words (spot_in name path parts.Block at)) ∷ []
+statement_items name path (Declare x e) = of_statement (ran_words (spot_in_step name path parts.Block x.at)) ∷ []
+statement_items name path (Plain at e) = of_statement (ran_words (spot_in_step name path parts.Block at)) ∷ []
 
 -- the statements of a block, in order
 abbrev pub block_items : List ℕ → List ℕ → List StmtTree → List Item

@@ -1,15 +1,15 @@
 -- Statements that ran, and are remembered by their places.
 use Rattle.std.specs.Prelude.{ℕ, Bool, true, List, Option, Some, None}
 use Rattle.sequence_trees.specs.declared.spot.Part.TheVariants as parts
-use Rattle.log_lines.specs.Places.{spot_in}
+use Rattle.log_lines.specs.Places.{spot_in_step}
 use Rattle.run_coverage.specs.declared.ran.Ran.{Ran}
 use Rattle.run_coverage.specs.Items.{ran_words}
 
 -- the item of a statement that ran, in words
-abbrev pub words_of : Ran → List ℕ
-words_of ran = ran_words (spot_in ran.sequence ran.path parts.Block ran.place)
+abbrev pub ran_item_words : Ran → List ℕ
+ran_item_words ran = ran_words (spot_in_step ran.sequence ran.path parts.Block ran.place)
 
 -- of what is remembered, it is had that it ran
 abbrev pub is_had : (List ℕ → Bool) → Option Ran → Bool
 is_had has None = true
-is_had has (Some ran) = has (words_of ran)
+is_had has (Some ran) = has (ran_item_words ran)

@@ -67,12 +67,12 @@ abbrev pub sequence_names : SetTrees → List ℕ → List (List ℕ)
 sequence_names set name = steps_names (steps_in set name)
 
 -- the names with more, each of which goes last unless it is there
-abbrev pub with_names : List (List ℕ) → List (List ℕ) → List (List ℕ)
-with_names names more = fold with_name names more
+abbrev pub names_with_more : List (List ℕ) → List (List ℕ) → List (List ℕ)
+names_with_more names more = fold with_name names more
 
 -- the sequences, and those that they call
 abbrev pub one_deeper : SetTrees → List (List ℕ) → List (List ℕ)
-one_deeper set names = with_names names (flat_map (sequence_names set) names)
+one_deeper set names = names_with_more names (flat_map (sequence_names set) names)
 
 -- the sequences that so many calls, one in the other, lead to; itself first, then in the order of the first call
 unfoldable pub reached : SetTrees → ℕ → List ℕ → List (List ℕ)

@@ -28,12 +28,12 @@ module _ (has : List ℕ → Bool) where
   never_line item = if has item.words then [] else codes "  never " ++ item.words ++ codes "\n"
 
   -- the lines of sequences: a line for each, one for all, and what has not happened
-  abbrev pub lines_of : SetTrees → List (List ℕ) → List ℕ
-  lines_of set names =
+  abbrev pub coverage_lines : SetTrees → List (List ℕ) → List ℕ
+  coverage_lines set names =
       flat_map (covered_line set) names
       ++ (codes "covered all " ++ count_text (flat_map (sequence_items set) names))
       ++ flat_map never_line (flat_map (sequence_items set) names)
 
 -- The coverage of the sequences that the run of a sequence can reach, by the events of the run.
 abbrev pub coverage_text : SetTrees → List ℕ → List Event → List ℕ
-coverage_text set start events = lines_of (happens events) set (reached_names set start)
+coverage_text set start events = coverage_lines (happens events) set (reached_names set start)

@@ -5,9 +5,9 @@ ghost use Rattle.std.specs.Str.{bytes_eq};
 ghost use Rattle.expr_grammar.specs.Tree.{stmt_tree};
 ghost use Rattle.sequence_trees.specs.declared.spot.Part.TheVariants as part;
 ghost use Rattle.run_events.specs.Events as e;
-ghost use Rattle.run_events.specs.OfSteps.{place_of};
-ghost use Rattle.log_lines.specs.Places.{condition_spot, spot_in};
-ghost use Rattle.run_coverage.specs.Items.{chosen, ran_words};
+ghost use Rattle.run_events.specs.OfSteps.{statement_place};
+ghost use Rattle.log_lines.specs.Places.{condition_spot, spot_in_step};
+ghost use Rattle.run_coverage.specs.Items.{branch_words, ran_words};
 ghost use Rattle.run_coverage.specs.Ran.{is_had};
 
 use crate::items::place_of;
@@ -21,7 +21,7 @@ use text_lines::Line;
 
 // What happens at an `if` of this value.
 fn word_of_choice(value: u64) -> &'static str
-    ensures { result.now ≡ chosen value }
+    ensures { result.now ≡ branch_words value }
 {
     if value == 0 { "skipped " } else { "taken " }
 }
@@ -83,7 +83,7 @@ impl Coverage {
 
     // Whether it is remembered that this statement ran.
     fn is_recent(&self, sequence: &str, path: &[u64], place: Place) -> bool
-        ensures { result ≡ true → has self.now (ran_words (spot_in sequence.now path.now part.Block place)) ≡ true }
+        ensures { result ≡ true → has self.now (ran_words (spot_in_step sequence.now path.now part.Block place)) ≡ true }
     {
         match self.recent.get(slot_of(sequence, path, place)) {
             Some(Some(ran)) => ran.is_at(sequence, path, place),
@@ -94,7 +94,7 @@ impl Coverage {
     // Remembers a statement in its slot, in place of another.
     #[tactic(auto, using(crate::proofs::RanLemmas::one_had))]
     fn remember(&mut self, sequence: &str, path: &[u64], place: Place) -> Result<(), OutOfMemory>
-        requires { has self.old (ran_words (spot_in sequence.now path.now part.Block place)) ≡ true }
+        requires { has self.old (ran_words (spot_in_step sequence.now path.now part.Block place)) ≡ true }
         ensures { (other : List ℕ) → has self.new other ≡ has self.old other }
     {
         let slot = slot_of(sequence, path, place);
@@ -116,7 +116,7 @@ impl Coverage {
         statement: &Stmt,
     ) -> Result<(), OutOfMemory>
         ensures { Covers self.old self.new result
-            (e.Begins (spot_in sequence.now path.now part.Block (place_of (stmt_tree statement.now))) (stmt_tree statement.now)) }
+            (e.Begins (spot_in_step sequence.now path.now part.Block (statement_place (stmt_tree statement.now))) (stmt_tree statement.now)) }
     {
         let place = place_of(statement);
         if self.is_recent(sequence, path, place) {

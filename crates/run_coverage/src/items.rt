@@ -2,7 +2,7 @@
 ghost use Rattle.std.specs.Prelude.{◌≡◌, ◌++◌, ◌∷◌, [], false, OnOk, option_map};
 ghost use Rattle.expr_grammar.specs.Tree.{tree, stmt_tree, code_trees};
 ghost use Rattle.sequence_trees.specs.Trees.{step_tree, steps_tree};
-ghost use Rattle.run_events.specs.OfSteps.{place_of};
+ghost use Rattle.run_events.specs.OfSteps.{statement_place};
 ghost use Rattle.seq_check.specs.Answers.{checked_trees};
 ghost use Rattle.run_coverage.specs.Items.{statement_items, block_items, if_items, while_items, step_items, steps_items, sequence_items};
 
@@ -25,7 +25,7 @@ pub struct Item {
 
 /// Where a statement begins: a declaration at the name.
 pub fn place_of(statement: &Stmt) -> Place
-    ensures { result ≡ place_of (stmt_tree statement.now) }
+    ensures { result ≡ statement_place (stmt_tree statement.now) }
 {
     match statement {
         Stmt::Empty(at) | Stmt::Plain(at, _) => *at,

@@ -1,7 +1,7 @@
 //! Names of sequences, in the order in which they came.
 ghost use Rattle.std.specs.Prelude.{◌≡◌, [], OnOk, map, string_bytes};
 ghost use Rattle.code_check.specs.Names.{with_name};
-ghost use Rattle.run_coverage.specs.Reach.{with_names};
+ghost use Rattle.run_coverage.specs.Reach.{names_with_more};
 
 use dap_base::{NameText, OutOfMemory};
 use indexmap::IndexSet;
@@ -55,7 +55,7 @@ impl Names {
 
     /// Adds names, one after the other.
     pub fn add_all(&mut self, alloc: Global, names: &[NameText]) -> Result<(), OutOfMemory>
-        ensures { OnOk result (self.new ≡ with_names self.old names.now) }
+        ensures { OnOk result (self.new ≡ names_with_more self.old names.now) }
     {
         for name in names {
             self.add(alloc, name.as_str())?;

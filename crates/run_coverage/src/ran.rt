@@ -2,9 +2,9 @@
 ghost use Rattle.std.specs.Prelude.{◌≡◌, ℕ, List, Bool, true, IfOk};
 ghost use Rattle.std.specs.List.{AllPass};
 ghost use Rattle.sequence_trees.specs.declared.spot.Part.TheVariants as parts;
-ghost use Rattle.log_lines.specs.Places.{spot_in};
+ghost use Rattle.log_lines.specs.Places.{spot_in_step};
 ghost use Rattle.run_coverage.specs.Items.{ran_words};
-ghost use Rattle.run_coverage.specs.Ran.{is_had, words_of};
+ghost use Rattle.run_coverage.specs.Ran.{is_had, ran_item_words};
 
 use dap_base::{NameText, OutOfMemory, Place};
 use sequence_trees::{StepPath, copy_path};
@@ -29,7 +29,7 @@ impl Ran {
         path: &[u64],
         place: Place,
     ) -> Result<Ran, OutOfMemory>
-        ensures { IfOk result (λ ran. words_of ran ≡ ran_words (spot_in sequence.now path.now parts.Block place)) }
+        ensures { IfOk result (λ ran. ran_item_words ran ≡ ran_words (spot_in_step sequence.now path.now parts.Block place)) }
     {
         Ok(Ran {
             sequence: NameText::new(alloc, sequence)?,
@@ -40,7 +40,7 @@ impl Ran {
 
     /// Whether it is the statement at this place.
     pub fn is_at(&self, sequence: &str, path: &[u64], place: Place) -> bool
-        ensures { result ≡ true → words_of self.now ≡ ran_words (spot_in sequence.now path.now parts.Block place) }
+        ensures { result ≡ true → ran_item_words self.now ≡ ran_words (spot_in_step sequence.now path.now parts.Block place) }
     {
         self.place == place && self.path.as_slice() == path && self.sequence.as_str() == sequence
     }

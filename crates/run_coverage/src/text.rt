@@ -5,7 +5,7 @@ ghost use Rattle.run_events.specs.Events.{Event};
 ghost use Rattle.seq_check.specs.Answers.{checked_trees};
 ghost use Rattle.run_coverage.specs.Covered.{has, IsOf};
 ghost use Rattle.run_coverage.specs.Items.{sequence_items};
-ghost use Rattle.run_coverage.specs.Text.{count_text, coverage_text, covered_line, has_run, lines_of, never_line};
+ghost use Rattle.run_coverage.specs.Text.{count_text, coverage_lines, coverage_text, covered_line, has_run, never_line};
 
 use crate::coverage::Coverage;
 use crate::items::{Item, push_items};
@@ -118,7 +118,7 @@ impl Coverage {
 
     // The lines of sequences.
     fn lines_of(&self, names: &[String], checked: &Checked) -> Result<Vec<u8>, OutOfMemory>
-        ensures { IfOk result (λ t. t.items ≡ lines_of (has self.now) (checked_trees checked.now) (map string_bytes names.now)) }
+        ensures { IfOk result (λ t. t.items ≡ coverage_lines (has self.now) (checked_trees checked.now) (map string_bytes names.now)) }
     {
         let mut text = Vec::new(self.alloc);
         self.push_sequences(names, checked, &mut text)?;

@@ -1,7 +1,7 @@
 //! What happens at a place, in words.
 ghost use Rattle.std.specs.Prelude.{◌≡◌, ◌++◌, IfOk, Some};
 ghost use Rattle.sequence_trees.specs.declared.spot.Part.TheVariants as parts;
-ghost use Rattle.log_lines.specs.Places.{condition_spot, spot_in, spot_words, step_words};
+ghost use Rattle.log_lines.specs.Places.{condition_spot, spot_in_step, spot_words, step_place_words};
 ghost use Rattle.run_coverage.specs.Items.{ran_words};
 
 use dap_base::{OutOfMemory, Place};
@@ -10,7 +10,7 @@ use text_lines::Line;
 
 // What happens, and a step of a sequence.
 fn begin_words(alloc: Global, what: &str, sequence: &str, path: &[u64]) -> Result<Line, OutOfMemory>
-    ensures { IfOk result (λ l. l ≡ what.now ++ step_words (Some sequence.now) path.now) }
+    ensures { IfOk result (λ l. l ≡ what.now ++ step_place_words (Some sequence.now) path.now) }
 {
     let line = Line::begin(alloc, what)?.add_shown(sequence.as_bytes())?;
     line.text(" ")?.add_dotted(path)?.text(" ")
@@ -23,7 +23,7 @@ pub fn statement_words(
     path: &[u64],
     place: Place,
 ) -> Result<Line, OutOfMemory>
-    ensures { IfOk result (λ l. l ≡ ran_words (spot_in sequence.now path.now parts.Block place)) }
+    ensures { IfOk result (λ l. l ≡ ran_words (spot_in_step sequence.now path.now parts.Block place)) }
 {
     let line = begin_words(alloc, "ran ", sequence, path)?.text("block")?;
     line.add_labelled(" ", place.line)?

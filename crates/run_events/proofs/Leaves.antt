@@ -21,7 +21,7 @@ use Rattle.sequence_rules.proofs.Goes as g
 use Rattle.sequence_rules.proofs.LateLemmas.{append_none}
 use Rattle.run_events.specs.Events.{Event, Writes, TimesOut, Matches, MadeUnit, left_by, units_from, units_between, all_made, units_in, lines_in}
 use Rattle.run_events.specs.OfSteps.{poll_end, polled_events, poll_events}
-use Rattle.run_events.specs.OfValues.{line_of, written_line, new_line, function_events}
+use Rattle.run_events.specs.OfValues.{function_line, written_line, new_line, function_events}
 use Rattle.run_events.proofs.Said.{left_on, Said, Tells, said_none, units_append, lines_append}
 use Rattle.dap_base.proofs.Basics.{lt_itself}
 
@@ -136,7 +136,7 @@ said_between s r events h a b = record { more = h.more; calls = h.calls; world =
 lt_more : (n : ℕ) → nat_lt n (n + 1) ≡ true
 lt_more n = lt-ltb n (n + 1) (omega arith)
 
-same_lines : (function : Function) (text n : List ℕ) (s : State ℕ Now) → line_of function text n ≡ None → SameLines s.rest (end_state (function_result (direct false) function text n s)).rest
+same_lines : (function : Function) (text n : List ℕ) (s : State ℕ Now) → function_line function text n ≡ None → SameLines s.rest (end_state (function_result (direct false) function text n s)).rest
 unfolding silent direct function_result memory memory_at one_unit two_units second_half low_and_high if_read zero_of command numbered ask answered port port_from port_with global given missing use_now or_halt ap_register ap_at dp_register dp_at abort abort_at delay clock pins line_bits
 same_lines f.Read8 text n s e = (g.goes_memory silent SameLines steady_silent 1 true (slice_index n 0) 0 s).so
 same_lines f.Read16 text n s e = (g.goes_memory silent SameLines steady_silent 2 true (slice_index n 0) 0 s).so
@@ -185,8 +185,8 @@ no_line b None e = either b
     either false = refl
 no_line b (Some line) e = absurd cc
 
-quiet_line : (function : Function) (text n : List ℕ) (s r : State ℕ Now) → line_of function text n ≡ None → SameLines s.rest r.rest → IsLined s r (new_line function text n s r)
-quiet_line function text n s r e k = rw (no_line (nat_lt s.lines r.lines) (line_of function text n) e) (k ∙ append_none s.rest.written)
+quiet_line : (function : Function) (text n : List ℕ) (s r : State ℕ Now) → function_line function text n ≡ None → SameLines s.rest r.rest → IsLined s r (new_line function text n s r)
+quiet_line function text n s r e k = rw (no_line (nat_lt s.lines r.lines) (function_line function text n) e) (k ∙ append_none s.rest.written)
 
 line_seen : (function : Function) (text n : List ℕ) (s : State ℕ Now) → IsLined s (end_state (function_result (direct false) function text n s)) (new_line function text n s (end_state (function_result (direct false) function text n s)))
 unfolding function_result
@@ -206,7 +206,7 @@ unfolding function_events
 tells_function function text n s =
     let r : State ℕ Now = end_state (function_result (direct false) function text n s) in
     said_between s r _ (g.goes_performed (direct false) Moves steady_moves function text n s).so
-    (units_append (all_made (units_between s r)) (new_line function text n s r) ∙ ap (λ xs. units_in (all_made (units_between s r)) ++ xs) (line_units (nat_lt s.lines r.lines) (line_of function text n)) ∙ append-nil (units_in (all_made (units_between s r))) ∙ all_units (units_between s r))
+    (units_append (all_made (units_between s r)) (new_line function text n s r) ∙ ap (λ xs. units_in (all_made (units_between s r)) ++ xs) (line_units (nat_lt s.lines r.lines) (function_line function text n)) ∙ append-nil (units_in (all_made (units_between s r))) ∙ all_units (units_between s r))
     (line_seen function text n s ∙ ap (λ l. option_map (line_after l) s.rest.written) (sym (lines_append (all_made (units_between s r)) (new_line function text n s r) ∙ ap (λ l. l ++ lines_in (new_line function text n s r)) (all_lines (units_between s r)))))
 
 -- ---- polls

@@ -10,9 +10,9 @@ use Rattle.sequence_rules.specs.Steps.{turn_count, counted, after_counted, decla
 use Rattle.run_events.specs.OfValues.{function_events, called_events, call_events, value_events}
 use Rattle.run_events.specs.OfSteps.{tested_events, turn_events, turns_events, done_events, statement_events, block_events, condition_events, loop_events, repeat_events, controlled_events, step_events}
 use Rattle.run_events.specs.OfRuns.{sequence_events, debugged_events, run_events}
-use Rattle.run_events.specs.Rows.{Counts, Waits, Enters}
+use Rattle.run_events.specs.Rows.{CountsToThree, Waits, Enters}
 
-pub counts_is : Counts
+pub counts_is : CountsToThree
 unfolding direct use_now missing given guarded named stored assigned used_now both operands result_of strict_binary of_binary value counted after_counted declared dropped in_order inside turn turns turn_count statement block condition loop_result repeat_result controlled step steps_at debugged run_of
     function_events called_events call_events value_events tested_events turn_events turns_events done_events statement_events block_events condition_events loop_events repeat_events controlled_events step_events sequence_events debugged_events run_events
 counts_is w = refl

@@ -7,7 +7,7 @@ use Rattle.target_calls.specs.World.{World, left_at}
 use Rattle.sequence_rules.specs.Direct.{Now, line_after}
 use Rattle.sequence_rules.specs.Machine.{State, Out, end_state}
 use Rattle.sequence_rules.proofs.LateLemmas.{append_twice, append_none}
-use Rattle.run_events.specs.Events.{Event, Begins, Tests, Chooses, Loops, Turns, Finds, Leaves, TimesOut, Matches, Assigns, Makes, Writes, Calls, Returns, after, end_in, units_from, units_in, left_by, lines_in}
+use Rattle.run_events.specs.Events.{Event, Begins, Tests, Chooses, Loops, Turns, Finds, Leaves, TimesOut, Matches, Assigns, Makes, Writes, Calls, Returns, events_after, call_end_in, units_from, units_in, left_by, lines_in}
 
 -- from t to u these events were seen
 pub record Said (t u : Now) (events : List Event) : Type 0 where
@@ -28,7 +28,7 @@ count_on n k = omega arith
 
 pub units_on : (w : World) (n : ℕ) (xs ys : List Ask) → units_from w n (xs ++ ys) ≡ units_from w n xs ++ units_from (left_by w xs) (n + length xs) ys
 units_on w n [] ys = ap (λ k. units_from w k ys) (omega arith)
-units_on w n (x ∷ xs) ys = ap (λ more. record { number = n; ask = x; end = end_in w x } ∷ more)
+units_on w n (x ∷ xs) ys = ap (λ more. record { number = n; ask = x; end = call_end_in w x } ∷ more)
     (units_on (left_at w x) (suc n) xs ys ∙ ap (λ k. units_from (left_at w x) (suc n) xs ++ units_from (left_by (left_at w x) xs) k ys) (count_on n (length xs)))
 
 pub length_on : (xs ys : List Ask) → suc (length (xs ++ ys)) ≡ suc (length xs) + length ys
@@ -94,7 +94,7 @@ said_all : (t u : Now) (events : List Event) → Said t u events → Said t u (e
 said_all t u events h = rw (append-nil events) h
 
 pub tells_bind : {A B : Type 0} (s : State ℕ Now) (out : Out ℕ Now A) (f : A × State ℕ Now → Out ℕ Now B) (xs : List Event) (g : A → State ℕ Now → List Event)
-    → Tells s out xs → ((x : A × State ℕ Now) → Tells x.1 (f x) (g x.0 x.1)) → Tells s (out >>= f) (xs ++ after out g)
+    → Tells s out xs → ((x : A × State ℕ Now) → Tells x.1 (f x) (g x.0 x.1)) → Tells s (out >>= f) (xs ++ events_after out g)
 tells_bind s (Ok x) f xs g h k = said_on s.rest x.1.rest (end_state (f x)).rest xs (g x.0 x.1) h (k x)
 tells_bind s (Err e) f xs g h k = said_all s.rest e.1.rest xs h
 
@@ -106,12 +106,12 @@ tells_map s (Err e) f xs h k = h
 
 -- the first thing is not seen
 pub tells_next : {A B : Type 0} (s : State ℕ Now) (out : Out ℕ Now A) (f : A × State ℕ Now → Out ℕ Now B) (g : A → State ℕ Now → List Event)
-    → Tells s out [] → ((x : A × State ℕ Now) → Tells x.1 (f x) (g x.0 x.1)) → Tells s (out >>= f) (after out g)
+    → Tells s out [] → ((x : A × State ℕ Now) → Tells x.1 (f x) (g x.0 x.1)) → Tells s (out >>= f) (events_after out g)
 tells_next s out f g h k = tells_bind s out f [] g h k
 
 -- what is done is not seen
 pub tells_end : {A : Type 0} (s : State ℕ Now) (out : Out ℕ Now A) (xs : List Event) (g : A → State ℕ Now → List Event)
-    → Tells s out xs → ((x : A × State ℕ Now) → Said x.1.rest x.1.rest (g x.0 x.1)) → Tells s out (xs ++ after out g)
+    → Tells s out xs → ((x : A × State ℕ Now) → Said x.1.rest x.1.rest (g x.0 x.1)) → Tells s out (xs ++ events_after out g)
 tells_end s (Ok x) xs g h k = said_on s.rest x.1.rest x.1.rest xs (g x.0 x.1) h (k x)
 tells_end s (Err e) xs g h k = said_all s.rest e.1.rest xs h
 

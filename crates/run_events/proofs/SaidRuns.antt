@@ -15,7 +15,7 @@ use Rattle.sequence_rules.proofs.OutcomeLemmas.{over_calls, over_written}
 use Rattle.run_events.specs.Events.{Begins, Assigns, units_from}
 use Rattle.run_events.specs.Laws.{EventsAreTheRun}
 use Rattle.run_events.specs.OfRuns.{at_debugvars, at_sequence, steps_in, sequence_events, debugged_events, run_events, each_turn}
-use Rattle.run_events.specs.OfSteps.{spot_at}
+use Rattle.run_events.specs.OfSteps.{step_spot}
 use Rattle.run_events.proofs.Leaves.{given_is}
 use Rattle.run_events.proofs.Said.{Tells, said_none, also, tells_bind, tells_next, tells_map}
 use Rattle.run_events.proofs.SaidSteps.{tells_steps}
@@ -33,7 +33,7 @@ module _ (turn_us : ℕ) (set : SetTrees) where
   unfolding debugged debugged_events
   tells_debugged [] s = said_none s.rest
   tells_debugged (t.Empty at ∷ code) s = tells_debugged code s
-  tells_debugged (t.Declare name e ∷ code) s = also s.rest _ (Begins (spot_at at_debugvars part.Debugvars name.at) (t.Declare name e)) _ refl refl
+  tells_debugged (t.Declare name e ∷ code) s = also s.rest _ (Begins (step_spot at_debugvars part.Debugvars name.at) (t.Declare name e)) _ refl refl
       (tells_bind s (value (direct false) (λ n q. sequence_at (direct false) turn_us set 0 n q) e s) _ _ _
       (tells_value (λ n q. sequence_at (direct false) turn_us set 0 n q) (λ n q. sequence_events each_turn turn_us set 0 n q) (λ n q. tells_sequence 0 n q) e s)
       (λ x. also x.1.rest _ (Assigns name.text x.0) _ refl refl

@@ -15,7 +15,7 @@ use Rattle.sequence_rules.specs.Machine.{State, Out, end_state}
 use Rattle.sequence_rules.specs.Values.{named, stored, assigned, used_now, of_unary, both, operands, result_of, strict_binary, truth_of, conjunction, disjunction, of_binary, choice, appended, chained, text_of, call_result, call_of, value, argument, arguments}
 use Rattle.sequence_rules.specs.Variables.{visible}
 use Rattle.sequence_rules.proofs.NowLemmas.{numbers_as}
-use Rattle.run_events.specs.Events.{Event, Assigns, Calls, Returns, after}
+use Rattle.run_events.specs.Events.{Event, Assigns, Calls, Returns, events_after}
 use Rattle.run_events.specs.OfValues.{needs_right, called_events, call_events, value_events, argument_events, arguments_events}
 use Rattle.run_events.proofs.Leaves.{tells_function, given_is, stored_same}
 use Rattle.run_events.proofs.Said.{Tells, said_none, said_one, also, tells_bind, tells_map, tells_end, tells_if}
@@ -49,15 +49,15 @@ result_rest (Some n) s = refl
 
 -- ---- operators
 module _ (s : State ℕ Now) (out : Out ℕ Now ℕ) (right : State ℕ Now → Out ℕ Now ℕ) (xs : List Event) (right_seen : State ℕ Now → List Event) (h : Tells s out xs) (k : (r : State ℕ Now) → Tells r (right r) (right_seen r)) where
-  tells_operands : Tells s (operands (direct false) out right) (xs ++ after out (λ n r. right_seen r))
+  tells_operands : Tells s (operands (direct false) out right) (xs ++ events_after out (λ n r. right_seen r))
   unfolding operands both use_now direct
   tells_operands = tells_bind s out _ xs (λ n r. right_seen r) h (λ x. tells_map x.1 (right x.1) _ (right_seen x.1) (k x.1) (λ y. refl))
 
-  tells_strict : (op : BinaryOp) → Tells s (strict_binary (direct false) op out right) (xs ++ after out (λ n r. right_seen r))
+  tells_strict : (op : BinaryOp) → Tells s (strict_binary (direct false) op out right) (xs ++ events_after out (λ n r. right_seen r))
   unfolding strict_binary
   tells_strict op = tells_map s (operands (direct false) out right) _ _ tells_operands (λ x. result_rest _ x.1)
 
-  tells_conjunction : Tells s (conjunction (direct false) out right) (xs ++ after out (λ n r. cond (not (nat_eq n 0)) (right_seen r) []))
+  tells_conjunction : Tells s (conjunction (direct false) out right) (xs ++ events_after out (λ n r. cond (not (nat_eq n 0)) (right_seen r) []))
   unfolding conjunction
   tells_conjunction = rw (used_is out) (tells_bind s out _ xs _ h (λ x. one (nat_eq x.0 0) x.1))
     where
@@ -65,7 +65,7 @@ module _ (s : State ℕ Now) (out : Out ℕ Now ℕ) (right : State ℕ Now → 
       one true r = said_none r.rest
       one false r = tells_truth r (right r) (right_seen r) (k r)
 
-  tells_disjunction : Tells s (disjunction (direct false) out right) (xs ++ after out (λ n r. cond (nat_eq n 0) (right_seen r) []))
+  tells_disjunction : Tells s (disjunction (direct false) out right) (xs ++ events_after out (λ n r. cond (nat_eq n 0) (right_seen r) []))
   unfolding disjunction
   tells_disjunction = rw (used_is out) (tells_bind s out _ xs _ h (λ x. one (nat_eq x.0 0) x.1))
     where
@@ -73,7 +73,7 @@ module _ (s : State ℕ Now) (out : Out ℕ Now ℕ) (right : State ℕ Now → 
       one true r = tells_truth r (right r) (right_seen r) (k r)
       one false r = said_none r.rest
 
-  tells_binary : (op : BinaryOp) → Tells s (of_binary (direct false) op out right) (xs ++ after out (λ n r. cond (needs_right op n) (right_seen r) []))
+  tells_binary : (op : BinaryOp) → Tells s (of_binary (direct false) op out right) (xs ++ events_after out (λ n r. cond (needs_right op n) (right_seen r) []))
   unfolding of_binary
   tells_binary b.And = tells_conjunction
   tells_binary b.Or = tells_disjunction
@@ -81,12 +81,12 @@ module _ (s : State ℕ Now) (out : Out ℕ Now ℕ) (right : State ℕ Now → 
 
 tells_choice : (s : State ℕ Now) (test : Out ℕ Now ℕ) (first second : State ℕ Now → Out ℕ Now ℕ) (xs : List Event) (first_seen second_seen : State ℕ Now → List Event)
     → Tells s test xs → ((r : State ℕ Now) → Tells r (first r) (first_seen r)) → ((r : State ℕ Now) → Tells r (second r) (second_seen r))
-    → Tells s (choice (direct false) test first second) (xs ++ after test (λ n r. cond (nat_eq n 0) (second_seen r) (first_seen r)))
+    → Tells s (choice (direct false) test first second) (xs ++ events_after test (λ n r. cond (nat_eq n 0) (second_seen r) (first_seen r)))
 unfolding choice
 tells_choice s test first second xs first_seen second_seen h k l =
     rw (used_is test) (tells_bind s test _ xs _ h (λ x. tells_if x.1 (nat_eq x.0 0) (second x.1) (first x.1) (second_seen x.1) (first_seen x.1) (l x.1) (k x.1)))
 
-tells_assigned : (name : Name) (s : State ℕ Now) (out : Out ℕ Now ℕ) (xs : List Event) → Tells s out xs → Tells s (assigned (direct false) name out) (xs ++ after out (λ n r. Assigns name.text n ∷ []))
+tells_assigned : (name : Name) (s : State ℕ Now) (out : Out ℕ Now ℕ) (xs : List Event) → Tells s out xs → Tells s (assigned (direct false) name out) (xs ++ events_after out (λ n r. Assigns name.text n ∷ []))
 unfolding assigned
 tells_assigned name s out xs h = tells_bind s out _ xs _ h (λ x. also x.1.rest _ (Assigns name.text x.0) [] refl refl (tells_stored name x.0 x.1))
 
@@ -95,7 +95,7 @@ unfolding appended
 tells_appended got s out xs h = tells_map s out _ xs h (λ x. refl)
 
 tells_chained : (s : State ℕ Now) (first : Out ℕ Now (List ℕ)) (more : List ℕ → State ℕ Now → Out ℕ Now (List ℕ)) (xs : List Event) (more_seen : List ℕ → State ℕ Now → List Event)
-    → Tells s first xs → ((got : List ℕ) (r : State ℕ Now) → Tells r (more got r) (more_seen got r)) → Tells s (chained (direct false) first more) (xs ++ after first more_seen)
+    → Tells s first xs → ((got : List ℕ) (r : State ℕ Now) → Tells r (more got r) (more_seen got r)) → Tells s (chained (direct false) first more) (xs ++ events_after first more_seen)
 unfolding chained
 tells_chained s first more xs more_seen h k = tells_bind s first _ xs more_seen h (λ x. k x.0 x.1)
 
@@ -112,7 +112,7 @@ module _ (seq : List ℕ → State ℕ Now → Out ℕ Now (Unit {0})) (seen : L
   tells_call (Some function) text n s = tells_function function text n s
 
   tells_call_of : (name : Name) (args : ArgTrees) (s : State ℕ Now) (out : Out ℕ Now (List ℕ)) (xs : List Event)
-      → Tells s out xs → Tells s (call_of (direct false) seq name args out) (xs ++ after out (λ n r. call_events seq seen (function_named name.text) (text_of args) n r))
+      → Tells s out xs → Tells s (call_of (direct false) seq name args out) (xs ++ events_after out (λ n r. call_events seq seen (function_named name.text) (text_of args) n r))
   unfolding call_of guarded direct
   tells_call_of name args s out xs k = rw (numbers_as out) (tells_bind s out _ xs _ k (λ x. tells_call (function_named name.text) (text_of args) x.0 x.1))
 

@@ -16,18 +16,18 @@ use Rattle.sequence_rules.specs.Polls.{poll_of}
 use Rattle.sequence_rules.specs.Runs.{as_values}
 use Rattle.sequence_rules.specs.Steps.{counted, turn, statement, condition, step, sequence_at, debugged, start_state}
 use Rattle.sequence_rules.specs.Values.{text_of, argument, arguments, value, stored}
-use Rattle.run_events.specs.Events.{Event, Calls, Returns, after}
-use Rattle.run_events.specs.Laws.{IsPart, ShownAreSeen}
+use Rattle.run_events.specs.Events.{Event, Calls, Returns, events_after}
+use Rattle.run_events.specs.Laws.{IsPartOfEvents, ShownAreSeen}
 use Rattle.run_events.specs.OfRuns.{at_sequence, steps_in, sequence_events, debugged_events, run_events, each_turn}
-use Rattle.run_events.specs.OfSteps.{text_start, spot_at, inner_step, is_last, tested_events, turn_events, turns_events, done_events, statement_events, block_events, condition_events, loop_events, repeat_events, controlled_events, step_events, steps_events}
+use Rattle.run_events.specs.OfSteps.{text_start, step_spot, inner_step, is_last_turn, tested_events, turn_events, turns_events, done_events, statement_events, block_events, condition_events, loop_events, repeat_events, controlled_events, step_events, steps_events}
 use Rattle.run_events.specs.OfValues.{needs_right, called_events, call_events, value_events, argument_events, arguments_events}
 
 -- ---- lists
 
 record Skims (xs ys : List Event) : Type 0 where
-  so : IsPart xs ys
+  so : IsPartOfEvents xs ys
 
-skims : (xs ys : List Event) → IsPart xs ys → Skims xs ys
+skims : (xs ys : List Event) → IsPartOfEvents xs ys → Skims xs ys
 skims xs ys h = record { so = h }
 
 none_of : (ys : List Event) → Skims [] ys
@@ -45,7 +45,7 @@ part_same : (xs : List Event) → Skims xs xs
 part_same [] = none_of []
 part_same (x ∷ xs) = part_first x xs xs (part_same xs)
 
-on_parts : (a b c d : List Event) → IsPart a b → Skims c d → Skims (a ++ c) (b ++ d)
+on_parts : (a b c d : List Event) → IsPartOfEvents a b → Skims c d → Skims (a ++ c) (b ++ d)
 on_parts [] [] c d h k = k
 on_parts (x ∷ a) [] c d h k = absurd h
 on_parts [] (y ∷ b) c d h k = one_more y c (b ++ d) (on_parts [] b c d (none_of b).so k)
@@ -55,7 +55,7 @@ on_parts (x ∷ a) (y ∷ b) c d (inr h) k = (let rest = on_parts (x ∷ a) b c 
 part_on : (a b c d : List Event) → Skims a b → Skims c d → Skims (a ++ c) (b ++ d)
 part_on a b c d h k = on_parts a b c d h.so k
 
-part_after : {A : Type 0} (out : Out ℕ Now A) (f k : A → State ℕ Now → List Event) → ((x : A) (r : State ℕ Now) → Skims (f x r) (k x r)) → Skims (after out f) (after out k)
+part_after : {A : Type 0} (out : Out ℕ Now A) (f k : A → State ℕ Now → List Event) → ((x : A) (r : State ℕ Now) → Skims (f x r) (k x r)) → Skims (events_after out f) (events_after out k)
 part_after (Ok x) f k h = h x.0 x.1
 part_after (Err e) f k h = none_of []
 
@@ -68,8 +68,8 @@ part_kept true xs us h = h
 part_kept false xs us h = none_of us
 
 -- what comes first, and what comes after it
-part_then : {A : Type 0} (xs us : List Event) (out : Out ℕ Now A) (f k : A → State ℕ Now → List Event) → Skims xs us → ((x : A) (r : State ℕ Now) → Skims (f x r) (k x r)) → Skims (xs ++ after out f) (us ++ after out k)
-part_then xs us out f k h l = part_on xs us (after out f) (after out k) h (part_after out f k l)
+part_then : {A : Type 0} (xs us : List Event) (out : Out ℕ Now A) (f k : A → State ℕ Now → List Event) → Skims xs us → ((x : A) (r : State ℕ Now) → Skims (f x r) (k x r)) → Skims (xs ++ events_after out f) (us ++ events_after out k)
+part_then xs us out f k h l = part_on xs us (events_after out f) (events_after out k) h (part_after out f k l)
 
 -- ---- expressions
 
@@ -117,7 +117,7 @@ module _ (shows : ℕ → Bool) (spot : Spot) (test : State ℕ Now → Out ℕ 
   unfolding turns_events
   part_turns made zero s = part_same _
   part_turns made (suc left) s = part_then _ _ (turn (direct false) test body s) _ _
-      (part_kept (shows (suc made) || is_last left (turn (direct false) test body s)) _ _ (part_turn (suc made) s))
+      (part_kept (shows (suc made) || is_last_turn left (turn (direct false) test body s)) _ _ (part_turn (suc made) s))
       (λ more r. part_if more _ _ _ _ (part_turns (suc made) left r) (part_same _))
 
 -- ---- steps
@@ -152,7 +152,7 @@ module _ (shows : ℕ → Bool) (turn_us : ℕ) (seq : List ℕ → State ℕ No
     part_repeat : (o : Option Tree) (timeout : Option ℕ) (steps : CodeSteps) (s : State ℕ Now) → Skims (repeat_events shows turn_us seq shown at o timeout steps body body_shown s) (repeat_events each_turn turn_us seq seen at o timeout steps body body_seen s)
     unfolding repeat_events
     part_repeat None timeout steps s = hb s
-    part_repeat (Some e) timeout steps s = part_first _ _ _ (part_loop (spot_at at part.While text_start) (poll_of e steps) e _ s)
+    part_repeat (Some e) timeout steps s = part_first _ _ _ (part_loop (step_spot at part.While text_start) (poll_of e steps) e _ s)
 
     part_controlled : (cond_tree o : Option Tree) (timeout : Option ℕ) (steps : CodeSteps) (s : State ℕ Now) → Skims (controlled_events shows turn_us seq shown at cond_tree o timeout steps body body_shown s) (controlled_events each_turn turn_us seq seen at cond_tree o timeout steps body body_seen s)
     unfolding controlled_events

@@ -46,21 +46,21 @@ pub data Event : Type 0 where
   Returns : Event
 
 -- what is seen after one thing: nothing where the run is over
-abbrev pub after : {A : Type 0} → Out ℕ Now A → (A → State ℕ Now → List Event) → List Event
-after (Ok x) more = more x.0 x.1
-after (Err e) more = []
+abbrev pub events_after : {A : Type 0} → Out ℕ Now A → (A → State ℕ Now → List Event) → List Event
+events_after (Ok x) more = more x.0 x.1
+events_after (Err e) more = []
 
 -- ---- units
 
 -- how a call ends in a world, none where it is not answered
-abbrev pub end_in : World → Ask → Option CallEnd
-end_in w ask = if is_over w.answered then None else Some (done_now w ask).end
+abbrev pub call_end_in : World → Ask → Option CallEnd
+call_end_in w ask = if is_over w.answered then None else Some (done_now w ask).end
 
 -- calls as units, each made in the world that the one before left, the first with this number
 abbrev pub units_from : World → ℕ → List Ask → List MadeUnit
 units_from w number [] = []
 units_from w number (ask ∷ asks) =
-    record { number = number; ask = ask; end = end_in w ask } ∷ units_from (left_at w ask) (suc number) asks
+    record { number = number; ask = ask; end = call_end_in w ask } ∷ units_from (left_at w ask) (suc number) asks
 
 -- the world that calls leave, answered or not
 abbrev pub left_by : World → List Ask → World
@@ -133,5 +133,5 @@ places_after places (Makes u) = places
 places_after places (Writes line) = places
 
 -- the places that these events reached
-abbrev pub places_of : List Event → List Spot
-places_of events = fold places_after [] events
+abbrev pub places_reached : List Event → List Spot
+places_reached events = fold places_after [] events

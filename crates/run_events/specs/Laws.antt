@@ -18,12 +18,12 @@ abbrev pub EventsAreTheRun : Type 0
 EventsAreTheRun = (w : World) (p : Program) (written : Option (List ℕ)) → IsTheRun w p written
 
 -- the first list is the second one with some events left out
-abbrev pub IsPart : List Event → List Event → Type 0
-IsPart [] [] = ⊤
-IsPart (x ∷ xs) [] = ⊥
-IsPart [] (y ∷ ys) = ⊤
-IsPart (x ∷ xs) (y ∷ ys) = ((x ≡ y) × IsPart xs ys) ⊎ IsPart (x ∷ xs) ys
+abbrev pub IsPartOfEvents : List Event → List Event → Type 0
+IsPartOfEvents [] [] = ⊤
+IsPartOfEvents (x ∷ xs) [] = ⊥
+IsPartOfEvents [] (y ∷ ys) = ⊤
+IsPartOfEvents (x ∷ xs) (y ∷ ys) = ((x ≡ y) × IsPartOfEvents xs ys) ⊎ IsPartOfEvents (x ∷ xs) ys
 
 -- what is shown is what is seen, with some events left out, in the same order
 abbrev pub ShownAreSeen : Type 0
-ShownAreSeen = (shows : ℕ → Bool) (w : World) (p : Program) (written : Option (List ℕ)) → IsPart (events_in shows w p written) (events_in each_turn w p written)
+ShownAreSeen = (shows : ℕ → Bool) (w : World) (p : Program) (written : Option (List ℕ)) → IsPartOfEvents (events_in shows w p written) (events_in each_turn w p written)

@@ -15,7 +15,7 @@ use Rattle.sequence_rules.specs.Machine.{State, Out, end_state}
 use Rattle.sequence_rules.specs.Polls.{poll_of}
 use Rattle.sequence_rules.specs.Steps.{timeout_of, turn_count, counted, inside, turn, poll_result, statement, condition, step, steps_result}
 use Rattle.sequence_rules.specs.Values.{value}
-use Rattle.run_events.specs.Events.{Event, Begins, Tests, Chooses, Loops, Turns, Finds, Leaves, TimesOut, Matches, Assigns, Makes, MadeUnit, after, units_between}
+use Rattle.run_events.specs.Events.{Event, Begins, Tests, Chooses, Loops, Turns, Finds, Leaves, TimesOut, Matches, Assigns, Makes, MadeUnit, events_after, units_between}
 use Rattle.run_events.specs.OfValues.{value_events}
 
 -- ---- places
@@ -25,14 +25,14 @@ abbrev pub text_start : Place
 text_start = record { line = 1; column = 1 }
 
 -- the place in a part of a step
-abbrev pub spot_at : SetStep → Part → Place → Spot
-spot_at at part place = record { sequence = at.sequence; path = at.path; part = part; place = place }
+abbrev pub step_spot : SetStep → Part → Place → Spot
+step_spot at part place = record { sequence = at.sequence; path = at.path; part = part; place = place }
 
 -- where a statement begins: a declaration at the name
-abbrev pub place_of : StmtTree → Place
-place_of (t.Empty at) = at
-place_of (t.Declare name e) = name.at
-place_of (t.Plain at e) = at
+abbrev pub statement_place : StmtTree → Place
+statement_place (t.Empty at) = at
+statement_place (t.Declare name e) = name.at
+statement_place (t.Plain at e) = at
 
 -- the step of this number among the steps inside
 abbrev pub inner_step : SetStep → ℕ → SetStep
@@ -41,9 +41,9 @@ inner_step at number = record { sequence = at.sequence; path = at.path ++ number
 -- ---- loops
 
 -- no turn follows: so many could, after a turn that ends so
-abbrev pub is_last : ℕ → Out ℕ Now Bool → Bool
-is_last left (Ok x) = not x.0 || nat_eq left 0
-is_last left (Err e) = true
+abbrev pub is_last_turn : ℕ → Out ℕ Now Bool → Bool
+is_last_turn left (Ok x) = not x.0 || nat_eq left 0
+is_last_turn left (Err e) = true
 
 -- how a poll ended, by the end of its unit
 abbrev pub poll_end : Spot → ℕ → Option CallEnd → List Event
@@ -69,43 +69,43 @@ module _ (shows : ℕ → Bool) where
       (body : State ℕ Now → Out ℕ Now (Unit {0})) (body_seen : State ℕ Now → List Event) where
     -- the condition of a turn, and where it is not 0 what is done
     unfoldable pub tested_events : State ℕ Now → List Event
-    tested_events s = test_seen s ++ after (test s) (λ n r. Finds spot n ∷ (if nat_eq n 0 then [] else body_seen r))
+    tested_events s = test_seen s ++ events_after (test s) (λ n r. Finds spot n ∷ (if nat_eq n 0 then [] else body_seen r))
 
     -- the turn of this number
     unfoldable pub turn_events : ℕ → State ℕ Now → List Event
-    turn_events number s = Turns spot number ∷ after (counted (direct false) s) (λ done r. tested_events r)
+    turn_events number s = Turns spot number ∷ events_after (counted (direct false) s) (λ done r. tested_events r)
 
     -- at most so many turns, after so many that were made
     unfoldable pub turns_events : ℕ → ℕ → State ℕ Now → List Event
     turns_events made zero s = TimesOut spot made ∷ []
     turns_events made (suc left) s =
-        (if shows (suc made) || is_last left (turn (direct false) test body s) then turn_events (suc made) s else [])
-        ++ after (turn (direct false) test body s) (λ more r. if more then turns_events (suc made) left r else Leaves spot (suc made) ∷ [])
+        (if shows (suc made) || is_last_turn left (turn (direct false) test body s) then turn_events (suc made) s else [])
+        ++ events_after (turn (direct false) test body s) (λ more r. if more then turns_events (suc made) left r else Leaves spot (suc made) ∷ [])
 
   -- ---- steps. `sequence` is what a call of the sequence of a name does, and `seen` what is seen of it.
   module _ (turn_us : ℕ) (sequence : List ℕ → State ℕ Now → Out ℕ Now (Unit {0})) (seen : List ℕ → State ℕ Now → List Event) where
     -- a statement, after it is counted
     unfoldable pub done_events : StmtTree → State ℕ Now → List Event
     done_events (t.Empty at) s = []
-    done_events (t.Declare name e) s = value_events sequence seen e s ++ after (value (direct false) sequence e s) (λ n r. Assigns name.text n ∷ [])
+    done_events (t.Declare name e) s = value_events sequence seen e s ++ events_after (value (direct false) sequence e s) (λ n r. Assigns name.text n ∷ [])
     done_events (t.Plain at e) s = value_events sequence seen e s
 
     -- a statement
     unfoldable pub statement_events : SetStep → StmtTree → State ℕ Now → List Event
-    statement_events at st s = Begins (spot_at at part.Block (place_of st)) st ∷ after (counted (direct false) s) (λ done r. done_events st r)
+    statement_events at st s = Begins (step_spot at part.Block (statement_place st)) st ∷ events_after (counted (direct false) s) (λ done r. done_events st r)
 
     -- statements in order
     unfoldable pub block_events : SetStep → List StmtTree → State ℕ Now → List Event
     block_events at [] s = []
     block_events at (st ∷ code) s =
-        statement_events at st s ++ after (statement (direct false) turn_us sequence st s) (λ done r. block_events at code r)
+        statement_events at st s ++ events_after (statement (direct false) turn_us sequence st s) (λ done r. block_events at code r)
 
     -- the `if` of a control, where it has one
     unfoldable pub condition_events : SetStep → Option Tree → State ℕ Now → List Event
     condition_events at None s = []
     condition_events at (Some e) s =
-        Tests (spot_at at part.If text_start) e ∷ value_events sequence seen e s
-        ++ after (value (direct false) sequence e s) (λ n r. Chooses (spot_at at part.If text_start) n ∷ [])
+        Tests (step_spot at part.If text_start) e ∷ value_events sequence seen e s
+        ++ events_after (value (direct false) sequence e s) (λ n r. Chooses (step_spot at part.If text_start) n ∷ [])
 
     -- a poll, or turns
     unfoldable pub loop_events : Spot → Option (ℕ × ℕ) → Tree → ℕ → (State ℕ Now → Out ℕ Now (Unit {0})) → (State ℕ Now → List Event) → State ℕ Now → List Event
@@ -118,15 +118,15 @@ module _ (shows : ℕ → Bool) where
         → (State ℕ Now → Out ℕ Now (Unit {0})) → (State ℕ Now → List Event) → State ℕ Now → List Event
     repeat_events at None timeout steps body body_seen s = body_seen s
     repeat_events at (Some e) timeout steps body body_seen s =
-        Loops (spot_at at part.While text_start) e (turn_count turn_us (unwrap_or (timeout_of timeout) 0))
-        ∷ loop_events (spot_at at part.While text_start) (poll_of e steps) e (turn_count turn_us (unwrap_or (timeout_of timeout) 0)) body body_seen s
+        Loops (step_spot at part.While text_start) e (turn_count turn_us (unwrap_or (timeout_of timeout) 0))
+        ∷ loop_events (step_spot at part.While text_start) (poll_of e steps) e (turn_count turn_us (unwrap_or (timeout_of timeout) 0)) body body_seen s
 
     -- a control is skipped where its `if` is 0
     unfoldable pub controlled_events : SetStep → Option Tree → Option Tree → Option ℕ → CodeSteps
         → (State ℕ Now → Out ℕ Now (Unit {0})) → (State ℕ Now → List Event) → State ℕ Now → List Event
     controlled_events at cond repeat timeout steps body body_seen s =
         condition_events at cond s
-        ++ after (condition (direct false) turn_us sequence cond s) (λ chosen r. if chosen then repeat_events at repeat timeout steps body body_seen r else [])
+        ++ events_after (condition (direct false) turn_us sequence cond s) (λ chosen r. if chosen then repeat_events at repeat timeout steps body body_seen r else [])
 
     unfoldable mutual
       -- a step
@@ -141,4 +141,4 @@ module _ (shows : ℕ → Bool) where
       steps_events at number c.NoSteps s = []
       steps_events at number (c.MoreSteps first more) s =
           step_events (inner_step at number) first s
-          ++ after (step (direct false) turn_us sequence first s) (λ done r. steps_events at (suc number) more r)
+          ++ events_after (step (direct false) turn_us sequence first s) (λ done r. steps_events at (suc number) more r)

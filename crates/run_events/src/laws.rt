@@ -1,7 +1,7 @@
 //! What follows from the definitions: each law is the contract of a function that does nothing.
 
 ghost use Rattle.run_events.specs.Laws.{EventsAreTheRun, ShownAreSeen};
-ghost use Rattle.run_events.specs.Rows.{Counts, Enters, Waits};
+ghost use Rattle.run_events.specs.Rows.{CountsToThree, Enters, Waits};
 
 /// The units that are seen of a run are its calls, numbered from 1, each with its end after those before it. The lines that are
 /// seen are what it writes.
@@ -16,7 +16,7 @@ pub fn shown_are_seen()
 
 /// The definitions compute: what is seen of runs, worked out by hand.
 pub fn worked_rows()
-    ensures counts { Counts }
+    ensures counts { CountsToThree }
     ensures waits { Waits }
     ensures enters { Enters }
 {}

@@ -8,7 +8,7 @@ use Rattle.sequence_rules.proofs.KnownLemmas.{known_more, knows_more, knows_part
 use Rattle.sequence_meaning.specs.declared.end.DirectEnd.{DirectEnd}
 use Rattle.sequence_meaning.specs.declared.end.Stopped.{Stopped}
 use Rattle.sequence_meaning.specs.declared.held.DirectHeld.{DirectHeld}
-use Rattle.sequence_meaning.specs.Frame.{Keeps, KeepsMade, RunsDirect, RunsWithoutSink}
+use Rattle.sequence_meaning.specs.Frame.{KeepsMade, KeepsMadeAndKnown, RunsDirect, RunsWithoutSink}
 use Rattle.sequence_meaning.specs.Held.{EndsDirect, IsCaused, IsEndCaused, Meaning, MeansDirect}
 
 -- two functions in a row keep what each of them keeps
@@ -17,19 +17,19 @@ made_on first second = record { on = λ w made. second.on w (first.on w made) }
 
 module _ {K : Type 0} {written : K → Option (List ℕ)} where
   -- what uses no sink keeps it
-  pub keeps_made : {a b : DirectHeld} {t u : TargetState} {k : K} → KeepsMade a t b u → Keeps written a t k b u k
+  pub keeps_made : {a b : DirectHeld} {t u : TargetState} {k : K} → KeepsMade a t b u → KeepsMadeAndKnown written a t k b u k
   keeps_made first = record { made = first; knows = λ known knows. knows }
 
   -- two functions in a row keep what each of them keeps
-  pub keeps_on : {a b c : DirectHeld} {t u v : TargetState} {k l m : K} → Keeps written a t k b u l → Keeps written b u l c v m → Keeps written a t k c v m
+  pub keeps_on : {a b c : DirectHeld} {t u v : TargetState} {k l m : K} → KeepsMadeAndKnown written a t k b u l → KeepsMadeAndKnown written b u l c v m → KeepsMadeAndKnown written a t k c v m
   keeps_on first second = record { made = made_on first.made second.made; knows = λ known knows. second.knows known (first.knows known knows) }
 
   -- the same, where the first uses no sink
-  pub keeps_after : {a b c : DirectHeld} {t u v : TargetState} {k l : K} → KeepsMade a t b u → Keeps written b u k c v l → Keeps written a t k c v l
+  pub keeps_after : {a b c : DirectHeld} {t u v : TargetState} {k l : K} → KeepsMade a t b u → KeepsMadeAndKnown written b u k c v l → KeepsMadeAndKnown written a t k c v l
   keeps_after first second = record { made = made_on first second.made; knows = second.knows }
 
   -- the same, where the second uses no sink
-  pub keeps_before : {a b c : DirectHeld} {t u v : TargetState} {k l : K} → Keeps written a t k b u l → KeepsMade b u c v → Keeps written a t k c v l
+  pub keeps_before : {a b c : DirectHeld} {t u v : TargetState} {k l : K} → KeepsMadeAndKnown written a t k b u l → KeepsMade b u c v → KeepsMadeAndKnown written a t k c v l
   keeps_before first second = record { made = made_on first.made second; knows = first.knows }
 
 -- a function without a sink leaves every sink as it is

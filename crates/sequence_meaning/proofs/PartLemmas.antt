@@ -19,7 +19,7 @@ use Rattle.sequence_meaning.specs.declared.end.DirectEnd.TheVariants as end
 use Rattle.sequence_meaning.specs.declared.held.DirectHeld.{DirectHeld}
 use Rattle.sequence_meaning.specs.Answers.{IsFirstPart}
 use Rattle.sequence_meaning.specs.declared.end.Stopped.{Stopped}
-use Rattle.sequence_meaning.specs.Held.{EndsDirect, IsMade, MeansDirect, made_all, state_of, world_at}
+use Rattle.sequence_meaning.specs.Held.{EndsDirect, IsMadeByCalls, MeansDirect, answered_world, made_all, state_of}
 
 abbrev O : Type 0
 O = Out ℕ Now (Unit {0})
@@ -94,7 +94,7 @@ adds_all e (Ok x) now out h = rw h (adds_same now.rest)
 adds_all e (Err stopped) now out h = adds_end e now out h
 
 pub first_part : (ended : Result (Unit {0}) Stopped) (held : DirectHeld) (start target : TargetState) (written : Option (List ℕ)) (out : O) → MeansDirect held.end ended (state_of held target written) out
-    → IsMadeIn (start_world start None) (outcome_of out) → IsMade (start_world start None) held target → IsFirstPart start (outcome_of out) held.calls target written
+    → IsMadeIn (start_world start None) (outcome_of out) → IsMadeByCalls (start_world start None) held target → IsFirstPart start (outcome_of out) held.calls target written
 first_part ended held start target written out h law made =
     let adds = adds_all held.end ended (state_of held target written) out h in
     let calls : (outcome_of out).calls ≡ held.calls ++ adds.more = calls_of_end out ∙ adds.calls in
@@ -120,7 +120,7 @@ no_part p t written =
 
 -- no call was made yet
 pub start_made : (held : DirectHeld) (t : TargetState) (written : Option (List ℕ)) (globals : List (Binding ℕ))
-    → state_of held t written ≡ record { globals = globals; locals = []; units = 0; lines = 0; steps = 0; rest = now_at (start_world t None) written } → IsMade (start_world t None) held t
+    → state_of held t written ≡ record { globals = globals; locals = []; units = 0; lines = 0; steps = 0; rest = now_at (start_world t None) written } → IsMadeByCalls (start_world t None) held t
 start_made held t written globals h = record {
-  world = ap (λ (s : State ℕ Now). made_all (start_world t None) s.rest.calls) h ∙ sym (ap (λ (s : State ℕ Now). world_at t s.rest.world.large) h);
+  world = ap (λ (s : State ℕ Now). made_all (start_world t None) s.rest.calls) h ∙ sym (ap (λ (s : State ℕ Now). answered_world t s.rest.world.large) h);
 }

@@ -35,7 +35,7 @@ use Rattle.sequence_meaning.specs.declared.runner.DirectRunner.{DirectRunner}
 use Rattle.sequence_rules.specs.Known.{Knows, known_part}
 use Rattle.sequence_rules.proofs.NowLemmas.{numbers_as}
 use Rattle.sequence_meaning.proofs.FrameLemmas.{frames}
-use Rattle.sequence_meaning.specs.Held.{EndsDirect, calls_of, made_all, seen, world_at}
+use Rattle.sequence_meaning.specs.Held.{EndsDirect, answered_world, calls_of, made_all, state_seen}
 
 abbrev S : Type 0
 S = State ℕ Now
@@ -297,7 +297,7 @@ broken true (Some xs) (Some ys) text h k = record { part = drop h.0 text; same =
 
 -- the sink fails within a line
 pub line_broken : (known : Bool) (held : DirectHeld) (t : TargetState) (old new : Option (List ℕ)) (text : List ℕ) (n : ℕ) → held.lines < 100000 → AppendsPrefix old new text → Knows known old
-    → Adds (seen known held t new).rest (end_state (line_result (direct false) text n (seen known held t old))).rest
+    → Adds (state_seen known held t new).rest (end_state (line_result (direct false) text n (state_seen known held t old))).rest
 unfolding line_result direct
 line_broken known held t old new text n few h knows =
     let test : nat_lt held.lines 100000 ≡ true = grind arith in
@@ -310,10 +310,10 @@ made_more w [] more = refl
 made_more w (a ∷ calls) more = made_more (next_world w a) calls more
 
 -- one call more
-pub one_made : (w : World) (calls calls2 : List Ask) (t u : TargetState) (large large2 : List ℕ) (ask : Ask) (e : CallEnd) → made_all w calls ≡ world_at t large → calls2 ≡ calls ++ ask ∷ [] → IsDone (call_done t large ask.forgive ask.call) e u large2
-    → made_all w calls2 ≡ world_at u large2
+pub one_made : (w : World) (calls calls2 : List Ask) (t u : TargetState) (large large2 : List ℕ) (ask : Ask) (e : CallEnd) → made_all w calls ≡ answered_world t large → calls2 ≡ calls ++ ask ∷ [] → IsDone (call_done t large ask.forgive ask.call) e u large2
+    → made_all w calls2 ≡ answered_world u large2
 one_made w calls calls2 t u large large2 ask e was more d =
-    ap (made_all w) more ∙ made_more w calls (ask ∷ []) ∙ ap (λ x. next_world x ask) was ∙ ap (λ x. world_at x (call_done t large ask.forgive ask.call).large) d.next_is ∙ ap (world_at u) d.large_is
+    ap (made_all w) more ∙ made_more w calls (ask ∷ []) ∙ ap (λ x. next_world x ask) was ∙ ap (λ x. answered_world x (call_done t large ask.forgive ask.call).large) d.next_is ∙ ap (answered_world u) d.large_is
 
 -- ---- where a function ends in the middle, and what it keeps until then
 

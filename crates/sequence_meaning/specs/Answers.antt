@@ -29,9 +29,9 @@ Records o (d.Faulted unit what) calls skipped target written =
 Records o d.WriteFault calls skipped target written = Unit {0}
 
 -- What is answered, the target and what was written are those of the outcome. Where memory was refused, see `Leaves`.
-abbrev pub Answers : Outcome → Result Recorded OutOfMemory → TargetState → Option (List ℕ) → Type 0
-Answers o (Ok r) target written = Records o r.ending r.calls r.skipped target written
-Answers o (Err e) target written = Unit {0}
+abbrev pub AnswersOutcome : Outcome → Result Recorded OutOfMemory → TargetState → Option (List ℕ) → Type 0
+AnswersOutcome o (Ok r) target written = Records o r.ending r.calls r.skipped target written
+AnswersOutcome o (Err e) target written = Unit {0}
 
 -- So much of a run on a target was done. These calls come first among those of the outcome, and the target is the one that they leave. What was
 -- written comes first in what the outcome has written.

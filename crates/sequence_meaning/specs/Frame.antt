@@ -7,15 +7,15 @@ use Rattle.sequence_rules.specs.Known.{Knows}
 use Rattle.sequence_rules.specs.Machine.{State}
 use Rattle.sequence_meaning.specs.declared.end.Stopped.{Stopped}
 use Rattle.sequence_meaning.specs.declared.held.DirectHeld.{DirectHeld}
-use Rattle.sequence_meaning.specs.Held.{IsCaused, IsMade, Meaning, MeansDirect, seen, state_of}
+use Rattle.sequence_meaning.specs.Held.{IsCaused, IsMadeByCalls, Meaning, MeansDirect, state_of, state_seen}
 
 -- Where the target, and the access ports that are known to have large addresses, are as the calls so far leave them, they are so
 -- afterwards too.
 pub record KeepsMade (old : DirectHeld) (before : TargetState) (new : DirectHeld) (after : TargetState) : Type 0 where
-  pub on : (w : World) → IsMade w old before → IsMade w new after
+  pub on : (w : World) → IsMadeByCalls w old before → IsMadeByCalls w new after
 
 -- The same, and what a sink holds stays known.
-pub record Keeps {K : Type 0} (written : K → Option (List ℕ)) (old : DirectHeld) (before : TargetState) (first : K)
+pub record KeepsMadeAndKnown {K : Type 0} (written : K → Option (List ℕ)) (old : DirectHeld) (before : TargetState) (first : K)
     (new : DirectHeld) (after : TargetState) (last : K) : Type 0 where
   pub made : KeepsMade old before new after
   pub knows : (known : Bool) → Knows known (written first) → Knows known (written last)
@@ -41,8 +41,8 @@ pub record RunsDirect {K A : Type 0} (meaning : Meaning A) (written : K → Opti
     (result : Result A Stopped) : Type 0 where
   -- Whatever is known of what was written, its answer and the state that it leaves are those of the meaning.
   pub gives : (known : Bool) → Knows known (written first)
-      → MeansDirect new.end result (seen known new after (written last)) (meaning (seen known old before (written first)))
+      → MeansDirect new.end result (state_seen known new after (written last)) (meaning (state_seen known old before (written first)))
   -- What holds of the target and is known of the sink goes on.
-  pub keeps : Keeps written old before first new after last
+  pub keeps : KeepsMadeAndKnown written old before first new after last
   -- The sink failed only where its count of faults rose, or stands at its last value; any other end leaves the count.
   pub cause : IsCaused new.end result (faults first) (faults last)

@@ -38,8 +38,8 @@ state_of held target written = record {
 }
 
 -- the same, with what was written where it is asked for
-abbrev pub seen : Bool → DirectHeld → TargetState → Option (List ℕ) → State ℕ Now
-seen known held target written = state_of held target (known_part known written)
+abbrev pub state_seen : Bool → DirectHeld → TargetState → Option (List ℕ) → State ℕ Now
+state_seen known held target written = state_of held target (known_part known written)
 
 -- what comes of a part of a program: from a state, an answer and the state after it, or why nothing more is done
 abbrev pub Meaning : Type 0 → Type 0
@@ -85,12 +85,12 @@ made_all w [] = w
 made_all w (ask ∷ asks) = made_all (next_world w ask) asks
 
 -- this world, in which all calls are answered
-abbrev pub world_at : TargetState → List ℕ → World
-world_at target large = record { target = target; large = large; answered = None }
+abbrev pub answered_world : TargetState → List ℕ → World
+answered_world target large = record { target = target; large = large; answered = None }
 
 -- the target, and the access ports that are known to have large addresses, are as the calls so far leave them
-pub record IsMade (w : World) (held : DirectHeld) (target : TargetState) : Type 0 where
-  pub world : made_all w held.calls ≡ world_at target held.large.items
+pub record IsMadeByCalls (w : World) (held : DirectHeld) (target : TargetState) : Type 0 where
+  pub world : made_all w held.calls ≡ answered_world target held.large.items
 
 -- the sequences of the runner's set, from which calls lead at most so deep
 abbrev pub calls_of : DirectRunner → ℕ → List ℕ → Meaning (Unit {0})

@@ -7,7 +7,7 @@ ghost use Rattle.sequence_meaning.specs.Few.{one_number, two_numbers};
 ghost use Rattle.std.specs.Prelude.{◌≡◌, [], unwrap_or};
 ghost use Rattle.sequence_meaning.specs.Frame.{RunsDirect};
 ghost use Rattle.sequence_meaning.specs.Held.{calls_of, with_answer};
-ghost use Rattle.sequence_meaning.specs.Parts.{argument_of, arguments_of, call_of, function_of, sequence_of, value_after};
+ghost use Rattle.sequence_meaning.specs.Parts.{argument_meaning, arguments_meaning, call_meaning, called_sequence_meaning, function_meaning, value_after};
 ghost use Rattle.expr_grammar.specs.Tree.{arg_tree, arg_trees, tree};
 
 use crate::end::{DirectEnd, Stopped};
@@ -34,7 +34,7 @@ impl DirectRunner<'_> {
         target: &mut Target,
         sink: &mut K,
     ) -> Result<(), Stopped>
-        ensures { RunsDirect (argument_of self.now depth (arg_tree arg.now) numbers.old.items)
+        ensures { RunsDirect (argument_meaning self.now depth (arg_tree arg.now) numbers.old.items)
             K.written K.faults held.old target.old sink.old held.new target.new sink.new (with_answer numbers.new.items result) }
     {
         match arg {
@@ -80,7 +80,7 @@ impl DirectRunner<'_> {
         target: &mut Target,
         sink: &mut K,
     ) -> Result<(), Stopped>
-        ensures { RunsDirect (arguments_of self.now depth (arg_trees args.now) numbers.old.items)
+        ensures { RunsDirect (arguments_meaning self.now depth (arg_trees args.now) numbers.old.items)
             K.written K.faults held.old target.old sink.old held.new target.new sink.new (with_answer numbers.new.items result) }
     {
         for arg in args {
@@ -106,7 +106,7 @@ impl DirectRunner<'_> {
         sink: &mut K,
     ) -> Result<u64, Stopped>
         requires { numbers.old.items ≡ [] }
-        ensures { RunsDirect (call_of self.now depth called.now.name (arg_trees args.now))
+        ensures { RunsDirect (call_meaning self.now depth called.now.name (arg_trees args.now))
             K.written K.faults held.old target.old sink.old held.new target.new sink.new result }
     {
         self.evaluate_arguments(args, numbers, depth, held, target, sink)?;
@@ -133,7 +133,7 @@ impl DirectRunner<'_> {
         target: &mut Target,
         sink: &mut K,
     ) -> Result<u64, Stopped>
-        ensures { RunsDirect (call_of self.now depth called.now.name (arg_trees args.now))
+        ensures { RunsDirect (call_meaning self.now depth called.now.name (arg_trees args.now))
             K.written K.faults held.old target.old sink.old held.new target.new sink.new result }
     {
         let mut numbers = held.take_numbers(self.alloc);
@@ -154,7 +154,7 @@ impl DirectRunner<'_> {
         target: &mut Target,
         sink: &mut K,
     ) -> Result<u64, Stopped>
-        ensures { (at : Place) → RunsDirect (call_of self.now depth called.now.name (one_number at (tree only.now)))
+        ensures { (at : Place) → RunsDirect (call_meaning self.now depth called.now.name (one_number at (tree only.now)))
             K.written K.faults held.old target.old sink.old held.new target.new sink.new result }
     {
         let number = self.evaluate_operand(only, depth, held, target, sink)?;
@@ -175,7 +175,7 @@ impl DirectRunner<'_> {
         sink: &mut K,
     ) -> Result<u64, Stopped>
         ensures { (at later : Place) → RunsDirect
-            (call_of self.now depth called.now.name (two_numbers at (tree first.now) later (tree second.now)))
+            (call_meaning self.now depth called.now.name (two_numbers at (tree first.now) later (tree second.now)))
             K.written K.faults held.old target.old sink.old held.new target.new sink.new result }
     {
         let first = self.evaluate_operand(first, depth, held, target, sink)?;
@@ -202,7 +202,7 @@ impl DirectRunner<'_> {
         target: &mut Target,
         sink: &mut K,
     ) -> Result<u64, Stopped>
-        ensures { RunsDirect (call_of self.now depth called.now.name (arg_trees args.now))
+        ensures { RunsDirect (call_meaning self.now depth called.now.name (arg_trees args.now))
             K.written K.faults held.old target.old sink.old held.new target.new sink.new result }
     {
         match args {
@@ -227,7 +227,7 @@ impl DirectRunner<'_> {
         target: &mut Target,
         sink: &mut K,
     ) -> Result<u64, Stopped>
-        ensures { RunsDirect (function_of self.now depth function text.now numbers.now)
+        ensures { RunsDirect (function_meaning self.now depth function text.now numbers.now)
             K.written K.faults held.old target.old sink.old held.new target.new sink.new result }
     {
         match function {
@@ -248,7 +248,7 @@ impl DirectRunner<'_> {
         target: &mut Target,
         sink: &mut K,
     ) -> Result<u64, Stopped>
-        ensures { RunsDirect (function_of self.now depth (Some Function.Sequence) name.now [])
+        ensures { RunsDirect (function_meaning self.now depth (Some Function.Sequence) name.now [])
             K.written K.faults held.old target.old sink.old held.new target.new sink.new result }
     {
         self.run_named(name, depth, held, target, sink)?;
@@ -295,7 +295,7 @@ impl DirectRunner<'_> {
         target: &mut Target,
         sink: &mut K,
     ) -> Result<(), Stopped>
-        ensures { RunsDirect (sequence_of self.now depth (steps_tree steps.now))
+        ensures { RunsDirect (called_sequence_meaning self.now depth (steps_tree steps.now))
             K.written K.faults held.old target.old sink.old held.new target.new sink.new result }
     {
         let dp = held.globals.dp();

@@ -4,7 +4,7 @@ ghost use Rattle.sequence_rules.specs.Direct.{direct};
 ghost use Rattle.sequence_rules.specs.Steps as m;
 ghost use Rattle.std.specs.Prelude.{◌≤◌, Some, false, option_map};
 ghost use Rattle.sequence_meaning.specs.Frame.{RunsDirect, RunsWithoutSink};
-ghost use Rattle.sequence_meaning.specs.Parts.{condition_of, control_of, inside_of, loop_of, repeat_of, turn_of, turns_of};
+ghost use Rattle.sequence_meaning.specs.Parts.{condition_meaning, control_meaning, inside_meaning, loop_meaning, repeat_meaning, turn_meaning, turns_meaning};
 ghost use Rattle.expr_grammar.specs.Tree.{tree};
 ghost use Rattle.sequence_trees.specs.Trees.{steps_tree};
 
@@ -35,7 +35,7 @@ impl DirectRunner<'_> {
         sink: &mut K,
     ) -> Result<(), Stopped>
         ensures { RunsDirect
-            (control_of self.now depth (option_map tree cond.now) (option_map tree repeat.now) timeout (steps_tree steps.now))
+            (control_meaning self.now depth (option_map tree cond.now) (option_map tree repeat.now) timeout (steps_tree steps.now))
             K.written K.faults held.old target.old sink.old held.new target.new sink.new result }
     {
         if self.test_condition(cond, depth, held, target, sink)? {
@@ -56,7 +56,7 @@ impl DirectRunner<'_> {
         target: &mut Target,
         sink: &mut K,
     ) -> Result<bool, Stopped>
-        ensures { RunsDirect (condition_of self.now depth (option_map tree cond.now))
+        ensures { RunsDirect (condition_meaning self.now depth (option_map tree cond.now))
             K.written K.faults held.old target.old sink.old held.new target.new sink.new result }
     {
         match cond {
@@ -76,7 +76,7 @@ impl DirectRunner<'_> {
         target: &mut Target,
         sink: &mut K,
     ) -> Result<bool, Stopped>
-        ensures { RunsDirect (condition_of self.now depth (Some (tree expr.now)))
+        ensures { RunsDirect (condition_meaning self.now depth (Some (tree expr.now)))
             K.written K.faults held.old target.old sink.old held.new target.new sink.new result }
     {
         let number = self.evaluate(expr, depth, held, target, sink)?;
@@ -96,7 +96,7 @@ impl DirectRunner<'_> {
         target: &mut Target,
         sink: &mut K,
     ) -> Result<(), Stopped>
-        ensures { RunsDirect (repeat_of self.now depth (option_map tree repeat.now) timeout (steps_tree steps.now))
+        ensures { RunsDirect (repeat_meaning self.now depth (option_map tree repeat.now) timeout (steps_tree steps.now))
             K.written K.faults held.old target.old sink.old held.new target.new sink.new result }
     {
         match repeat {
@@ -128,7 +128,7 @@ impl DirectRunner<'_> {
     ) -> Result<(), Stopped>
         requires least { 1 ≤ count }
         requires most { count ≤ 60000000 }
-        ensures { RunsDirect (loop_of self.now depth (tree expr.now) count (steps_tree steps.now))
+        ensures { RunsDirect (loop_meaning self.now depth (tree expr.now) count (steps_tree steps.now))
             K.written K.faults held.old target.old sink.old held.new target.new sink.new result }
     {
         match poll_of(expr, steps) {
@@ -150,7 +150,7 @@ impl DirectRunner<'_> {
         target: &mut Target,
         sink: &mut K,
     ) -> Result<(), Stopped>
-        ensures { RunsDirect (turns_of self.now depth (tree expr.now) count (steps_tree steps.now))
+        ensures { RunsDirect (turns_meaning self.now depth (tree expr.now) count (steps_tree steps.now))
             K.written K.faults held.old target.old sink.old held.new target.new sink.new result }
     {
         let mut left = count;
@@ -175,7 +175,7 @@ impl DirectRunner<'_> {
         target: &mut Target,
         sink: &mut K,
     ) -> Result<bool, Stopped>
-        ensures { RunsDirect (turn_of self.now depth (tree expr.now) (steps_tree steps.now))
+        ensures { RunsDirect (turn_meaning self.now depth (tree expr.now) (steps_tree steps.now))
             K.written K.faults held.old target.old sink.old held.new target.new sink.new result }
     {
         match count_step(held) {
@@ -204,7 +204,7 @@ impl DirectRunner<'_> {
         target: &mut Target,
         sink: &mut K,
     ) -> Result<(), Stopped>
-        ensures { RunsDirect (inside_of self.now depth (steps_tree steps.now))
+        ensures { RunsDirect (inside_meaning self.now depth (steps_tree steps.now))
             K.written K.faults held.old target.old sink.old held.new target.new sink.new result }
     {
         let count = held.local_count();

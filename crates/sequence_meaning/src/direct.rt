@@ -8,9 +8,9 @@ ghost use Rattle.sequence_rules.specs.Direct.{Now};
 ghost use Rattle.sequence_rules.specs.Laws.{IsMadeIn};
 ghost use Rattle.sequence_rules.specs.Machine.{Out, end_state};
 ghost use Rattle.sequence_rules.specs.Runs.{outcome, outcome_of, program_of, units_of};
-ghost use Rattle.sequence_meaning.specs.Answers.{Answers, AnswersDirect, IsDirectCaused, IsRecordedCaused, Leaves, LeavesSome, Records};
+ghost use Rattle.sequence_meaning.specs.Answers.{AnswersDirect, AnswersOutcome, IsDirectCaused, IsRecordedCaused, Leaves, LeavesSome, Records};
 ghost use Rattle.sequence_rules.specs.Known.{Knows, known_part};
-ghost use Rattle.sequence_meaning.specs.Held.{IsCaused, IsMade, MeansDirect, state_of};
+ghost use Rattle.sequence_meaning.specs.Held.{IsCaused, IsMadeByCalls, MeansDirect, state_of};
 
 use crate::end::{DirectEnd, Stopped};
 use crate::ended::{Direct, Recorded};
@@ -61,11 +61,11 @@ fn record_run(
 ) -> Result<Recorded, OutOfMemory>
     ensures answer { (target : TargetState) (written : Option (List ℕ)) (out : Out ℕ Now (Unit {0}))
         → MeansDirect held.end ended (state_of held target written) out → (end_state out).units ≡ units_of (outcome_of out)
-        → Answers (outcome_of out) result target written }
+        → AnswersOutcome (outcome_of out) result target written }
     ensures cause { (before now : ℕ) → IsCaused held.end ended before now → IsRecordedCaused result before now }
     ensures part { (start target : TargetState) (written : Option (List ℕ)) (out : Out ℕ Now (Unit {0}))
         → MeansDirect held.end ended (state_of held target written) out → IsMadeIn (start_world start None) (outcome_of out)
-        → IsMade (start_world start None) held target → Leaves start (outcome_of out) result target written }
+        → IsMadeByCalls (start_world start None) held target → Leaves start (outcome_of out) result target written }
 {
     let ending = match ending_of(alloc, ended, &held) {
         Ok(ending) => ending,
@@ -96,7 +96,7 @@ pub fn run_recorded<K: Sink>(
     requires names { map (λ variable. variable.name) settings.now.start ≡ predefined }
     // What is answered, the target and the lines are those of the outcome: Done, Halted or Faulted, the variables, the calls and the skips.
     ensures answer { (known : Bool) → Knows known (K.written sink.old)
-        → Answers
+        → AnswersOutcome
         (outcome (program_of (checked_trees checked.now) start.now settings.now) target.old (known_part known (K.written sink.old)))
         result target.new (known_part known (K.written sink.new)) }
     // `WriteFault` comes only where the sink's count of faults rose, or is at its last value, and any other answer leaves the count.

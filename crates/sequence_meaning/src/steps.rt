@@ -5,7 +5,7 @@ ghost use Rattle.sequence_rules.specs.Direct.{direct};
 ghost use Rattle.sequence_rules.specs.Steps as m;
 ghost use Rattle.std.specs.Prelude.{false};
 ghost use Rattle.sequence_meaning.specs.Frame.{RunsDirect, RunsWithoutSink};
-ghost use Rattle.sequence_meaning.specs.Parts.{block_of, declaration_of, plain_of, statement_of, step_of, steps_of};
+ghost use Rattle.sequence_meaning.specs.Parts.{block_meaning, declaration_meaning, plain_meaning, statement_meaning, step_meaning, steps_meaning};
 ghost use Rattle.expr_grammar.specs.Tree.{code_trees, stmt_tree, tree};
 
 use crate::end::{DirectEnd, Stopped};
@@ -29,7 +29,7 @@ impl DirectRunner<'_> {
         target: &mut Target,
         sink: &mut K,
     ) -> Result<(), Stopped>
-        ensures { RunsDirect (steps_of self.now depth (steps_tree steps.now))
+        ensures { RunsDirect (steps_meaning self.now depth (steps_tree steps.now))
             K.written K.faults held.old target.old sink.old held.new target.new sink.new result }
     {
         for one in steps {
@@ -52,7 +52,7 @@ impl DirectRunner<'_> {
         target: &mut Target,
         sink: &mut K,
     ) -> Result<(), Stopped>
-        ensures { RunsDirect (step_of self.now depth (step_tree one.now))
+        ensures { RunsDirect (step_meaning self.now depth (step_tree one.now))
             K.written K.faults held.old target.old sink.old held.new target.new sink.new result }
     {
         match one {
@@ -86,7 +86,7 @@ impl DirectRunner<'_> {
         target: &mut Target,
         sink: &mut K,
     ) -> Result<(), Stopped>
-        ensures { RunsDirect (block_of self.now depth (code_trees code.now))
+        ensures { RunsDirect (block_meaning self.now depth (code_trees code.now))
             K.written K.faults held.old target.old sink.old held.new target.new sink.new result }
     {
         for one in code {
@@ -109,7 +109,7 @@ impl DirectRunner<'_> {
         target: &mut Target,
         sink: &mut K,
     ) -> Result<(), Stopped>
-        ensures { RunsDirect (statement_of self.now depth (stmt_tree one.now))
+        ensures { RunsDirect (statement_meaning self.now depth (stmt_tree one.now))
             K.written K.faults held.old target.old sink.old held.new target.new sink.new result }
     {
         match one {
@@ -130,7 +130,7 @@ impl DirectRunner<'_> {
         target: &mut Target,
         sink: &mut K,
     ) -> Result<(), Stopped>
-        ensures { RunsDirect (declaration_of self.now depth name.now (tree expr.now))
+        ensures { RunsDirect (declaration_meaning self.now depth name.now (tree expr.now))
             K.written K.faults held.old target.old sink.old held.new target.new sink.new result }
     {
         match count_step(held) {
@@ -160,7 +160,7 @@ impl DirectRunner<'_> {
         target: &mut Target,
         sink: &mut K,
     ) -> Result<(), Stopped>
-        ensures { RunsDirect (plain_of self.now depth (tree expr.now))
+        ensures { RunsDirect (plain_meaning self.now depth (tree expr.now))
             K.written K.faults held.old target.old sink.old held.new target.new sink.new result }
     {
         match count_step(held) {

@@ -2,7 +2,7 @@
 ghost use Rattle.expr_grammar.specs.Arithmetic.{truth};
 ghost use Rattle.std.specs.Prelude.{◌≡◌};
 ghost use Rattle.sequence_meaning.specs.Frame.{RunsDirect};
-ghost use Rattle.sequence_meaning.specs.Parts.{and_of, assignment_of, binary_of, choice_of, or_of, strict_of, unary_of, value_of};
+ghost use Rattle.sequence_meaning.specs.Parts.{and_meaning, assignment_meaning, binary_meaning, choice_meaning, or_meaning, strict_meaning, unary_meaning, value_meaning};
 ghost use Rattle.expr_grammar.specs.Tree.{tree};
 
 use crate::end::{DirectEnd, Stopped};
@@ -24,7 +24,7 @@ impl DirectRunner<'_> {
         target: &mut Target,
         sink: &mut K,
     ) -> Result<u64, Stopped>
-        ensures { RunsDirect (value_of self.now depth (tree expr.now))
+        ensures { RunsDirect (value_meaning self.now depth (tree expr.now))
             K.written K.faults held.old target.old sink.old held.new target.new sink.new result }
     {
         match expr {
@@ -63,7 +63,7 @@ impl DirectRunner<'_> {
         target: &mut Target,
         sink: &mut K,
     ) -> Result<u64, Stopped>
-        ensures { RunsDirect (value_of self.now depth (tree expr.now))
+        ensures { RunsDirect (value_meaning self.now depth (tree expr.now))
             K.written K.faults held.old target.old sink.old held.new target.new sink.new result }
     {
         match expr {
@@ -85,7 +85,7 @@ impl DirectRunner<'_> {
         target: &mut Target,
         sink: &mut K,
     ) -> Result<u64, Stopped>
-        ensures { RunsDirect (unary_of self.now depth op (tree operand.now))
+        ensures { RunsDirect (unary_meaning self.now depth op (tree operand.now))
             K.written K.faults held.old target.old sink.old held.new target.new sink.new result }
     {
         let number = self.evaluate(operand, depth, held, target, sink)?;
@@ -105,7 +105,7 @@ impl DirectRunner<'_> {
         target: &mut Target,
         sink: &mut K,
     ) -> Result<u64, Stopped>
-        ensures { RunsDirect (strict_of self.now depth op (tree left.now) (tree right.now))
+        ensures { RunsDirect (strict_meaning self.now depth op (tree left.now) (tree right.now))
             K.written K.faults held.old target.old sink.old held.new target.new sink.new result }
     {
         let left = self.evaluate_operand(left, depth, held, target, sink)?;
@@ -131,7 +131,7 @@ impl DirectRunner<'_> {
         target: &mut Target,
         sink: &mut K,
     ) -> Result<u64, Stopped>
-        ensures { RunsDirect (and_of self.now depth (tree left.now) (tree right.now))
+        ensures { RunsDirect (and_meaning self.now depth (tree left.now) (tree right.now))
             K.written K.faults held.old target.old sink.old held.new target.new sink.new result }
     {
         if self.evaluate(left, depth, held, target, sink)? == 0 {
@@ -153,7 +153,7 @@ impl DirectRunner<'_> {
         target: &mut Target,
         sink: &mut K,
     ) -> Result<u64, Stopped>
-        ensures { RunsDirect (or_of self.now depth (tree left.now) (tree right.now))
+        ensures { RunsDirect (or_meaning self.now depth (tree left.now) (tree right.now))
             K.written K.faults held.old target.old sink.old held.new target.new sink.new result }
     {
         if self.evaluate(left, depth, held, target, sink)? != 0 {
@@ -176,7 +176,7 @@ impl DirectRunner<'_> {
         target: &mut Target,
         sink: &mut K,
     ) -> Result<u64, Stopped>
-        ensures { RunsDirect (binary_of self.now depth op (tree left.now) (tree right.now))
+        ensures { RunsDirect (binary_meaning self.now depth op (tree left.now) (tree right.now))
             K.written K.faults held.old target.old sink.old held.new target.new sink.new result }
     {
         match op {
@@ -199,7 +199,7 @@ impl DirectRunner<'_> {
         target: &mut Target,
         sink: &mut K,
     ) -> Result<u64, Stopped>
-        ensures { RunsDirect (choice_of self.now depth (tree test.now) (tree first.now) (tree second.now))
+        ensures { RunsDirect (choice_meaning self.now depth (tree test.now) (tree first.now) (tree second.now))
             K.written K.faults held.old target.old sink.old held.new target.new sink.new result }
     {
         if self.evaluate(test, depth, held, target, sink)? == 0 {
@@ -221,7 +221,7 @@ impl DirectRunner<'_> {
         target: &mut Target,
         sink: &mut K,
     ) -> Result<u64, Stopped>
-        ensures { RunsDirect (assignment_of self.now depth name.now (tree right.now))
+        ensures { RunsDirect (assignment_meaning self.now depth name.now (tree right.now))
             K.written K.faults held.old target.old sink.old held.new target.new sink.new result }
     {
         let number = self.evaluate(right, depth, held, target, sink)?;

@@ -5,7 +5,7 @@ use Rattle.std.proofs.lemmas.List.{length-set, get_or-set_same, get_or-set_other
 use Rattle.std.proofs.lemmas.Bool.{eq-eqb, eqb-true}
 use Rattle.std.specs.List.{list_any}
 use Rattle.seq_check.specs.declared.step_calls.StepCall.{StepCall}
-use Rattle.set_warnings.specs.Sequences.{is_called, marked, all_marked, AreCalledFlags}
+use Rattle.set_warnings.specs.Sequences.{is_called, flags_with_call, all_marked, AreCalledFlags}
 use Rattle.dap_base.proofs.Basics.{or_any, or_none}
 
 -- one mark
@@ -17,14 +17,14 @@ one_mark flags k i h = go (k == i) refl where
 
 length-marked : (flags : List Bool) (calls : List StepCall) → length (all_marked flags calls) ≡ length flags
 length-marked flags [] = refl
-length-marked flags (c ∷ calls) = length-marked (marked flags c) calls ∙ length-set flags c.callee true
+length-marked flags (c ∷ calls) = length-marked (flags_with_call flags c) calls ∙ length-set flags c.callee true
 
 -- the marks of the calls of one sequence
 list_marks : (flags : List Bool) (calls : List StepCall) (i : ℕ) → i < length flags → get_or (all_marked flags calls) i false ≡ (get_or flags i false || list_any (λ c. c.callee == i) calls)
 list_marks flags [] i h = or_none (get_or flags i false)
 list_marks flags (c ∷ calls) i h =
-    let within : i < length (marked flags c) = omega (arith, h, length-set flags c.callee true) in
-    list_marks (marked flags c) calls i within ∙ ap (λ b. b || list_any (λ d. d.callee == i) calls) (one_mark flags c.callee i h)
+    let within : i < length (flags_with_call flags c) = omega (arith, h, length-set flags c.callee true) in
+    list_marks (flags_with_call flags c) calls i within ∙ ap (λ b. b || list_any (λ d. d.callee == i) calls) (one_mark flags c.callee i h)
     ∙ or_assoc (get_or flags i false) (c.callee == i) (list_any (λ d. d.callee == i) calls)
 
 length-all : (flags : List Bool) (lists : List (List StepCall)) → length (fold all_marked flags lists) ≡ length flags

@@ -14,7 +14,7 @@ use Rattle.seq_check.specs.Calls.{set_calls}
 use Rattle.seq_check.specs.Valid.{IsSound, IsValid}
 use Rattle.set_warnings.specs.declared.warning.Warning.{Warning}
 use Rattle.set_warnings.specs.Sequences.{is_called, entry_warnings, entries_warnings}
-use Rattle.set_warnings.specs.Answers.{AreSetWarnings, valid, faulty, IsFaulty}
+use Rattle.set_warnings.specs.Answers.{AreSetWarnings, valid, faulty, HasSetFault}
 
 -- ---- sequences
 
@@ -52,10 +52,10 @@ pub only_list : (set : SeqSet) (r : Result (List Warning) OutOfMemory) → IfOk 
 only_list set (Ok x) are other is = one_list set x other are is
 only_list set (Err e) are other is = tt
 
-pub faulty_list : (set : SeqSet) (none : List Warning) → IsFaulty set → none ≡ [] → AreSetWarnings set none
+pub faulty_list : (set : SeqSet) (none : List Warning) → HasSetFault set → none ≡ [] → AreSetWarnings set none
 faulty_list set none f is = faulty f.0 f.1 f.2 is
 
-pub only_faulty : (set : SeqSet) (none : List Warning) → IsFaulty set → none ≡ [] → (other : List Warning) → AreSetWarnings set other → none ≡ other
+pub only_faulty : (set : SeqSet) (none : List Warning) → HasSetFault set → none ≡ [] → (other : List Warning) → AreSetWarnings set other → none ≡ other
 only_faulty set none f is other are = one_list set none other (faulty_list set none f is) are
 
 -- the trees that were read are those of the valid set

@@ -17,5 +17,5 @@ pub data AreSetWarnings (set : SeqSet) (warnings : List Warning) : Type 0 where
 -- ---- what private contracts cite
 
 -- the set has a fault
-abbrev pub IsFaulty : SeqSet → Type 0
-IsFaulty set = (kind : FaultKind) × (spot : Spot) × IsFirstFaultOf set kind spot
+abbrev pub HasSetFault : SeqSet → Type 0
+HasSetFault set = (kind : FaultKind) × (spot : Spot) × IsFirstFaultOf set kind spot

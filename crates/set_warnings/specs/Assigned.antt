@@ -9,8 +9,8 @@ use Rattle.set_warnings.specs.declared.warning.WarningKind.TheVariants as k
 use Rattle.set_warnings.specs.Sites.{PartAt, warning_at}
 
 -- an assignment to this name, where it is one of these variables
-abbrev pub assigned : List (List ℕ) → PartAt → Name → List Warning
-assigned vars at name = if has_name vars name.text then warning_at k.AssignedDebugVariable at name.at (Some name.text) ∷ [] else []
+abbrev pub assignment_warnings : List (List ℕ) → PartAt → Name → List Warning
+assignment_warnings vars at name = if has_name vars name.text then warning_at k.AssignedDebugVariable at name.at (Some name.text) ∷ [] else []
 
 -- the assignments in an expression to one of these variables, in the order of the text
 abbrev mutual
@@ -21,7 +21,7 @@ abbrev mutual
   tree_warnings vars at (Unary op a) = tree_warnings vars at a
   tree_warnings vars at (Binary op a b) = tree_warnings vars at a ++ tree_warnings vars at b
   tree_warnings vars at (Cond c a b) = tree_warnings vars at c ++ (tree_warnings vars at a ++ tree_warnings vars at b)
-  tree_warnings vars at (Assign name a) = assigned vars at name ++ tree_warnings vars at a
+  tree_warnings vars at (Assign name a) = assignment_warnings vars at name ++ tree_warnings vars at a
   tree_warnings vars at (Call called args) = args_warnings vars at args
 
   -- those of an argument

@@ -13,7 +13,7 @@ use Rattle.seq_check.specs.Calls.{set_calls}
 use Rattle.set_warnings.specs.declared.warning.Warning.{Warning}
 use Rattle.set_warnings.specs.declared.warning.WarningKind.TheVariants as k
 use Rattle.set_warnings.specs.Sites.{warning_at}
-use Rattle.set_warnings.specs.Steps.{at_part, steps_warnings}
+use Rattle.set_warnings.specs.Steps.{part_at_path, steps_warnings}
 
 -- the names of the sequences that a debugger starts by itself
 abbrev pub predefined_sequences : List (List ℕ)
@@ -34,7 +34,7 @@ is_called calls number = list_any (λ list. list_any (λ call. call.callee == nu
 -- a sequence itself, where nothing calls it and no debugger starts it
 abbrev pub uncalled_warnings : Bool → List ℕ → List Warning
 uncalled_warnings called name =
-    if is_predefined name || called then [] else warning_at k.UncalledSequence (at_part name [] parts.Control) no_place None ∷ []
+    if is_predefined name || called then [] else warning_at k.UncalledSequence (part_at_path name [] parts.Control) no_place None ∷ []
 
 -- the names of the debug variables
 abbrev pub debug_variables : SetTrees → List (List ℕ)
@@ -57,12 +57,12 @@ entries_warnings trees number (e ∷ es) = entry_warnings trees (is_called (set_
 -- ---- what private contracts cite
 
 -- the flags, and that of the sequence that is called
-abbrev pub marked : List Bool → StepCall → List Bool
-marked flags call = set flags call.callee true
+abbrev pub flags_with_call : List Bool → StepCall → List Bool
+flags_with_call flags call = set flags call.callee true
 
 -- the flags, and those of the sequences that these calls call
 abbrev pub all_marked : List Bool → List StepCall → List Bool
-all_marked flags calls = fold marked flags calls
+all_marked flags calls = fold flags_with_call flags calls
 
 -- for each of the first so many sequences whether one of these calls is of it
 pub record AreCalledFlags (calls : List (List StepCall)) (count : ℕ) (flags : List Bool) : Type 0 where

@@ -10,8 +10,8 @@ use Rattle.set_warnings.specs.Assigned.{block_warnings, condition_warnings}
 use Rattle.set_warnings.specs.Waits.{long_warnings, wait_warnings}
 
 -- this part of the step at the path
-abbrev pub at_part : List ℕ → List ℕ → Part → PartAt
-at_part sequence path part = record { sequence = sequence; path = path; part = part }
+abbrev pub part_at_path : List ℕ → List ℕ → Part → PartAt
+part_at_path sequence path part = record { sequence = sequence; path = path; part = part }
 
 -- what a `while` has itself: a wait by a name, and the variables that it assigns
 abbrev pub while_warnings : List (List ℕ) → PartAt → Option Tree → CodeSteps → List Warning
@@ -20,14 +20,14 @@ while_warnings vars at repeat steps = wait_warnings at repeat steps ++ condition
 -- what a control has itself: of its form, of its `if`, of its `while`
 abbrev pub own_warnings : List (List ℕ) → List ℕ → List ℕ → Option Tree → Option Tree → Option ℕ → CodeSteps → List Warning
 own_warnings vars sequence path cond repeat timeout steps =
-    long_warnings (at_part sequence path parts.Control) repeat timeout
-    ++ (condition_warnings vars (at_part sequence path parts.If) cond ++ while_warnings vars (at_part sequence path parts.While) repeat steps)
+    long_warnings (part_at_path sequence path parts.Control) repeat timeout
+    ++ (condition_warnings vars (part_at_path sequence path parts.If) cond ++ while_warnings vars (part_at_path sequence path parts.While) repeat steps)
 
 -- the warnings of steps, and of the steps inside them
 abbrev mutual
   -- of the step at the path of this sequence, where these are the debug variables
   pub step_warnings : List (List ℕ) → List ℕ → List ℕ → CodeStep → List Warning
-  step_warnings vars sequence path (Block code) = block_warnings vars (at_part sequence path parts.Block) code
+  step_warnings vars sequence path (Block code) = block_warnings vars (part_at_path sequence path parts.Block) code
   step_warnings vars sequence path (Control cond repeat timeout steps) =
       own_warnings vars sequence path cond repeat timeout steps ++ steps_warnings vars sequence path 0 steps
 

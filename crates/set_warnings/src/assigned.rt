@@ -2,7 +2,7 @@
 ghost use Rattle.std.specs.Prelude.{◌≡◌, ◌++◌, OnOk, option_map};
 ghost use Rattle.expr_grammar.specs.Tree.{tree, arg_tree, arg_trees, stmt_tree, code_trees};
 ghost use Rattle.set_warnings.specs.Sites.{part_at};
-ghost use Rattle.set_warnings.specs.Assigned.{assigned, tree_warnings, arg_warnings, args_warnings, statement_warnings, block_warnings, condition_warnings};
+ghost use Rattle.set_warnings.specs.Assigned.{assignment_warnings, tree_warnings, arg_warnings, args_warnings, statement_warnings, block_warnings, condition_warnings};
 
 use crate::site::{Site, add_warning};
 use crate::warning::{Warning, WarningKind};
@@ -19,7 +19,7 @@ fn add_assigned(
     name: &Name,
     found: &mut ItemList<Warning>,
 ) -> Result<(), OutOfMemory>
-    ensures { OnOk result (found.new ≡ found.old ++ assigned vars.now (part_at site.entry) name.now) }
+    ensures { OnOk result (found.new ≡ found.old ++ assignment_warnings vars.now (part_at site.entry) name.now) }
 {
     if !vars.has(name.text.as_str()) {
         return Ok(());

@@ -3,7 +3,7 @@ ghost use Rattle.std.specs.Prelude.{◌≡◌, true, false, IfOk, map};
 ghost use Rattle.std.specs.List.{IsDistinct};
 ghost use Rattle.std.specs.Str.{bytes_eq};
 ghost use Rattle.seq_check.specs.Valid.{IsValid};
-ghost use Rattle.set_warnings.specs.Answers.{AreSetWarnings, IsFaulty};
+ghost use Rattle.set_warnings.specs.Answers.{AreSetWarnings, HasSetFault};
 
 use crate::sequences::sequences_warnings;
 use crate::warning::Warning;
@@ -16,7 +16,7 @@ use std::alloc::Global;
 fn is_valid(alloc: Global, set: &SeqSet) -> Result<bool, OutOfMemory>
     requires { IsDistinct bytes_eq (map (λ e. e.name) set.now.entries) }
     ensures valid { IfOk result (λ valid. valid ≡ true → IsValid set.now) }
-    ensures faulty { IfOk result (λ valid. valid ≡ false → IsFaulty set.now) }
+    ensures faulty { IfOk result (λ valid. valid ≡ false → HasSetFault set.now) }
 {
     match check(alloc, set) {
         Ok(_) => Ok(true),

@@ -4,7 +4,7 @@ ghost use Rattle.expr_grammar.specs.Tree.{tree, code_trees};
 ghost use Rattle.sequence_trees.specs.declared.spot.Part.TheVariants as parts;
 ghost use Rattle.sequence_trees.specs.Trees.{step_tree, steps_tree};
 ghost use Rattle.set_warnings.specs.Assigned.{block_warnings};
-ghost use Rattle.set_warnings.specs.Steps.{at_part, own_warnings, step_warnings, steps_warnings};
+ghost use Rattle.set_warnings.specs.Steps.{own_warnings, part_at_path, step_warnings, steps_warnings};
 
 use crate::assigned::{add_block, add_condition};
 use crate::site::Site;

@@ -10,7 +10,7 @@ use Rattle.target_calls.specs.World.{AtLeast, World, fewer, skips, stop, world_a
 use Rattle.target_calls.specs.declared.calls.Ask.{Ask}
 use Rattle.target_calls.proofs.MarkLemmas.{length_marked, skips_marked}
 use Rattle.target_calls.proofs.WorldLemmas.{whole_after, whole_least}
-use Rattle.access_calls.specs.Left.{answered_at, answered_cut}
+use Rattle.access_calls.specs.Left.{answered_at_end, answered_cut}
 use Rattle.access_calls.specs.declared.ended.Ended.{Ended}
 use Rattle.access_calls.specs.declared.ended.Ending.{Ending}
 use Rattle.access_calls.specs.declared.ended.Ending.TheVariants as ending
@@ -27,37 +27,37 @@ use Rattle.sequels.specs.Sequel.{Comes, Sequel, comes}
 use Rattle.sequels.specs.Limits.{GoesOnFrom}
 use Rattle.sequels.specs.declared.close.Close.{Close}
 use Rattle.sequels.proofs.SequelLemmas.{stops_by_end}
-use Rattle.followed_runs.specs.Followed.{faulted_last, joined, stopped_by}
+use Rattle.followed_runs.specs.Followed.{faulted_last, joined_outcome, stopped_by}
 use Rattle.control_flow.specs.Answers as answers
-use Rattle.control_flow.specs.Answers.{EndsAs, EndsAtCut, IsAll, IsFaulted, IsPart, Ran, SharesCalls, StopsAfter, ran}
+use Rattle.control_flow.specs.Answers.{EndsAtCut, EndsAtFault, IsAll, IsPartOfOutcome, Ran, RunEndsAs, SharesCalls, StopsAfter, ran}
 use Rattle.control_flow.specs.Closing.{ComesToEnd}
-use Rattle.task_runs.specs.Following.{CameToEnd, CutOff, EndIs, FollowsAs, IsClosed, LeftOff, Shares, StopsAt}
+use Rattle.task_runs.specs.Following.{CameToEnd, ClosingEndIs, FollowsAs, LeftInMiddle, SequelIsCutOff, SequelStopsAt, Shares, TaskIsClosed}
 use Rattle.task_runs.specs.declared.following.Closed.{Closed}
 use Rattle.task_runs.specs.declared.following.Unclosed.{Unclosed}
 use Rattle.task_runs.specs.declared.following.Unclosed.TheVariants as unclosed
 use Rattle.task_runs.specs.declared.task.TaskEnded.{TaskEnded}
 
 -- calls that end by a fault are neither done nor halted
-not_whole : (calls : List Ask) → answers.IsWhole (faulted_last calls) → ⊥
+not_whole : (calls : List Ask) → answers.EndsWhole (faulted_last calls) → ⊥
 not_whole [] h = h
 not_whole (a ∷ []) h = h
 not_whole (a ∷ b ∷ calls) h = not_whole (b ∷ calls) h
 
 -- nor are calls that stop
-never_whole : (answered : Option ℕ) (calls : List Ask) → answers.IsWhole (stopped_by answered calls) → ⊥
+never_whole : (answered : Option ℕ) (calls : List Ask) → answers.EndsWhole (stopped_by answered calls) → ⊥
 never_whole None calls h = not_whole calls h
 never_whole (Some n) calls h = one (nat_lt n (length calls)) h
   where
-    one : (b : Bool) → answers.IsWhole (cond b runs.Unanswered (faulted_last calls)) → ⊥
+    one : (b : Bool) → answers.EndsWhole (cond b runs.Unanswered (faulted_last calls)) → ⊥
     one true h = h
     one false h = not_whole calls h
 
-some_faulted : (a : Ask) (calls : List Ask) → IsFaulted (faulted_last (a ∷ calls))
+some_faulted : (a : Ask) (calls : List Ask) → EndsAtFault (faulted_last (a ∷ calls))
 some_faulted a [] = tt
 some_faulted a (b ∷ calls) = some_faulted b calls
 
 -- calls that stop end by a fault, where all are answered
-stop_faults : (u : World) (calls : List Ask) → stop u calls ≡ Some (length calls) → IsFaulted (faulted_last calls)
+stop_faults : (u : World) (calls : List Ask) → stop u calls ≡ Some (length calls) → EndsAtFault (faulted_last calls)
 stop_faults u [] stops = absurd (cc)
 stop_faults u (a ∷ calls) stops = some_faulted a calls
 
@@ -73,7 +73,7 @@ module _ (w : World) (s : Sequel Close) (o : Outcome) (none : stop w o.calls ≡
   c = comes (world_after w o.calls) s
 
   abbrev j : Outcome
-  j = joined w o (comes (world_after w o.calls) s)
+  j = joined_outcome w o (comes (world_after w o.calls) s)
 
   abbrev end_by : Option Close → runs.Ending
   end_by e = cond (is_some e) runs.Done (stopped_by (world_after w o.calls).answered (comes (world_after w o.calls) s).calls)
@@ -82,10 +82,10 @@ module _ (w : World) (s : Sequel Close) (o : Outcome) (none : stop w o.calls ≡
   left_answers = ap (λ (x : World). x.answered) (whole_after w o.calls none)
 
   -- it is done or halted only where what follows came to its end
-  whole_end : answers.IsWhole j.ending → (x : Close) × (c.end ≡ Some x)
+  whole_end : answers.EndsWhole j.ending → (x : Close) × (c.end ≡ Some x)
   whole_end h = by_end c.end h
     where
-      by_end : (e : Option Close) → answers.IsWhole (end_by e) → (x : Close) × (e ≡ Some x)
+      by_end : (e : Option Close) → answers.EndsWhole (end_by e) → (x : Close) × (e ≡ Some x)
       by_end None h = absurd (never_whole (world_after w o.calls).answered (comes (world_after w o.calls) s).calls h)
       by_end (Some x) h = (x, refl)
 
@@ -123,13 +123,13 @@ module _ (w : World) (s : Sequel Close) (o : Outcome) (none : stop w o.calls ≡
       ends_cut end ∙ ap (λ (a : Option ℕ). stopped_by a c.calls) left
       ∙ ap (λ (b : Bool). cond b runs.Unanswered (faulted_last c.calls)) (lt-ltb (lines - length o.calls) (length c.calls) over)
 
-  stops_at : (cause : StopCause) (lines : ℕ) (old : List Ask) → old ≡ settled_last o.calls → w.answered ≡ answered_cut cause lines → StopsAt cause lines c old → StopsAfter cause lines j
+  stops_at : (cause : StopCause) (lines : ℕ) (old : List Ask) → old ≡ settled_last o.calls → w.answered ≡ answered_cut cause lines → SequelStopsAt cause lines c old → StopsAfter cause lines j
   stops_at Faulted lines old is answered h =
       let free : u.answered ≡ None = left_answers ∙ ap (λ (a : Option ℕ). fewer a (length o.calls)) answered in
-      let fault : IsFaulted (stopped_by None c.calls) = stop_faults u c.calls (stops_last h.0) in
-      (subst IsFaulted (sym (ends_cut h.0 ∙ ap (λ (a : Option ℕ). stopped_by a c.calls) free)) fault, long old is ∙ h.1)
+      let fault : EndsAtFault (stopped_by None c.calls) = stop_faults u c.calls (stops_last h.0) in
+      (subst EndsAtFault (sym (ends_cut h.0 ∙ ap (λ (a : Option ℕ). stopped_by a c.calls) free)) fault, long old is ∙ h.1)
   stops_at NoAnswer lines old is answered (inl h) = inl (cut_unanswered lines old is answered h.0 h.1, long old is ∙ h.1)
-  stops_at NoAnswer lines old is answered (inr h) = inr (subst answers.IsWhole (sym (ends_done h.0 h.1)) tt, long old is ∙ h.2)
+  stops_at NoAnswer lines old is answered (inr h) = inr (subst answers.EndsWhole (sym (ends_done h.0 h.1)) tt, long old is ∙ h.2)
 
   -- ---- what was written
 
@@ -156,7 +156,7 @@ module _ (w : World) (s : Sequel Close) (o : Outcome) (none : stop w o.calls ≡
     pub knows : Knows known mid
     pub calls : old ≡ settled_last o.calls
     pub skipped : ℕ
-    pub is : IsClosed closed ended skipped task
+    pub is : TaskIsClosed closed ended skipped task
     pub units : IfOk closed (λ x. length asks.calls ≡ ended.units + x.units)
     pub skips : IfOk closed (λ x. (skipped ≡ skips w asks.calls) × (skipped < 2 ^ 32))
 
@@ -172,15 +172,15 @@ module _ (w : World) (s : Sequel Close) (o : Outcome) (none : stop w o.calls ≡
         written = wrote known mid now c.written k.knows k.lines came.written;
       }
 
-  part_of : (task : TaskEnded) (asks : Asks) (old : List Ask) (known : Bool) (mid now : Option (List ℕ)) → Knows known mid → known_part known mid ≡ o.written → old ≡ settled_last o.calls → LeftOff c old asks.calls mid now
-      → IsPart j (ran task.ended asks (known_part known now))
+  part_of : (task : TaskEnded) (asks : Asks) (old : List Ask) (known : Bool) (mid now : Option (List ℕ)) → Knows known mid → known_part known mid ≡ o.written → old ≡ settled_last o.calls → LeftInMiddle c old asks.calls mid now
+      → IsPartOfOutcome j (ran task.ended asks (known_part known now))
   part_of task asks old known mid now knows lines calls h = record {
     written = grew known mid now h.part h.rest knows lines h.written h.lines;
     calls = shared old asks.calls calls h.calls;
   }
 
   cut_of : (cause : StopCause) (lines : ℕ) (task : TaskEnded) (asks : Asks) (old : List Ask) (known : Bool) (mid now : Option (List ℕ)) → Knows known mid → known_part known mid ≡ o.written → old ≡ settled_last o.calls
-      → w.answered ≡ answered_cut cause lines → CutOff cause lines c old asks.calls mid now → EndsAtCut cause lines j (ran task.ended asks (known_part known now))
+      → w.answered ≡ answered_cut cause lines → SequelIsCutOff cause lines c old asks.calls mid now → EndsAtCut cause lines j (ran task.ended asks (known_part known now))
   cut_of cause lines task asks old known mid now knows wrote_is calls answered h = record {
     stops = stops_at cause lines old calls answered h.stops;
     written = wrote known mid now c.written knows wrote_is h.written;
@@ -188,7 +188,7 @@ module _ (w : World) (s : Sequel Close) (o : Outcome) (none : stop w o.calls ≡
   }
 
   cut_part : (cause : StopCause) (lines : ℕ) (task : TaskEnded) (asks : Asks) (old : List Ask) (known : Bool) (mid now : Option (List ℕ)) → Knows known mid → known_part known mid ≡ o.written → old ≡ settled_last o.calls
-      → CutOff cause lines c old asks.calls mid now → IsPart j (ran task.ended asks (known_part known now))
+      → SequelIsCutOff cause lines c old asks.calls mid now → IsPartOfOutcome j (ran task.ended asks (known_part known now))
   cut_part cause lines task asks old known mid now knows wrote_is calls h = record {
     written = grew known mid now c.written [] knows wrote_is h.written (sym (append-nil c.written));
     calls = shared old asks.calls calls h.calls;
@@ -196,7 +196,7 @@ module _ (w : World) (s : Sequel Close) (o : Outcome) (none : stop w o.calls ≡
 
   -- what was not closed comes first in the whole
   pub follows_part : (lines : ℕ) (closed : Result Closed Unclosed) (ended : Ended) (task : TaskEnded) (asks : Asks) (old : List Ask) (known : Bool) (mid now : Option (List ℕ)) → Closes closed ended task asks old known mid → (ComesToEnd task.ended.ending → ⊥)
-      → FollowsAs lines c closed old asks.calls mid now → IsPart j (ran task.ended asks (known_part known now))
+      → FollowsAs lines c closed old asks.calls mid now → IsPartOfOutcome j (ran task.ended asks (known_part known now))
   follows_part lines (Ok x) ended task asks old known mid now k never h = absurd (never (subst ComesToEnd (sym (k.is.ending ∙ k.ending)) tt))
   follows_part lines (Err unclosed.WriteFault) ended task asks old known mid now k never h = part_of task asks old known mid now k.knows k.lines k.calls h
   follows_part lines (Err (unclosed.Stopped (Cut r))) ended task asks old known mid now k never h = cut_part r.cause lines task asks old known mid now k.knows k.lines k.calls h
@@ -205,19 +205,19 @@ module _ (w : World) (s : Sequel Close) (o : Outcome) (none : stop w o.calls ≡
   follows_part lines (Err (unclosed.Stopped OutOfMemory)) ended task asks old known mid now k never h = part_of task asks old known mid now k.knows k.lines k.calls h
 
   pub follows : (lines : ℕ) (closed : Result Closed Unclosed) (ended : Ended) (task : TaskEnded) (asks : Asks) (old : List Ask) (known : Bool) (mid now : Option (List ℕ)) (end : Option Stop)
-      → Closes closed ended task asks old known mid → w.answered ≡ answered_at end lines → EndIs closed end → FollowsAs lines c closed old asks.calls mid now
-      → EndsAs task.ended.ending lines j (ran task.ended asks (known_part known now))
+      → Closes closed ended task asks old known mid → w.answered ≡ answered_at_end end lines → ClosingEndIs closed end → FollowsAs lines c closed old asks.calls mid now
+      → RunEndsAs task.ended.ending lines j (ran task.ended asks (known_part known now))
   follows lines (Ok x) ended task asks old known mid now end k answered ends h =
-      subst (λ (e : Ending). EndsAs e lines j (ran task.ended asks (known_part known now))) (sym (k.is.ending ∙ k.ending))
+      subst (λ (e : Ending). RunEndsAs e lines j (ran task.ended asks (known_part known now))) (sym (k.is.ending ∙ k.ending))
       (ends_done x.close h.end, all_of x ended task asks old known mid now k h)
   follows lines (Err unclosed.WriteFault) ended task asks old known mid now end k answered ends h =
-      subst (λ (e : Ending). EndsAs e lines j (ran task.ended asks (known_part known now))) (sym k.is.ending) (part_of task asks old known mid now k.knows k.lines k.calls h)
+      subst (λ (e : Ending). RunEndsAs e lines j (ran task.ended asks (known_part known now))) (sym k.is.ending) (part_of task asks old known mid now k.knows k.lines k.calls h)
   follows lines (Err (unclosed.Stopped (Cut r))) ended task asks old known mid now end k answered ends h =
-      subst (λ (e : Ending). EndsAs e lines j (ran task.ended asks (known_part known now))) (sym k.is.ending)
-      (cut_of r.cause lines task asks old known mid now k.knows k.lines k.calls (answered ∙ ap (λ (e : Option Stop). answered_at e lines) ends) h)
+      subst (λ (e : Ending). RunEndsAs e lines j (ran task.ended asks (known_part known now))) (sym k.is.ending)
+      (cut_of r.cause lines task asks old known mid now k.knows k.lines k.calls (answered ∙ ap (λ (e : Option Stop). answered_at_end e lines) ends) h)
   follows lines (Err (unclosed.Stopped (BenchFault issued confirmed))) ended task asks old known mid now end k answered ends h =
-      subst (λ (e : Ending). EndsAs e lines j (ran task.ended asks (known_part known now))) (sym k.is.ending) (part_of task asks old known mid now k.knows k.lines k.calls h)
+      subst (λ (e : Ending). RunEndsAs e lines j (ran task.ended asks (known_part known now))) (sym k.is.ending) (part_of task asks old known mid now k.knows k.lines k.calls h)
   follows lines (Err (unclosed.Stopped ReplyBad)) ended task asks old known mid now end k answered ends h =
-      subst (λ (e : Ending). EndsAs e lines j (ran task.ended asks (known_part known now))) (sym k.is.ending) (part_of task asks old known mid now k.knows k.lines k.calls h)
+      subst (λ (e : Ending). RunEndsAs e lines j (ran task.ended asks (known_part known now))) (sym k.is.ending) (part_of task asks old known mid now k.knows k.lines k.calls h)
   follows lines (Err (unclosed.Stopped OutOfMemory)) ended task asks old known mid now end k answered ends h =
-      subst (λ (e : Ending). EndsAs e lines j (ran task.ended asks (known_part known now))) (sym k.is.ending) (part_of task asks old known mid now k.knows k.lines k.calls h)
+      subst (λ (e : Ending). RunEndsAs e lines j (ran task.ended asks (known_part known now))) (sym k.is.ending) (part_of task asks old known mid now k.knows k.lines k.calls h)

@@ -16,7 +16,7 @@ use Rattle.sequels.specs.Sequel.{Comes, comes}
 use Rattle.sequels.specs.declared.close.Close.{Close}
 use Rattle.sequels.proofs.LimitLemmas.{from_on}
 use Rattle.image_load.specs.Loading.{AskedPart, AsksLoad}
-use Rattle.image_load.specs.LoadSequel.{close_of, loaded}
+use Rattle.image_load.specs.LoadSequel.{load_close, load_sequel}
 use Rattle.image_load.specs.Meets.{GivesAll, IsLoad, MeetsCut, MeetsSequel}
 use Rattle.image_load.specs.Meets as meets
 use Rattle.image_load.specs.Pieces.{asked_all, load_calls, piece_ask, pieces}
@@ -24,7 +24,7 @@ use Rattle.image_load.specs.declared.ends.LoadEnd.{LoadEnd}
 use Rattle.image_load.specs.declared.ends.LoadEnd.TheVariants as e
 use Rattle.image_load.specs.declared.ends.Loaded.{Loaded}
 use Rattle.image_load.proofs.SequelLemmas.{comes_stopped, comes_whole}
-use Rattle.task_runs.specs.Following.{CameToEnd, FollowsAs, LeftOff, Shares, StopsAt}
+use Rattle.task_runs.specs.Following.{CameToEnd, FollowsAs, LeftInMiddle, SequelStopsAt, Shares}
 use Rattle.task_runs.specs.declared.following.Unclosed.TheVariants as unclosed
 
 pub no_end : {A : Type 0} (x : A) (o : Option A) → o ≡ None → o ≡ Some x → ⊥
@@ -35,24 +35,24 @@ module _ (w : World) (ap' : ℕ) (image : Bytes) (old : List Ask) where
   calls = load_calls ap' (pieces image)
 
   abbrev c : Comes Close
-  c = comes (world_after w old) (loaded ap' image)
+  c = comes (world_after w old) (load_sequel ap' image)
 
   -- The calls of the sequel are the first of those of the load, all of them where it has an end. It writes nothing.
   record Front : Type 0 where
     rest : List Ask
-    parts : load_calls ap' (pieces image) ≡ (comes (world_after w old) (loaded ap' image)).calls ++ rest
-    written : (comes (world_after w old) (loaded ap' image)).written ≡ []
-    all : (x : Close) → (comes (world_after w old) (loaded ap' image)).end ≡ Some x → rest ≡ []
+    parts : load_calls ap' (pieces image) ≡ (comes (world_after w old) (load_sequel ap' image)).calls ++ rest
+    written : (comes (world_after w old) (load_sequel ap' image)).written ≡ []
+    all : (x : Close) → (comes (world_after w old) (load_sequel ap' image)).end ≡ Some x → rest ≡ []
 
   front : Front
   front = by_stop (stop (world_after w old) calls) refl
     where
       by_stop : (at : Option ℕ) → stop (world_after w old) calls ≡ at → Front
       by_stop None h =
-          let is = comes_whole (world_after w old) calls (close_of image) h in
+          let is = comes_whole (world_after w old) calls (load_close image) h in
           record { rest = []; parts = rw is (sym (append-nil calls)); written = rw is refl; all = λ x e. refl }
       by_stop (Some k) h =
-          let is = comes_stopped (world_after w old) calls (close_of image) k h in
+          let is = comes_stopped (world_after w old) calls (load_close image) k h in
           record { rest = drop k calls; parts = rw is (sym (take-append-drop k calls)); written = rw is refl; all = λ x e. absurd (no_end x c.end (ap (λ (z : Comes Close). z.end) is) e) }
 
   parts_of : old ++ calls ≡ (old ++ c.calls) ++ front.rest
@@ -82,7 +82,7 @@ module _ (w : World) (ap' : ℕ) (image : Bytes) (old : List Ask) where
   unwritten : (written : Option (List ℕ)) → Appends written written c.written
   unwritten written = subst (λ (l : List ℕ). Appends written written l) (sym front.written) (Appends-nil written)
 
-  pub left_off : (new : List Ask) (written : Option (List ℕ)) → AskedPart calls old new ⊎ (new ≡ settled_last (old ++ calls)) → LeftOff c old new written written
+  pub left_off : (new : List Ask) (written : Option (List ℕ)) → AskedPart calls old new ⊎ (new ≡ settled_last (old ++ calls)) → LeftInMiddle c old new written written
   left_off new written asked = record { part = []; rest = []; lines = front.written; written = Appends-nil written; calls = shares new asked }
 
   pub came : (x : Close) (new : List Ask) (written : Option (List ℕ)) → GivesAll w ap' image old x → new ≡ settled_last (old ++ calls) → CameToEnd c old new written written x
@@ -94,7 +94,7 @@ module _ (w : World) (ap' : ℕ) (image : Bytes) (old : List Ask) where
         written = unwritten written;
       }
 
-  stops_there : (lines : ℕ) → meets.StopsAt w ap' image old lines → (c.end ≡ None) × (length (old ++ c.calls) ≡ lines + 1)
+  stops_there : (lines : ℕ) → meets.LoadStopsAt w ap' image old lines → (c.end ≡ None) × (length (old ++ c.calls) ≡ lines + 1)
   stops_there lines h =
       let k = h.cut None in
       let same : old ++ c.calls ≡ take (lines + 1) (old ++ calls) = ap (λ (z : Comes Close). old ++ z.calls) k.is ∙ sym k.calls in
@@ -106,7 +106,7 @@ module _ (w : World) (ap' : ℕ) (image : Bytes) (old : List Ask) where
       let g = h.gives None in
       (h.end, ap (λ (z : Comes Close). z.end) g.ends.is, ap (λ (z : Comes Close). length (old ++ z.calls)) g.ends.is ∙ ap length (sym g.calls) ∙ sym h.count)
 
-  stops_by : (cause : StopCause) (lines : ℕ) → MeetsCut cause w ap' image old lines → StopsAt cause lines c old
+  stops_by : (cause : StopCause) (lines : ℕ) → MeetsCut cause w ap' image old lines → SequelStopsAt cause lines c old
   stops_by Faulted lines h = stops_there lines h
   stops_by NoAnswer lines (inl h) = inl (stops_there lines h)
   stops_by NoAnswer lines (inr h) = inr (ends_there lines h)

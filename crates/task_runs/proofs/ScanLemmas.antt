@@ -16,29 +16,29 @@ use Rattle.access_calls.specs.declared.stop.Stop.{Stop}
 use Rattle.access_calls.specs.declared.stop.Stop.TheVariants.{Cut, BenchFault, ReplyBad, OutOfMemory}
 use Rattle.access_calls.specs.declared.stop.StopCause.{StopCause}
 use Rattle.access_calls.specs.declared.stop.StopCause.TheVariants.{Faulted, NoAnswer}
-use Rattle.function_calls.specs.Lines.{AppendsLines, AreLines, empty, ended}
+use Rattle.function_calls.specs.Lines.{AppendsLines, AreWholeLines, empty, ended}
 use Rattle.sequels.specs.Meeting as meeting
 use Rattle.sequels.specs.Sequel.{Comes, Sequel, Ends, after, comes}
 use Rattle.sequels.specs.Laws.{rest_by}
 use Rattle.sequels.specs.declared.close.Close.{Close}
 use Rattle.sequels.proofs.LimitLemmas.{from_same}
 use Rattle.sequels.proofs.SequelLemmas.{after_comes, stops_by_end}
-use Rattle.rom_scan.specs.Components.{component_line, known_part}
-use Rattle.rom_scan.specs.Listing.{lines_of}
-use Rattle.rom_scan.specs.Meets.{Finished, StopsAfter, StopsIn}
+use Rattle.rom_scan.specs.Components.{component_details, component_line}
+use Rattle.rom_scan.specs.Listing.{component_lines}
+use Rattle.rom_scan.specs.Meets.{Finished, StopsIn, StopsInFinish}
 use Rattle.rom_scan.specs.Scans.{Scans}
 use Rattle.rom_scan.specs.Walk.{Walked, scanned}
 use Rattle.rom_scan.specs.Written.{AppendsComponents}
 use Rattle.rom_scan.specs.declared.component.Component.{Component}
 use Rattle.rom_scan.specs.declared.component.Known.{Known}
 use Rattle.rom_scan.specs.declared.scan_end.ScanEnd.{ScanEnd}
-use Rattle.task_runs.specs.Following.{CameToEnd, FollowsAs, LeftOff, Shares, StopsAt}
-use Rattle.task_runs.specs.Tasks.{close_of, scanning}
+use Rattle.task_runs.specs.Following.{CameToEnd, FollowsAs, LeftInMiddle, SequelStopsAt, Shares}
+use Rattle.task_runs.specs.Tasks.{scan_close, scanning}
 use Rattle.task_runs.specs.declared.following.Unclosed.TheVariants as unclosed
 
 -- ---- lines
 
-known_ended : (known : Option Known) (depth : ℕ) → (front : List ℕ) × (known_part known depth ≡ front ++ codes "\n")
+known_ended : (known : Option Known) (depth : ℕ) → (front : List ℕ) × (component_details known depth ≡ front ++ codes "\n")
 known_ended None depth = (codes " unknown depth " ++ decimal depth, refl)
 known_ended (Some k) depth = (codes " class " ++ decimal k.class ++ codes " depth " ++ decimal depth ++ codes " id 0x" ++ encode_lower k.id, refl)
 
@@ -48,17 +48,17 @@ line_ended c =
     let front = codes "component " ++ hex8 c.address in
     (front ++ k.0, ap (λ (l : List ℕ). front ++ l) k.1 ∙ sym (append_assoc front k.0 (codes "\n")))
 
-are_lines : (cs : List Component) → AreLines (lines_of cs)
+are_lines : (cs : List Component) → AreWholeLines (component_lines cs)
 are_lines [] = empty refl
 are_lines (c ∷ cs) = one (are_lines cs)
   where
-    one : AreLines (lines_of cs) → AreLines (component_line c ++ lines_of cs)
+    one : AreWholeLines (component_lines cs) → AreWholeLines (component_line c ++ component_lines cs)
     one (empty none) = (let k = line_ended c in ended k.0 (ap (λ (l : List ℕ). component_line c ++ l) none ∙ append-nil (component_line c) ∙ k.1))
     one (ended front is) = ended (component_line c ++ front) (ap (λ (l : List ℕ). component_line c ++ l) is ∙ sym (append_assoc (component_line c) front (codes "\n")))
 
 -- the lines of components are whole lines
 pub whole_lines : (old new : Option (List ℕ)) → AppendsComponents old new → AppendsLines old new
-whole_lines old new h = record { text = lines_of h.components; whole = are_lines h.components; appends = h.appends }
+whole_lines old new h = record { text = component_lines h.components; whole = are_lines h.components; appends = h.appends }
 
 -- ---- a scan, and how it closes
 
@@ -77,8 +77,8 @@ module _ (w : World) (n : ℕ) (old : List Ask) where
   abbrev c : Comes Close
   c = comes (world_after w old) (scanning n)
 
-  is : c ≡ record { calls = (comes (world_after w old) s).calls; written = (comes (world_after w old) s).written; end = option_map close_of (comes (world_after w old) s).end }
-  is = closed_comes (world_after w old) s close_of
+  is : c ≡ record { calls = (comes (world_after w old) s).calls; written = (comes (world_after w old) s).written; end = option_map scan_close (comes (world_after w old) s).end }
+  is = closed_comes (world_after w old) s scan_close
 
   calls_are : c.calls ≡ (comes (world_after w old) s).calls
   calls_are = ap (λ (z : Comes Close). z.calls) is
@@ -86,12 +86,12 @@ module _ (w : World) (n : ℕ) (old : List Ask) where
   written_is : c.written ≡ (comes (world_after w old) s).written
   written_is = ap (λ (z : Comes Close). z.written) is
 
-  end_is : c.end ≡ option_map close_of (comes (world_after w old) s).end
+  end_is : c.end ≡ option_map scan_close (comes (world_after w old) s).end
   end_is = ap (λ (z : Comes Close). z.end) is
 
-  pub came : (x : Walked) (new : List Ask) (before now : Option (List ℕ)) → Finished w s old new before now x → CameToEnd c old new before now (close_of x)
+  pub came : (x : Walked) (new : List Ask) (before now : Option (List ℕ)) → Finished w s old new before now x → CameToEnd c old new before now (scan_close x)
   came x new before now h = record {
-    end = end_is ∙ ap (λ (z : Comes Walked). option_map close_of z.end) h.gave.ends.is;
+    end = end_is ∙ ap (λ (z : Comes Walked). option_map scan_close z.end) h.gave.ends.is;
     calls = h.marked ∙ ap settled_last (h.gave.calls ∙ ap (λ (l : List Ask). old ++ l) (sym (calls_are ∙ ap (λ (z : Comes Walked). z.calls) h.gave.ends.is)));
     written = subst (λ (l : List ℕ). Appends before now l) (sym (written_is ∙ ap (λ (z : Comes Walked). z.written) h.gave.ends.is)) h.gave.written;
   }
@@ -104,7 +104,7 @@ module _ (w : World) (n : ℕ) (old : List Ask) where
     only = λ x e. omega arith;
   }
 
-  pub left_off : (new : List Ask) (before now : Option (List ℕ)) → meeting.LeftOff w s old new before now → LeftOff c old new before now
+  pub left_off : (new : List Ask) (before now : Option (List ℕ)) → meeting.LeftOff w s old new before now → LeftInMiddle c old new before now
   left_off new before now h = record { part = h.lines; rest = h.further; lines = written_is ∙ h.lines_are; written = h.written; calls = left_shares new before now h }
 
   -- the settling after it
@@ -118,7 +118,7 @@ module _ (w : World) (n : ℕ) (old : List Ask) where
         only = λ y e. (let long = ap length k.calls ∙ length_marked (old ++ c.calls) in omega (arith, long));
       }
 
-  left_settling : (x : Walked) (new : List Ask) (before now : Option (List ℕ)) → Finished w s old new before now x → LeftOff c old new before now
+  left_settling : (x : Walked) (new : List Ask) (before now : Option (List ℕ)) → Finished w s old new before now x → LeftInMiddle c old new before now
   left_settling x new before now h = record { part = c.written; rest = []; lines = sym (append-nil c.written); written = (came x new before now h).written; calls = end_shares x new before now h }
 
   -- where its calls stop
@@ -131,25 +131,25 @@ module _ (w : World) (n : ℕ) (old : List Ask) where
       let same : new ≡ old ++ (comes (world_after w old) s).calls = h.calls ∙ ap (λ (z : Comes Walked). old ++ z.calls) (sym h.is) in
       let at : Some (length old + length (comes (world_after w old) s).calls) ≡ Some (lines + 1) =
       sym (ap (stop w) same ∙ append_stop w old (comes (world_after w old) s).calls whole ∙ ap (later_by (length old)) there) ∙ stops in (
-        end_is ∙ ap (option_map close_of) none,
+        end_is ∙ ap (option_map scan_close) none,
         ap (λ (l : List Ask). length (old ++ l)) calls_are ∙ length-append old (comes (world_after w old) s).calls ∙ same_Some (length old + length (comes (world_after w old) s).calls) (lines + 1) at,
       )
 
-  stops_by : (cause : StopCause) (lines : ℕ) → (c.end ≡ None) × (length (old ++ c.calls) ≡ lines + 1) → StopsAt cause lines c old
+  stops_by : (cause : StopCause) (lines : ℕ) → (c.end ≡ None) × (length (old ++ c.calls) ≡ lines + 1) → SequelStopsAt cause lines c old
   stops_by Faulted lines h = h
   stops_by NoAnswer lines h = inl h
 
-  stops_after : (cause : StopCause) (lines : ℕ) (x : Walked) (new : List Ask) (before now : Option (List ℕ)) → cause ≡ NoAnswer → lines ≡ length new → Finished w s old new before now x → StopsAt cause lines c old
+  stops_after : (cause : StopCause) (lines : ℕ) (x : Walked) (new : List Ask) (before now : Option (List ℕ)) → cause ≡ NoAnswer → lines ≡ length new → Finished w s old new before now x → SequelStopsAt cause lines c old
   stops_after cause lines x new before now why count h =
       let k = came x new before now h in
-      subst (λ (y : StopCause). StopsAt y lines c old) (sym why)
-      (inr (close_of x, k.end, (let long = ap length k.calls ∙ length_marked (old ++ c.calls) in sym long ∙ sym count)))
+      subst (λ (y : StopCause). SequelStopsAt y lines c old) (sym why)
+      (inr (scan_close x, k.end, (let long = ap length k.calls ∙ length_marked (old ++ c.calls) in sym long ∙ sym count)))
 
   cut_lines : (new : List Ask) (before now : Option (List ℕ)) → meeting.CutOff w s old new before now → Appends before now c.written
   cut_lines new before now h = subst (λ (l : List ℕ). Appends before now l) (sym (written_is ∙ ap (λ (z : Comes Walked). z.written) h.is)) h.written
 
   -- the access stopped
-  pub stopped : (st : Stop) (lines : ℕ) (new : List Ask) (before now : Option (List ℕ)) → stop w old ≡ None → StopsIn w lines s old new before now st ⊎ StopsAfter w lines s old new before now st
+  pub stopped : (st : Stop) (lines : ℕ) (new : List Ask) (before now : Option (List ℕ)) → stop w old ≡ None → StopsIn w lines s old new before now st ⊎ StopsInFinish w lines s old new before now st
       → FollowsAs lines c (Err (unclosed.Stopped st)) old new before now
   stopped (Cut r) lines new before now whole (inl h) =
       record { stops = stops_by r.cause lines (cut_count lines new before now whole h.cut.0 h.cut.1); written = cut_lines new before now h.cut.0; calls = left_shares new before now h.left }
@@ -163,7 +163,7 @@ module _ (w : World) (n : ℕ) (old : List Ask) where
   stopped OutOfMemory lines new before now whole (inr h) = left_settling h.x new before now h.finished
 
 -- nothing was asked
-pub left_here : (c : Comes Close) (old : List Ask) (written : Option (List ℕ)) → LeftOff c old old written written
+pub left_here : (c : Comes Close) (old : List Ask) (written : Option (List ℕ)) → LeftInMiddle c old old written written
 left_here c old written = record {
   part = [];
   rest = c.written;

@@ -9,7 +9,7 @@ use Rattle.target_calls.specs.World.{World, done_now, end_result, fewer, is_faul
 use Rattle.target_calls.specs.declared.calls.Ask.{Ask}
 use Rattle.target_calls.proofs.MarkLemmas.{length_marked}
 use Rattle.target_calls.proofs.WorldLemmas.{whole_after, whole_least}
-use Rattle.access_calls.specs.Left.{answered_at, answered_cut}
+use Rattle.access_calls.specs.Left.{answered_at_end, answered_cut}
 use Rattle.access_calls.specs.Reported.{world_from}
 use Rattle.access_calls.specs.declared.ended.Ending.{Ending}
 use Rattle.access_calls.specs.declared.ended.Ending.TheVariants as ending
@@ -27,11 +27,11 @@ use Rattle.sequels.specs.Limits.{GoesOnFrom}
 use Rattle.sequels.specs.Sequel.{Comes, Sequel, Asks, Ends, comes, stopped_at, with_call}
 use Rattle.sequels.specs.declared.close.Close.{Close}
 use Rattle.sequels.proofs.LimitLemmas.{from_on, from_same}
-use Rattle.followed_runs.specs.Followed.{followed, followed_at, joined, stopped_by}
+use Rattle.followed_runs.specs.Followed.{followed, followed_at, joined_outcome, stopped_by}
 use Rattle.followed_runs.proofs.CallLemmas.{from_few}
 use Rattle.control_flow.specs.Answers as answers
-use Rattle.control_flow.specs.Answers.{EndBy, EndsAs, EndsAtCut, IsAll, IsFaulted, IsPart, Ran, SharesCalls, StopsAfter}
-use Rattle.image_load.specs.LoadSequel.{asks_each, close_of, loaded}
+use Rattle.control_flow.specs.Answers.{EndBy, EndsAtCut, EndsAtFault, IsAll, IsPartOfOutcome, Ran, RunEndsAs, SharesCalls, StopsAfter}
+use Rattle.image_load.specs.LoadSequel.{asks_each, load_close, load_sequel}
 use Rattle.image_load.specs.Pieces.{load_calls, pieces}
 use Rattle.task_runs.specs.Tasks.{goes_on, is_done, scanning, sequel_of}
 use Rattle.task_runs.specs.declared.followed.Followed.{Followed}
@@ -69,7 +69,7 @@ Quiet (Some q) = StartsQuiet q
 
 pub sequel_quiet : (f : Followed) (s : Sequel Close) → sequel_of f ≡ Some s → StartsQuiet s
 sequel_quiet Nothing s is = absurd cc
-sequel_quiet (Load ap' image) s is = subst (λ (q : Option (Sequel Close)). Quiet q) is (each_quiet (load_calls ap' (pieces image.now)) (close_of image.now))
+sequel_quiet (Load ap' image) s is = subst (λ (q : Option (Sequel Close)). Quiet q) is (each_quiet (load_calls ap' (pieces image.now)) (load_close image.now))
 sequel_quiet (Scan ap') s is = subst (λ (q : Option (Sequel Close)). Quiet q) is (asks _ _ refl)
 
 same_written : (k : Option (List ℕ)) → option_map (λ (bytes : List ℕ). bytes ++ []) k ≡ k
@@ -78,9 +78,9 @@ same_written (Some xs) = ap Some (append-nil xs)
 
 module _ (w : World) (s : Sequel Close) (o : Outcome) where
   -- what was asked in the program comes first in the whole
-  shares_on : (asked : List Ask) (c : Comes Close) → o.ending ≡ runs.Done → SharesCalls asked o → SharesCalls asked (joined w o c)
+  shares_on : (asked : List Ask) (c : Comes Close) → o.ending ≡ runs.Done → SharesCalls asked o → SharesCalls asked (joined_outcome w o c)
   shares_on asked c done h =
-      let few : length h.all ≤ length o.calls = h.only (subst answers.IsWhole (sym done) tt) in
+      let few : length h.all ≤ length o.calls = h.only (subst answers.EndsWhole (sym done) tt) in
       record {
         all = settled_last o.calls ++ c.calls;
         ours = from_on asked h.all (settled_last o.calls ++ c.calls) h.ours (on (from_few o.calls h.all h.theirs few));
@@ -92,17 +92,17 @@ module _ (w : World) (s : Sequel Close) (o : Outcome) where
       on (inl e) = record { more = c.calls; so = inr (ap (λ (l : List Ask). settled_last l ++ c.calls) (sym e)) }
       on (inr e) = record { more = c.calls; so = inl (ap (λ (l : List Ask). l ++ c.calls) (sym e)) }
 
-  part_done : (r : Ran) → o.ending ≡ runs.Done → IsPart o r → IsPart (joined w o (comes (world_after w o.calls) s)) r
+  part_done : (r : Ran) → o.ending ≡ runs.Done → IsPartOfOutcome o r → IsPartOfOutcome (joined_outcome w o (comes (world_after w o.calls) s)) r
   part_done r done h = record {
     written = grows_on r.written o.written (option_map (λ bytes. bytes ++ (comes (world_after w o.calls) s).written) o.written) h.written (record { part = (comes (world_after w o.calls) s).written; same = refl });
     calls = shares_on r.asks.calls (comes (world_after w o.calls) s) done h.calls;
   }
 
   -- it was left in its middle
-  pub part_on : (r : Ran) → IsPart o r → IsPart (followed (Some s) w o) r
+  pub part_on : (r : Ran) → IsPartOfOutcome o r → IsPartOfOutcome (followed (Some s) w o) r
   part_on r h = by_end o.ending refl
     where
-      by_end : (e : runs.Ending) → o.ending ≡ e → IsPart (followed_at w s o e) r
+      by_end : (e : runs.Ending) → o.ending ≡ e → IsPartOfOutcome (followed_at w s o e) r
       by_end runs.Done is = part_done r is h
       by_end (runs.Halted cause) is = h
       by_end (runs.Faulted call) is = h
@@ -111,7 +111,7 @@ module _ (w : World) (s : Sequel Close) (o : Outcome) where
 
   -- a retry ended in the settling after it: what follows stops at its first call, or asks none
   record Stays (c : Comes Close) (lines : ℕ) : Type 0 where
-    stops : StopsAfter NoAnswer lines (joined w o c)
+    stops : StopsAfter NoAnswer lines (joined_outcome w o c)
     written : c.written ≡ []
 
   settled_done : (lines : ℕ) → o.ending ≡ runs.Done → stop w o.calls ≡ None → w.answered ≡ Some lines → units_of o ≡ lines → StartsQuiet s → Stays (comes (world_after w o.calls) s) lines
@@ -137,18 +137,18 @@ module _ (w : World) (s : Sequel Close) (o : Outcome) where
           one false e = absurd cc
 
   cut_done : (cause : StopCause) (lines : ℕ) (r : Ran) → o.ending ≡ runs.Done → stop w o.calls ≡ None → w.answered ≡ answered_cut cause lines → StartsQuiet s → EndsAtCut cause lines o r
-      → EndsAtCut cause lines (joined w o (comes (world_after w o.calls) s)) r
-  cut_done Faulted lines r done none answered quiet h = absurd (subst IsFaulted done h.stops.0)
+      → EndsAtCut cause lines (joined_outcome w o (comes (world_after w o.calls) s)) r
+  cut_done Faulted lines r done none answered quiet h = absurd (subst EndsAtFault done h.stops.0)
   cut_done NoAnswer lines r done none answered quiet h = by_stop h.stops
     where
-      with_stays : Stays (comes (world_after w o.calls) s) lines → EndsAtCut NoAnswer lines (joined w o (comes (world_after w o.calls) s)) r
+      with_stays : Stays (comes (world_after w o.calls) s) lines → EndsAtCut NoAnswer lines (joined_outcome w o (comes (world_after w o.calls) s)) r
       with_stays k = record {
         stops = k.stops;
         written = h.written ∙ sym (same_written o.written) ∙ ap (λ (l : List ℕ). option_map (λ bytes. bytes ++ l) o.written) (sym k.written);
         calls = shares_on r.asks.calls (comes (world_after w o.calls) s) done h.calls;
       }
 
-      by_stop : StopsAfter NoAnswer lines o → EndsAtCut NoAnswer lines (joined w o (comes (world_after w o.calls) s)) r
+      by_stop : StopsAfter NoAnswer lines o → EndsAtCut NoAnswer lines (joined_outcome w o (comes (world_after w o.calls) s)) r
       by_stop (inl u) = absurd (let bad : runs.Done ≡ runs.Unanswered = sym done ∙ u.0 in cc)
       by_stop (inr q) = with_stays (settled_done lines done none answered q.1 quiet)
 
@@ -162,31 +162,31 @@ module _ (w : World) (s : Sequel Close) (o : Outcome) where
       by_end runs.Unanswered is = h
       by_end runs.Lost is = h
 
-  not_on : (e : runs.Ending) (en : Ending) (lines : ℕ) (r : Ran) → o.ending ≡ e → followed_at w s o e ≡ o → EndsAs en lines o r → EndsAs en lines (followed (Some s) w o) r
-  not_on e en lines r is same h = subst (λ (x : Outcome). EndsAs en lines x r) (sym (ap (followed_at w s o) is ∙ same)) h
+  not_on : (e : runs.Ending) (en : Ending) (lines : ℕ) (r : Ran) → o.ending ≡ e → followed_at w s o e ≡ o → RunEndsAs en lines o r → RunEndsAs en lines (followed (Some s) w o) r
+  not_on e en lines r is same h = subst (λ (x : Outcome). RunEndsAs en lines x r) (sym (ap (followed_at w s o) is ∙ same)) h
 
-  pub ends_on : (en : Ending) (lines : ℕ) (r : Ran) (end : Option Stop) → is_done en ≡ false → StopBy w o.ending o.calls → w.answered ≡ answered_at end lines → EndBy en end → StartsQuiet s → EndsAs en lines o r → EndsAs en lines (followed (Some s) w o) r
+  pub ends_on : (en : Ending) (lines : ℕ) (r : Ran) (end : Option Stop) → is_done en ≡ false → StopBy w o.ending o.calls → w.answered ≡ answered_at_end end lines → EndBy en end → StartsQuiet s → RunEndsAs en lines o r → RunEndsAs en lines (followed (Some s) w o) r
   ends_on ending.Done lines r end none made answered by quiet h = absurd cc
   ends_on (ending.Halted cause) lines r end none made answered by quiet h = not_on (runs.Halted cause) (ending.Halted cause) lines r h.0 refl h
-  ends_on (ending.Cut report) lines r end none made answered by quiet h = cut_on report.cause lines r made (answered ∙ ap (λ (e : Option Stop). answered_at e lines) by) quiet h
+  ends_on (ending.Cut report) lines r end none made answered by quiet h = cut_on report.cause lines r made (answered ∙ ap (λ (e : Option Stop). answered_at_end e lines) by) quiet h
   ends_on (ending.BenchFault issued confirmed) lines r end none made answered by quiet h = part_on r h
   ends_on ending.ReplyBad lines r end none made answered by quiet h = part_on r h
   ends_on ending.WriteFault lines r end none made answered by quiet h = part_on r h
   ends_on ending.OutOfMemory lines r end none made answered by quiet h = part_on r h
 
 -- nothing goes on
-pub stays : (f : Followed) (m : BenchState) (answered : Option ℕ) (p : Program) (before : Option (List ℕ)) (en : Ending) (lines : ℕ) (r : Ran) (end : Option Stop) → goes_on f en ≡ false → answered ≡ answered_at end lines → EndBy en end
-    → EndsAs en lines (outcome_of (meaning (world_from m answered) p before)) r → EndsAs en lines (followed (sequel_of f) (world_from m answered) (outcome_of (meaning (world_from m answered) p before))) r
+pub stays : (f : Followed) (m : BenchState) (answered : Option ℕ) (p : Program) (before : Option (List ℕ)) (en : Ending) (lines : ℕ) (r : Ran) (end : Option Stop) → goes_on f en ≡ false → answered ≡ answered_at_end end lines → EndBy en end
+    → RunEndsAs en lines (outcome_of (meaning (world_from m answered) p before)) r → RunEndsAs en lines (followed (sequel_of f) (world_from m answered) (outcome_of (meaning (world_from m answered) p before))) r
 stays Nothing m answered p before en lines r end none is by h = h
 stays (Load ap' image) m answered p before en lines r end none is by h =
-    ends_on (world_from m answered) (loaded ap' image.now) (outcome_of (meaning (world_from m answered) p before)) en lines r end none (are_made (world_from m answered) p before).made.ending is by
-    (sequel_quiet (Load ap' image) (loaded ap' image.now) refl) h
+    ends_on (world_from m answered) (load_sequel ap' image.now) (outcome_of (meaning (world_from m answered) p before)) en lines r end none (are_made (world_from m answered) p before).made.ending is by
+    (sequel_quiet (Load ap' image) (load_sequel ap' image.now) refl) h
 stays (Scan ap') m answered p before en lines r end none is by h =
     ends_on (world_from m answered) (scanning ap') (outcome_of (meaning (world_from m answered) p before)) en lines r end none (are_made (world_from m answered) p before).made.ending is by
     (sequel_quiet (Scan ap') (scanning ap') refl) h
 
 -- what was left in its middle comes first in the whole
-pub part_stays : (f : Followed) (w : World) (o : Outcome) (r : Ran) → IsPart o r → IsPart (followed (sequel_of f) w o) r
+pub part_stays : (f : Followed) (w : World) (o : Outcome) (r : Ran) → IsPartOfOutcome o r → IsPartOfOutcome (followed (sequel_of f) w o) r
 part_stays Nothing w o r h = h
-part_stays (Load ap' image) w o r h = part_on w (loaded ap' image.now) o r h
+part_stays (Load ap' image) w o r h = part_on w (load_sequel ap' image.now) o r h
 part_stays (Scan ap') w o r h = part_on w (scanning ap') o r h

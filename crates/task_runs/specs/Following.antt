@@ -4,9 +4,9 @@ use Rattle.std.specs.Io.KnownBytes.{Appends}
 use Rattle.target_calls.specs.Asks.{settled_last}
 use Rattle.target_calls.specs.declared.calls.Ask.{Ask}
 use Rattle.probe_core.specs.Bench.{BenchState}
-use Rattle.access_calls.specs.Asking.{EndsBy}
+use Rattle.access_calls.specs.Asking.{EndsByStop}
 use Rattle.access_calls.specs.Endings.{ending_of}
-use Rattle.access_calls.specs.Keeps.{Keeps}
+use Rattle.access_calls.specs.Keeps.{KeepsAccess}
 use Rattle.access_calls.specs.Reported.{AccessView}
 use Rattle.access_calls.specs.declared.ended.Ending.{Ending}
 use Rattle.access_calls.specs.declared.ended.Ending.TheVariants as ending
@@ -42,7 +42,7 @@ pub record Shares (c : Comes Close) (old new : List Ask) : Type 0 where
   pub only : (x : Close) → c.end ≡ Some x → length all ≤ length (old ++ c.calls)
 
 -- It was left in its middle: what was written comes first in its lines, and what was asked among the first calls.
-pub record LeftOff (c : Comes Close) (old new : List Ask) (before now : Option (List ℕ)) : Type 0 where
+pub record LeftInMiddle (c : Comes Close) (old new : List Ask) (before now : Option (List ℕ)) : Type 0 where
   pub part : List ℕ
   pub rest : List ℕ
   pub lines : c.written ≡ part ++ rest
@@ -50,24 +50,24 @@ pub record LeftOff (c : Comes Close) (old new : List Ask) (before now : Option (
   pub calls : Shares c old new
 
 -- It stops at the call after so many, the old ones among them; or, where a retry ended, it came to its end after all of them.
-abbrev pub StopsAt : StopCause → ℕ → Comes Close → List Ask → Type 0
-StopsAt Faulted lines c old = (c.end ≡ None) × (length (old ++ c.calls) ≡ lines + 1)
-StopsAt NoAnswer lines c old = ((c.end ≡ None) × (length (old ++ c.calls) ≡ lines + 1)) ⊎ ((x : Close) × (c.end ≡ Some x) × (length (old ++ c.calls) ≡ lines))
+abbrev pub SequelStopsAt : StopCause → ℕ → Comes Close → List Ask → Type 0
+SequelStopsAt Faulted lines c old = (c.end ≡ None) × (length (old ++ c.calls) ≡ lines + 1)
+SequelStopsAt NoAnswer lines c old = ((c.end ≡ None) × (length (old ++ c.calls) ≡ lines + 1)) ⊎ ((x : Close) × (c.end ≡ Some x) × (length (old ++ c.calls) ≡ lines))
 
 -- It was cut: it stops there, and exactly its lines were written.
-pub record CutOff (cause : StopCause) (lines : ℕ) (c : Comes Close) (old new : List Ask) (before now : Option (List ℕ)) : Type 0 where
-  pub stops : StopsAt cause lines c old
+pub record SequelIsCutOff (cause : StopCause) (lines : ℕ) (c : Comes Close) (old new : List Ask) (before now : Option (List ℕ)) : Type 0 where
+  pub stops : SequelStopsAt cause lines c old
   pub written : Appends before now c.written
   pub calls : Shares c old new
 
 -- By what was answered.
 abbrev pub FollowsAs : ℕ → Comes Close → Result Closed Unclosed → List Ask → List Ask → Option (List ℕ) → Option (List ℕ) → Type 0
 FollowsAs lines c (Ok x) old new before now = CameToEnd c old new before now x.close
-FollowsAs lines c (Err unclosed.WriteFault) old new before now = LeftOff c old new before now
-FollowsAs lines c (Err (unclosed.Stopped (Cut r))) old new before now = CutOff r.cause lines c old new before now
-FollowsAs lines c (Err (unclosed.Stopped (BenchFault issued confirmed))) old new before now = LeftOff c old new before now
-FollowsAs lines c (Err (unclosed.Stopped ReplyBad)) old new before now = LeftOff c old new before now
-FollowsAs lines c (Err (unclosed.Stopped OutOfMemory)) old new before now = LeftOff c old new before now
+FollowsAs lines c (Err unclosed.WriteFault) old new before now = LeftInMiddle c old new before now
+FollowsAs lines c (Err (unclosed.Stopped (Cut r))) old new before now = SequelIsCutOff r.cause lines c old new before now
+FollowsAs lines c (Err (unclosed.Stopped (BenchFault issued confirmed))) old new before now = LeftInMiddle c old new before now
+FollowsAs lines c (Err (unclosed.Stopped ReplyBad)) old new before now = LeftInMiddle c old new before now
+FollowsAs lines c (Err (unclosed.Stopped OutOfMemory)) old new before now = LeftInMiddle c old new before now
 
 -- ---- over any access and any sink
 
@@ -77,38 +77,38 @@ ending_by unclosed.WriteFault = ending.WriteFault
 ending_by (unclosed.Stopped s) = ending_of s
 
 -- the access has the end that is answered, and else none
-abbrev pub EndIs : {A : Type 0} → Result A Unclosed → Option Stop → Type 0
-EndIs (Ok x) end = end ≡ None
-EndIs (Err unclosed.WriteFault) end = end ≡ None
-EndIs (Err (unclosed.Stopped s)) end = EndsBy s end
+abbrev pub ClosingEndIs : {A : Type 0} → Result A Unclosed → Option Stop → Type 0
+ClosingEndIs (Ok x) end = end ≡ None
+ClosingEndIs (Err unclosed.WriteFault) end = end ≡ None
+ClosingEndIs (Err (unclosed.Stopped s)) end = EndsByStop s end
 
 -- the sink's count of faults rose where it failed, and else it is the same
-abbrev pub HasSinkCause : {A : Type 0} → Result A Unclosed → ℕ → ℕ → Type 0
-HasSinkCause (Ok x) before now = now ≡ before
-HasSinkCause (Err unclosed.WriteFault) before now = Rose before now
-HasSinkCause (Err (unclosed.Stopped s)) before now = now ≡ before
+abbrev pub ClosingHasSinkCause : {A : Type 0} → Result A Unclosed → ℕ → ℕ → Type 0
+ClosingHasSinkCause (Ok x) before now = now ≡ before
+ClosingHasSinkCause (Err unclosed.WriteFault) before now = Rose before now
+ClosingHasSinkCause (Err (unclosed.Stopped s)) before now = now ≡ before
 
 -- the answer does not say that a sink failed
-abbrev pub NoWriteFault : {A : Type 0} → Result A Unclosed → Type 0
-NoWriteFault (Ok x) = Unit {0}
-NoWriteFault (Err unclosed.WriteFault) = ⊥
-NoWriteFault (Err (unclosed.Stopped s)) = Unit {0}
+abbrev pub ClosingHasNoWriteFault : {A : Type 0} → Result A Unclosed → Type 0
+ClosingHasNoWriteFault (Ok x) = Unit {0}
+ClosingHasNoWriteFault (Err unclosed.WriteFault) = ⊥
+ClosingHasNoWriteFault (Err (unclosed.Stopped s)) = Unit {0}
 
 -- whole lines were written, except perhaps where the sink failed
-abbrev pub HasLines : {A : Type 0} → Result A Unclosed → Option (List ℕ) → Option (List ℕ) → Type 0
-HasLines (Ok x) old new = AppendsLines old new
-HasLines (Err unclosed.WriteFault) old new = Unit {0}
-HasLines (Err (unclosed.Stopped s)) old new = AppendsLines old new
+abbrev pub ClosingHasLines : {A : Type 0} → Result A Unclosed → Option (List ℕ) → Option (List ℕ) → Type 0
+ClosingHasLines (Ok x) old new = AppendsLines old new
+ClosingHasLines (Err unclosed.WriteFault) old new = Unit {0}
+ClosingHasLines (Err (unclosed.Stopped s)) old new = AppendsLines old new
 
 -- How what follows a run ends: the access has the end that is answered, and else none; whole lines are written, except perhaps where the
 -- sink failed; its count of faults rose where the answer says that it failed, and else it is the same; and what each call of an access
 -- keeps is kept.
 pub record EndsFollowing {S T K : Type 0} (begun : S → BenchState → Type 0) (reported : S → AccessView) (identity : S → ℕ)
     (written : K → Option (List ℕ)) (faults : K → ℕ) (result : Result T Unclosed) (old new : S) (sink_old sink_new : K) : Type 0 where
-  pub end : EndIs result (reported new).end
-  pub lines : HasLines result (written sink_old) (written sink_new)
-  pub cause : HasSinkCause result (faults sink_old) (faults sink_new)
-  pub keeps : Keeps begun reported identity old new
+  pub end : ClosingEndIs result (reported new).end
+  pub lines : ClosingHasLines result (written sink_old) (written sink_new)
+  pub cause : ClosingHasSinkCause result (faults sink_old) (faults sink_new)
+  pub keeps : KeepsAccess begun reported identity old new
 
 -- ---- the answer
 
@@ -127,6 +127,6 @@ pub record HasNotClosed (unclosed : Unclosed) (skipped : ℕ) (task : TaskEnded)
   pub close : task.close ≡ Nothing
 
 -- The task is what the run and the answer of its sequel make it.
-abbrev pub IsClosed : Result Closed Unclosed → Ended → ℕ → TaskEnded → Type 0
-IsClosed (Ok x) ended skipped task = HasClosed x ended skipped task
-IsClosed (Err x) ended skipped task = HasNotClosed x skipped task
+abbrev pub TaskIsClosed : Result Closed Unclosed → Ended → ℕ → TaskEnded → Type 0
+TaskIsClosed (Ok x) ended skipped task = HasClosed x ended skipped task
+TaskIsClosed (Err x) ended skipped task = HasNotClosed x skipped task

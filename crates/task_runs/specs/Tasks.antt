@@ -5,7 +5,7 @@ use Rattle.function_table.specs.Variables.{predefined}
 use Rattle.access_calls.specs.declared.ended.Ending.{Ending}
 use Rattle.access_calls.specs.declared.ended.Ending.TheVariants as e
 use Rattle.hex_image.specs.Image.{Bytes}
-use Rattle.image_load.specs.LoadSequel.{loaded}
+use Rattle.image_load.specs.LoadSequel.{load_sequel}
 use Rattle.image_load.specs.Pieces.{pieces}
 use Rattle.rom_scan.specs.Walk as walk
 use Rattle.rom_scan.specs.Walk.{Walked, scanned}
@@ -28,18 +28,18 @@ is_done e.WriteFault = false
 is_done e.OutOfMemory = false
 
 -- how a scan closes
-abbrev pub close_of : Walked → Close
-close_of (walk.Listed listed) = close.Scanned
-close_of walk.Full = close.Full
+abbrev pub scan_close : Walked → Close
+scan_close (walk.Listed listed) = close.Scanned
+scan_close walk.Full = close.Full
 
 -- A scan by an access port that lists at most 1,024 components, and then how it closes.
 abbrev pub scanning : ℕ → Sequel Close
-scanning ap = after (scanned 1024 ap) (λ walked. Ends (close_of walked))
+scanning ap = after (scanned 1024 ap) (λ walked. Ends (scan_close walked))
 
 -- What follows, as a sequel.
 abbrev pub sequel_of : Followed → Option (Sequel Close)
 sequel_of Nothing = None
-sequel_of (Load ap image) = Some (loaded ap image.now)
+sequel_of (Load ap image) = Some (load_sequel ap image.now)
 sequel_of (Scan ap) = Some (scanning ap)
 
 -- something follows a run that ended so

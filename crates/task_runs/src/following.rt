@@ -2,12 +2,12 @@
 ghost use Rattle.std.specs.Prelude.{◌≡◌, ◌+◌, ◌≤◌, Some, IfOk, length};
 ghost use Rattle.target_calls.specs.World.{world_after};
 ghost use Rattle.access_calls.specs.Asking.{MayAsk};
-ghost use Rattle.access_calls.specs.Keeps.{Keeps};
-ghost use Rattle.function_calls.specs.Frame.{IsReady};
-ghost use Rattle.image_load.specs.LoadSequel.{loaded};
+ghost use Rattle.access_calls.specs.Keeps.{KeepsAccess};
+ghost use Rattle.function_calls.specs.Frame.{IsReadyToCall};
+ghost use Rattle.image_load.specs.LoadSequel.{load_sequel};
 ghost use Rattle.rom_scan.specs.Frame.{GivesAsking, GivesWriting};
 ghost use Rattle.sequels.specs.Sequel.{Sequel, comes};
-ghost use Rattle.task_runs.specs.Following.{EndIs, EndsFollowing, FollowsAs, NoWriteFault};
+ghost use Rattle.task_runs.specs.Following.{ClosingEndIs, ClosingHasNoWriteFault, EndsFollowing, FollowsAs};
 ghost use Rattle.task_runs.specs.Tasks.{ClosesAs, ClosesLoad, ClosesScan, scanning, sequel_of};
 
 use crate::followed::Followed;
@@ -44,13 +44,13 @@ fn load_after<A: Access>(
 ) -> Result<Closed, Unclosed>
     requires may { MayAsk 1000000 (A.reported access.old) }
     ensures gives { GivesAsking A.begun A.reported access.old access.new
-        (λ w lines. FollowsAs lines (comes (world_after w (A.reported access.old).asks.calls) (loaded ap image.now)) result) }
+        (λ w lines. FollowsAs lines (comes (world_after w (A.reported access.old).asks.calls) (load_sequel ap image.now)) result) }
     ensures asked { IfOk result (λ x. length (A.reported access.new).asks.calls ≡ length (A.reported access.old).asks.calls + x.units) }
     ensures few { IfOk result (λ x. x.units ≤ 8000000) }
     ensures closes { IfOk result (λ x. ClosesLoad image.now x.close) }
-    ensures end { EndIs result (A.reported access.new).end }
-    ensures cause { NoWriteFault result }
-    ensures keeps { Keeps A.begun A.reported A.identity access.old access.new }
+    ensures end { ClosingEndIs result (A.reported access.new).end }
+    ensures cause { ClosingHasNoWriteFault result }
+    ensures keeps { KeepsAccess A.begun A.reported A.identity access.old access.new }
 {
     match load(alloc, image, ap, access) {
         Ok(loaded) => Ok(Closed {
@@ -119,7 +119,7 @@ pub(crate) fn follow<A: Access, K: Sink>(
     access: &mut A,
     sink: &mut K,
 ) -> Result<Closed, Unclosed>
-    requires ready { IsReady units (A.reported access.old) }
+    requires ready { IsReadyToCall units (A.reported access.old) }
     ensures gives { (s : Sequel Close) → sequel_of followed.now ≡ Some s
         → GivesWriting A.begun A.reported K.written access.old access.new sink.old sink.new
         (λ w lines. FollowsAs lines (comes (world_after w (A.reported access.old).asks.calls) s) result) }

@@ -5,15 +5,15 @@ ghost use Rattle.target_calls.specs.NeedPoints.{nothing_asked};
 ghost use Rattle.access_calls.specs.Left.{IsLeft, answered_by};
 ghost use Rattle.access_calls.specs.Reported.{world_from};
 ghost use Rattle.access_calls.specs.declared.ended.Ending.TheVariants as ends;
-ghost use Rattle.access_calls.specs.Keeps.{Keeps};
+ghost use Rattle.access_calls.specs.Keeps.{KeepsAccess};
 ghost use Rattle.seq_check.specs.Answers.{checked_trees};
 ghost use Rattle.sequence_rules.specs.Known.{Knows, known_part};
 ghost use Rattle.sequence_rules.specs.Runs.{late_meaning, program_of};
-ghost use Rattle.followed_runs.specs.Followed.{close_in, outcome_in};
-ghost use Rattle.control_flow.specs.Answers.{EndBy, EndsAs, HasLines, HasNeeds, HasSinkCause, IsPart, ran};
+ghost use Rattle.followed_runs.specs.Followed.{close_in, outcome_in_world};
+ghost use Rattle.control_flow.specs.Answers.{EndBy, HasLines, HasNeeds, IsPartOfOutcome, RunEndsAs, RunHasSinkCause, ran};
 ghost use Rattle.control_flow.specs.Closing.{ComesToEnd};
 ghost use Rattle.sequels.specs.declared.close.Close.TheVariants.{Nothing};
-ghost use Rattle.task_runs.specs.Following.{IsClosed, ending_by};
+ghost use Rattle.task_runs.specs.Following.{TaskIsClosed, ending_by};
 ghost use Rattle.task_runs.specs.Tasks.{AreTaskSettings, ClosesAs, goes_on, sequel_of, task_of};
 
 use crate::followed::Followed;
@@ -58,7 +58,7 @@ fn ending_by(unclosed: Unclosed) -> Ending
 // A run that was done, with what followed it.
 fn close(alloc: Global, ended: Ended, closed: Result<Closed, Unclosed>, skipped: u32) -> TaskEnded
     requires few { IfOk closed (λ x. ended.units + x.units < 2 ^ 32) }
-    ensures { IsClosed closed ended skipped result }
+    ensures { TaskIsClosed closed ended skipped result }
 {
     match closed {
         Ok(Closed { close, units }) => TaskEnded {
@@ -105,8 +105,8 @@ pub fn run_task<A: Access, K: Sink>(
     requires fresh { (A.reported access.old).asks ≡ nothing_asked }
     // How it ended, what is answered, and the lines are those of what the task comes to in the world that is left.
     ensures answer { (m : BenchState) (known : Bool) → A.begun access.old m → Knows known (K.written sink.old)
-        → EndsAs result.ended.ending (A.reported access.new).lines
-        (outcome_in (world_from m (answered_by (A.reported access.new))) (task_of (program_of (checked_trees checked.now) start.now settings.now) followed.now)
+        → RunEndsAs result.ended.ending (A.reported access.new).lines
+        (outcome_in_world (world_from m (answered_by (A.reported access.new))) (task_of (program_of (checked_trees checked.now) start.now settings.now) followed.now)
         (known_part known (K.written sink.old)))
         (ran result.ended (A.reported access.new).asks (known_part known (K.written sink.new))) }
     // Where it is neither done nor halted, what is written comes first in the lines of each world that is left. All calls before a line
@@ -114,7 +114,7 @@ pub fn run_task<A: Access, K: Sink>(
     ensures part { (m : BenchState) (answered : Option ℕ) (known : Bool) → A.begun access.old m → IsLeft (A.reported access.new) answered
         → Knows known (K.written sink.old)
         → (ComesToEnd result.ended.ending → ⊥)
-        → IsPart (outcome_in (world_from m answered)
+        → IsPartOfOutcome (outcome_in_world (world_from m answered)
         (task_of (program_of (checked_trees checked.now) start.now settings.now) followed.now) (known_part known (K.written sink.old)))
         (ran result.ended (A.reported access.new).asks (known_part known (K.written sink.new))) }
     // So is how what follows came to its end.
@@ -133,8 +133,8 @@ pub fn run_task<A: Access, K: Sink>(
     ensures end { EndBy result.ended.ending (A.reported access.new).end }
     ensures skipped { result.ended.skipped ≡ (A.reported access.new).skipped }
     ensures lines { HasLines result.ended.ending (K.written sink.old) (K.written sink.new) }
-    ensures cause { HasSinkCause result.ended.ending (K.faults sink.old) (K.faults sink.new) }
-    ensures keeps { Keeps A.begun A.reported A.identity access.old access.new }
+    ensures cause { RunHasSinkCause result.ended.ending (K.faults sink.old) (K.faults sink.new) }
+    ensures keeps { KeepsAccess A.begun A.reported A.identity access.old access.new }
 {
     let ended = run(alloc, checked, start, settings, access, sink);
     if goes_on(followed, ended.ending) {

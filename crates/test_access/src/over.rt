@@ -1,6 +1,6 @@
 //! An access over one bench, of which calls are asked one after the other.
 ghost use Rattle.std.specs.Prelude.{◌≡◌};
-ghost use Rattle.access_calls.specs.Opening.{IsIdle};
+ghost use Rattle.access_calls.specs.Opening.{BenchIsIdle};
 
 use access_calls::{Access, NotBegun, OverBench, Report, Stop, StopCause};
 use bench_flights::{Flights, FlightsOver};
@@ -82,7 +82,7 @@ pub fn begin<B: Bench + Drop, F: FlightsOver<B> + Drop>(
     bench: B,
     limits: Limits,
 ) -> Result<Over<B, F>, RowError>
-    requires idle { IsIdle (B.reported bench) }
+    requires idle { BenchIsIdle (B.reported bench) }
     requires limits { limits ≡ (B.reported bench).limits }
 {
     match PackedAccess::<F>::begin(alloc, bench, CONFIG, limits) {

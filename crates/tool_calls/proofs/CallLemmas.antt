@@ -10,7 +10,7 @@ use Rattle.text_lines.specs.declared.putting.TextError.TheVariants as errors
 use Rattle.job_source.specs.Source.{AreBytesOf}
 use Rattle.tool_calls.specs.declared.unasked.Unasked.{Unasked}
 use Rattle.tool_calls.specs.declared.unasked.Unasked.TheVariants as unasked
-use Rattle.tool_calls.specs.Calls.{Blames, Call, Does, FailsPutting, FaultStatuses, IsDisturbed, IsDone, IsFinished, PutsAs, Tool, does, failed_status, no_memory, unread}
+use Rattle.tool_calls.specs.Calls.{Blames, Call, CallIsDone, Does, FailsPutting, FaultStatuses, IsDisturbed, IsFinished, PutsAs, Tool, does, failed_status, no_memory, unread}
 
 module _ {A E : Type 0} (tool : Tool A E) where
   -- ---- what was asked for
@@ -38,7 +38,7 @@ module _ {A E : Type 0} (tool : Tool A E) where
   no_part end before now sink still memory (inr is) = memory is
 
   pub success_of : (call : Call E) → Does tool call → Blames tool.faults.write call.end call.old.sink_faults call.new.sink_faults → IsQuiet call.old.source_faults call.new.source_faults
-      → IsQuiet call.old.sink_faults call.new.sink_faults → call.end ≢ tool.faults.memory → IsDone tool call
+      → IsQuiet call.old.sink_faults call.new.sink_faults → call.end ≢ tool.faults.memory → CallIsDone tool call
   success_of call (does bytes answer are asks (inl put)) sink quiet still memory =
       record { bytes = bytes; answer = answer; are = are; asks = asks; text = put.1; status = put.0 }
   success_of call (does bytes answer are asks (inr part)) sink quiet still memory = absurd (no_part call.end call.old.sink_faults call.new.sink_faults sink still memory part.0)

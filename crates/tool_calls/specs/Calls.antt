@@ -82,8 +82,8 @@ pub record Tool (A E : Type 0) : Type 1 where
   pub faults : FaultStatuses E
 
 -- the line of a source that failed
-abbrev pub fault_text : List ℕ
-fault_text = codes "end readfault\n"
+abbrev pub source_fault_line : List ℕ
+source_fault_line = codes "end readfault\n"
 
 -- What a call does. There are bytes, those of the source where it is observable, of which the words ask for an answer, and it was
 -- written. Or the source failed, which words that ask for something alone read, and its line was written. Or memory was refused before
@@ -92,11 +92,11 @@ pub data Does {A E : Type 0} (tool : Tool A E) (call : Call E) : Type 0 where
   does : (bytes : List ℕ) (answer : A) → AreBytesOf call.old.left bytes → tool.Asks call.words bytes answer
       → IsPut tool.faults call.old.written call.new.written (tool.text answer) (tool.status answer) call.end → Does tool call
   unread : tool.IsLine call.words → Rose call.old.source_faults call.new.source_faults
-      → IsPut tool.faults call.old.written call.new.written fault_text tool.faults.read call.end → Does tool call
+      → IsPut tool.faults call.old.written call.new.written source_fault_line tool.faults.read call.end → Does tool call
   no_memory : call.end ≡ tool.faults.memory → call.new.written ≡ call.old.written → Does tool call
 
 -- there are bytes, those of the source where it is observable, of which the words ask for an answer, and it was written whole with its status
-pub record IsDone {A E : Type 0} (tool : Tool A E) (call : Call E) : Type 0 where
+pub record CallIsDone {A E : Type 0} (tool : Tool A E) (call : Call E) : Type 0 where
   pub bytes : List ℕ
   pub answer : A
   pub are : AreBytesOf call.old.left bytes
@@ -108,7 +108,7 @@ pub record IsDone {A E : Type 0} (tool : Tool A E) (call : Call E) : Type 0 wher
 abbrev pub IsFinished : {A E : Type 0} → Tool A E → Result A Unasked → Option (List ℕ) → Option (List ℕ) → E → Type 0
 IsFinished tool (Ok answer) before after end = IsPut tool.faults before after (tool.text answer) (tool.status answer) end
 IsFinished tool (Err unasked.ReadFault) before after end =
-    IsPut tool.faults before after fault_text tool.faults.read end × ((end ≡ tool.faults.read) ⊎ (end ≡ tool.faults.write))
+    IsPut tool.faults before after source_fault_line tool.faults.read end × ((end ≡ tool.faults.read) ⊎ (end ≡ tool.faults.write))
 IsFinished tool (Err unasked.OutOfMemory) before after end = (end ≡ tool.faults.memory) × (after ≡ before)
 
 -- What was found out of the words and the source was finished, as `IsFinished` says; and the status names the sink only where it failed.

@@ -6,7 +6,7 @@ use Rattle.trace_events.proofs.EventLemmas.{event_given, event_over}
 use Rattle.trace_compare.specs.declared.exchange.Exchange.{Exchange}
 use Rattle.trace_compare.specs.Counting.{Counting, after_events}
 use Rattle.trace_compare.specs.Exchanges.{exchange_in, exchanges, then_exchange}
-use Rattle.trace_compare.specs.Coming.{Coming, Contents, Counted, GivesExchange, PassesExchange, TakesAll, contents_left, contents_of}
+use Rattle.trace_compare.specs.Coming.{Coming, Contents, CountsEvent, GivesExchange, PassesExchange, TakesAll, contents_left, contents_of}
 
 -- the same comes as at first
 pub record Ahead (first : Coming) (place : Place) (c : Counting) (old new : Option (List ℕ)) : Type 0 where
@@ -19,14 +19,14 @@ ahead_start now left = record { ahead = λ bytes is. (bytes, is, refl) }
 abbrev more : Option Exchange → Counting → List Event → Contents
 more x d es = record { exchanges = then_exchange x (exchanges d es); counting = after_events d es }
 
-one_more : (c d : Counting) (e : Event) (x : Option Exchange) (es fs : List Event) → fs ≡ e ∷ es → Counted c e x d → contents_of c fs ≡ more x d es
+one_more : (c d : Counting) (e : Event) (x : Option Exchange) (es fs : List Event) → fs ≡ e ∷ es → CountsEvent c e x d → contents_of c fs ≡ more x d es
 one_more c d e x es fs is counted =
     ap (λ (gs : List Event). contents_of c gs) is
     ∙ ap (λ (k : Counting). more (exchange_in c e) k es) (sym counted.after_is)
     ∙ ap (λ (y : Option Exchange). more y d es) (sym counted.found_is)
 
 pub ahead_on : (first : Coming) (place later : Place) (c d : Counting) (old new next : Option (List ℕ)) (found : Option Event) (e : Event) (x : Option Exchange)
-    → Ahead first place c old new → GivesEvent place later new next found → found ≡ Some e → Counted c e x d → x ≡ None → Ahead first later d old next
+    → Ahead first place c old new → GivesEvent place later new next found → found ≡ Some e → CountsEvent c e x d → x ≡ None → Ahead first later d old next
 ahead_on first place later c d old new next found e x h gives found_is counted none = record {
   ahead = λ bytes is.
       let before = h.ahead bytes is in
@@ -39,7 +39,7 @@ ahead_on first place later c d old new next found e x h gives found_is counted n
 }
 
 pub ahead_exchange : (first after : Coming) (place : Place) (c : Counting) (old new next : Option (List ℕ)) (found : Option Event) (e : Event) (x : Option Exchange) (exchange : Exchange)
-    → Ahead first place c old new → GivesEvent place after.place new next found → found ≡ Some e → Counted c e x after.counting → x ≡ Some exchange → GivesExchange first after old next (Some exchange)
+    → Ahead first place c old new → GivesEvent place after.place new next found → found ≡ Some e → CountsEvent c e x after.counting → x ≡ Some exchange → GivesExchange first after old next (Some exchange)
 ahead_exchange first after place c old new next found e x exchange h gives found_is counted some = record {
   given = λ bytes is.
       let before = h.ahead bytes is in

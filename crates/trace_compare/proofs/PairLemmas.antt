@@ -12,7 +12,7 @@ use Rattle.trace_compare.specs.declared.exchange.Exchange.{Exchange}
 use Rattle.trace_compare.specs.declared.traces.Traces.{Traces}
 use Rattle.trace_compare.specs.declared.traces.Two.{Two}
 use Rattle.trace_compare.specs.Coming.{Contents, PassesExchange, after_exchange, contents_left, over}
-use Rattle.trace_compare.specs.Comparison.{are_same, difference, is_end, is_right, same_number, summary}
+use Rattle.trace_compare.specs.Comparison.{are_both_absent, are_same, exchange_difference, is_right, same_exchange_number, summary}
 use Rattle.trace_compare.specs.Counting.{Counting}
 use Rattle.trace_compare.specs.Exchanges.{is_same}
 use Rattle.trace_compare.specs.Pairs.{Compared, GivesTwo, PutsDifference, TakesBoth, alike_left, compared, compared_left, comparison_left}
@@ -23,7 +23,7 @@ use Rattle.trace_compare.specs.Texts.{two_text}
 -- two exchanges before others, by whether they are the same
 abbrev split : Bool → ℕ → Exchange → Exchange → Contents → Contents → Compared
 split b last x y a b' = record {
-  text = cond b (difference x.number a.exchanges b'.exchanges) (two_text last (Some x) (Some y));
+  text = cond b (exchange_difference x.number a.exchanges b'.exchanges) (two_text last (Some x) (Some y));
   same = b && are_same a.exchanges b'.exchanges;
   trace = a.counting;
   against = b'.counting;
@@ -38,7 +38,7 @@ split_same false last n x y a b' is = absurd (let k : ⊥ = cc in k)
 
 -- what is compared where the first two exchanges are these
 abbrev parted : ℕ → Option Exchange → Option Exchange → Counting → Counting → Compared
-parted last x y c d = record { text = two_text last x y; same = is_end x y; trace = c; against = d }
+parted last x y c d = record { text = two_text last x y; same = are_both_absent x y; trace = c; against = d }
 
 split_other : (b : Bool) (last : ℕ) (x y : Exchange) (a b' : Contents) → number_if b x ≡ None → split b last x y a b' ≡ parted last (Some x) (Some y) a.counting b'.counting
 split_other true last x y a b' is = absurd (let k : ⊥ = cc in k)
@@ -48,7 +48,7 @@ both : (last : ℕ) (a b c d : Contents) → a ≡ c → b ≡ d → compared la
 both last a b c d is other = ap (λ (k : Contents). compared last k b) is ∙ ap (λ (k : Contents). compared last c k) other
 
 -- the same two are passed over
-passes_same : (last n : ℕ) (a b c d : Contents) (x y : Option Exchange) (k l : Counting) → PassesExchange a x c k → PassesExchange b y d l → same_number x y ≡ Some n → compared last a b ≡ compared n c d
+passes_same : (last n : ℕ) (a b c d : Contents) (x y : Option Exchange) (k l : Counting) → PassesExchange a x c k → PassesExchange b y d l → same_exchange_number x y ≡ Some n → compared last a b ≡ compared n c d
 passes_same last n a b c d (Some x) (Some y) k l first second is =
     both last a b (after_exchange x c) (after_exchange y d) first second ∙ split_same (is_same x y) last n x y c d is
 passes_same last n a b c d None y k l first second is = absurd (let no : ⊥ = cc in no)
@@ -58,7 +58,7 @@ counting_of : (a : Contents) (k : Counting) → a ≡ over k → k ≡ a.countin
 counting_of a k is = ap (λ (x : Contents). x.counting) (sym is)
 
 -- any other two are the difference
-passes_other : (last : ℕ) (a b c d : Contents) (x y : Option Exchange) (k l : Counting) → PassesExchange a x c k → PassesExchange b y d l → same_number x y ≡ None → compared last a b ≡ parted last x y c.counting d.counting
+passes_other : (last : ℕ) (a b c d : Contents) (x y : Option Exchange) (k l : Counting) → PassesExchange a x c k → PassesExchange b y d l → same_exchange_number x y ≡ None → compared last a b ≡ parted last x y c.counting d.counting
 passes_other last a b c d (Some x) (Some y) k l first second is =
     both last a b (after_exchange x c) (after_exchange y d) first second ∙ split_other (is_same x y) last x y c d is
 passes_other last a b c d None None k l first second is =
@@ -80,7 +80,7 @@ pub alike_start : (now : Traces) (left other : Option (List ℕ)) → Alike now 
 alike_start now left other = record { ahead = λ a b is other_is. (a, b, is, other_is, refl) }
 
 pub alike_on : (first now later : Traces) (last n : ℕ) (old new next other_old other_new other_next : Option (List ℕ)) (two : Two) → Alike first now last old new other_old other_new
-    → GivesTwo now later new next other_new other_next two → same_number two.trace two.against ≡ Some n → Alike first later n old next other_old other_next
+    → GivesTwo now later new next other_new other_next two → same_exchange_number two.trace two.against ≡ Some n → Alike first later n old next other_old other_next
 alike_on first now later last n old new next other_old other_new other_next two h gives same = record {
   ahead = λ a b is other_is.
       let before = h.ahead a b is other_is in
@@ -97,7 +97,7 @@ alike_on first now later last n old new next other_old other_new other_next two 
 
 -- the difference
 difference_is : (first now later : Traces) (last : ℕ) (old new next other_old other_new other_next : Option (List ℕ)) (two : Two) → Alike first now last old new other_old other_new
-    → GivesTwo now later new next other_new other_next two → same_number two.trace two.against ≡ None
+    → GivesTwo now later new next other_new other_next two → same_exchange_number two.trace two.against ≡ None
     → (a b : List ℕ) → old ≡ Some a → other_old ≡ Some b
     → (x : List ℕ) × (y : List ℕ) × (next ≡ Some x) × (other_next ≡ Some y)
     × (parted last two.trace two.against (contents_left later.trace x).counting (contents_left later.against y).counting ≡ compared_left 0 first a b)
@@ -115,11 +115,11 @@ difference_is first now later last old new next other_old other_new other_next t
 
 -- it was put, of which the result says whether neither is there
 module _ (first now later : Traces) (last : ℕ) (old new next other_old other_new other_next start written put : Option (List ℕ)) (two : Two) (r : Result Bool CompareEnd) (h : Alike first now last old new other_old other_new)
-    (gives : GivesTwo now later new next other_new other_next two) (other : same_number two.trace two.against ≡ None) (unwritten : written ≡ start) where
-  pub difference_put : OnOk r (Appends written put (two_text last two.trace two.against)) → IfOk r (λ ended. ended ≡ is_end two.trace two.against) → IfOk r (PutsDifference first later old next other_old other_next start put)
+    (gives : GivesTwo now later new next other_new other_next two) (other : same_exchange_number two.trace two.against ≡ None) (unwritten : written ≡ start) where
+  pub difference_put : OnOk r (Appends written put (two_text last two.trace two.against)) → IfOk r (λ ended. ended ≡ are_both_absent two.trace two.against) → IfOk r (PutsDifference first later old next other_old other_next start put)
   difference_put text end = go r text end
     where
-      go : (q : Result Bool CompareEnd) → OnOk q (Appends written put (two_text last two.trace two.against)) → IfOk q (λ ended. ended ≡ is_end two.trace two.against) → IfOk q (PutsDifference first later old next other_old other_next start put)
+      go : (q : Result Bool CompareEnd) → OnOk q (Appends written put (two_text last two.trace two.against)) → IfOk q (λ ended. ended ≡ are_both_absent two.trace two.against) → IfOk q (PutsDifference first later old next other_old other_next start put)
       go (Err e) text end = tt
       go (Ok same) text end = record {
         given = λ a b is other_is.

@@ -4,21 +4,21 @@ use Rattle.std.specs.Io.KnownBytes.{Appends}
 use Rattle.std.specs.Str.{bytes_eq}
 use Rattle.dap_base.specs.Streams.{AppendsPrefix}
 use Rattle.text_lines.specs.Shown.{shown}
-use Rattle.trace_words.specs.Words.{words, are_good}
+use Rattle.trace_words.specs.Words.{words_of_trace, are_good}
 use Rattle.trace_compare.specs.Comparison.{are_alike, words_against}
 use Rattle.trace_compare.specs.declared.call.Status.{Status}
 use Rattle.trace_compare.specs.declared.call.Status.TheVariants as status
 
 -- the status as the number with which the program ends
-abbrev pub code_of : Status → ℕ
-code_of status.Done = 0
-code_of status.Wrong = 1
-code_of status.Usage = 2
-code_of status.ReadFault = 5
-code_of status.FileFault = 5
-code_of status.NotOpened = 5
-code_of status.WriteFault = 6
-code_of status.OutOfMemory = 7
+abbrev pub words_exit_code : Status → ℕ
+words_exit_code status.Done = 0
+words_exit_code status.Wrong = 1
+words_exit_code status.Usage = 2
+words_exit_code status.ReadFault = 5
+words_exit_code status.FileFault = 5
+words_exit_code status.NotOpened = 5
+words_exit_code status.WriteFault = 6
+words_exit_code status.OutOfMemory = 7
 
 -- ---- words
 
@@ -33,15 +33,15 @@ file_named (option ∷ name ∷ other ∷ others) = None
 
 -- What is written for these bytes of a trace, by how the call ended. It is all words, and whether each packet and reply is one. At a fault it is
 -- a part of the words, from the front.
-abbrev pub Writes : List ℕ → Status → Option (List ℕ) → Option (List ℕ) → Type 0
-Writes bytes status.Done old new = Appends old new (words bytes) × (are_good bytes ≡ true)
-Writes bytes status.Wrong old new = Appends old new (words bytes) × (are_good bytes ≡ false)
-Writes bytes status.Usage old new = ⊥
-Writes bytes status.ReadFault old new = AppendsPrefix old new (words bytes)
-Writes bytes status.FileFault old new = ⊥
-Writes bytes status.NotOpened old new = ⊥
-Writes bytes status.WriteFault old new = AppendsPrefix old new (words bytes)
-Writes bytes status.OutOfMemory old new = AppendsPrefix old new (words bytes)
+abbrev pub WritesWords : List ℕ → Status → Option (List ℕ) → Option (List ℕ) → Type 0
+WritesWords bytes status.Done old new = Appends old new (words_of_trace bytes) × (are_good bytes ≡ true)
+WritesWords bytes status.Wrong old new = Appends old new (words_of_trace bytes) × (are_good bytes ≡ false)
+WritesWords bytes status.Usage old new = ⊥
+WritesWords bytes status.ReadFault old new = AppendsPrefix old new (words_of_trace bytes)
+WritesWords bytes status.FileFault old new = ⊥
+WritesWords bytes status.NotOpened old new = ⊥
+WritesWords bytes status.WriteFault old new = AppendsPrefix old new (words_of_trace bytes)
+WritesWords bytes status.OutOfMemory old new = AppendsPrefix old new (words_of_trace bytes)
 
 -- The same for these bytes of a trace and of the one that it is compared with. It is the whole comparison, and whether both are alike. At a
 -- fault it is a part of it.
@@ -56,13 +56,13 @@ WritesAgainst bytes others status.WriteFault old new = AppendsPrefix old new (wo
 WritesAgainst bytes others status.OutOfMemory old new = AppendsPrefix old new (words_against bytes others)
 
 -- the line of a file that cannot be opened
-unfoldable pub refusal_line : List ℕ → List ℕ
-refusal_line name = codes "file " ++ shown name ++ codes " cannot be opened\n"
+unfoldable pub not_opened_line : List ℕ → List ℕ
+not_opened_line name = codes "file " ++ shown name ++ codes " cannot be opened\n"
 
 -- what is written where it cannot be, by how the call ended
 abbrev pub WritesRefusal : List ℕ → Status → Option (List ℕ) → Option (List ℕ) → Type 0
-WritesRefusal name status.NotOpened old new = Appends old new (refusal_line name)
-WritesRefusal name status.WriteFault old new = AppendsPrefix old new (refusal_line name)
+WritesRefusal name status.NotOpened old new = Appends old new (not_opened_line name)
+WritesRefusal name status.WriteFault old new = AppendsPrefix old new (not_opened_line name)
 WritesRefusal name status.OutOfMemory old new = new ≡ old
 WritesRefusal name other old new = ⊥
 
@@ -71,11 +71,11 @@ abbrev pub WritesFile : List ℕ → List ℕ → List ℕ → Status → Option
 WritesFile name bytes others result old new = WritesAgainst bytes others result old new ⊎ WritesRefusal name result old new
 
 -- the line of a wrong call
-abbrev pub usage_line : List ℕ
-usage_line = codes "usage dapseq_words [--against FILE] < TRACE\n"
+abbrev pub words_usage_line : List ℕ
+words_usage_line = codes "usage dapseq_words [--against FILE] < TRACE\n"
 
 -- what is written at a wrong call, by how it ended
 abbrev pub WritesUsage : Status → Option (List ℕ) → Option (List ℕ) → Type 0
-WritesUsage status.Usage old new = Appends old new usage_line
-WritesUsage status.WriteFault old new = AppendsPrefix old new usage_line
+WritesUsage status.Usage old new = Appends old new words_usage_line
+WritesUsage status.WriteFault old new = AppendsPrefix old new words_usage_line
 WritesUsage other old new = ⊥

@@ -1,7 +1,7 @@
 -- What comes of a trace.
 use Rattle.std.specs.Prelude.{◌≡◌, ℕ, List, [], ◌∷◌, Option, Some, None}
 use Rattle.trace_events.specs.declared.event.Event.{Event}
-use Rattle.trace_events.specs.Events.{Place, events, events_left, first_place}
+use Rattle.trace_events.specs.Events.{Place, events_in_trace, events_left, first_place}
 use Rattle.trace_compare.specs.declared.exchange.Exchange.{Exchange}
 use Rattle.trace_compare.specs.Counting.{Counting, after_event, after_events, begin}
 use Rattle.trace_compare.specs.Exchanges.{exchange_in, exchanges}
@@ -9,7 +9,7 @@ use Rattle.trace_compare.specs.Exchanges.{exchange_in, exchanges}
 -- ---- an event
 
 -- the exchange of the event came, and this is what is kept after it
-pub record Counted (before : Counting) (event : Event) (found : Option Exchange) (after : Counting) : Type 0 where
+pub record CountsEvent (before : Counting) (event : Event) (found : Option Exchange) (after : Counting) : Type 0 where
   pub found_is : found ≡ exchange_in before event
   pub after_is : after ≡ after_event before event
 
@@ -26,7 +26,7 @@ contents_of c es = record { exchanges = exchanges c es; counting = after_events 
 
 -- those of all bytes of a trace
 abbrev pub contents : List ℕ → Contents
-contents bytes = contents_of begin (events bytes)
+contents bytes = contents_of begin (events_in_trace bytes)
 
 -- ---- one by one
 

@@ -4,28 +4,28 @@ use Rattle.trace_compare.specs.declared.exchange.Exchange.{Exchange}
 use Rattle.trace_compare.specs.Coming.{Contents, contents}
 use Rattle.trace_compare.specs.Counting.{Counting}
 use Rattle.trace_compare.specs.Exchanges.{is_same}
-use Rattle.trace_compare.specs.Texts.{count_lines, two_text, wrong_line}
+use Rattle.trace_compare.specs.Texts.{place_count_lines, two_text, wrong_line}
 
 -- ---- exchanges, two by two
 
 -- the number of two exchanges, where both are there and the same
-abbrev pub same_number : Option Exchange → Option Exchange → Option ℕ
-same_number (Some x) (Some y) = if is_same x y then Some x.number else None
-same_number None y = None
-same_number (Some x) None = None
+abbrev pub same_exchange_number : Option Exchange → Option Exchange → Option ℕ
+same_exchange_number (Some x) (Some y) = if is_same x y then Some x.number else None
+same_exchange_number None y = None
+same_exchange_number (Some x) None = None
 
 -- whether neither is there
-abbrev pub is_end : Option Exchange → Option Exchange → Bool
-is_end None None = true
-is_end (Some x) y = false
-is_end None (Some y) = false
+abbrev pub are_both_absent : Option Exchange → Option Exchange → Bool
+are_both_absent None None = true
+are_both_absent (Some x) y = false
+are_both_absent None (Some y) = false
 
 -- the first exchanges that are not the same, after one of this number
-abbrev pub difference : ℕ → List Exchange → List Exchange → List ℕ
-difference last [] [] = two_text last None None
-difference last (x ∷ xs) [] = two_text last (Some x) None
-difference last [] (y ∷ ys) = two_text last None (Some y)
-difference last (x ∷ xs) (y ∷ ys) = if is_same x y then difference x.number xs ys else two_text last (Some x) (Some y)
+abbrev pub exchange_difference : ℕ → List Exchange → List Exchange → List ℕ
+exchange_difference last [] [] = two_text last None None
+exchange_difference last (x ∷ xs) [] = two_text last (Some x) None
+exchange_difference last [] (y ∷ ys) = two_text last None (Some y)
+exchange_difference last (x ∷ xs) (y ∷ ys) = if is_same x y then exchange_difference x.number xs ys else two_text last (Some x) (Some y)
 
 -- whether all are the same, and as many
 abbrev pub are_same : List Exchange → List Exchange → Bool
@@ -38,7 +38,7 @@ are_same (x ∷ xs) (y ∷ ys) = is_same x y && are_same xs ys
 
 -- the lines of what is counted
 abbrev pub summary : Counting → Counting → List ℕ
-summary x y = wrong_line x.wrong y.wrong ++ count_lines 32800 x.counts y.counts
+summary x y = wrong_line x.wrong y.wrong ++ place_count_lines 32800 x.counts y.counts
 
 -- whether each packet and reply is one
 abbrev pub is_right : Counting → Bool
@@ -48,7 +48,7 @@ is_right x = x.wrong == 0
 
 -- the text of a comparison
 abbrev pub comparison : Contents → Contents → List ℕ
-comparison a b = difference 0 a.exchanges b.exchanges ++ summary a.counting b.counting
+comparison a b = exchange_difference 0 a.exchanges b.exchanges ++ summary a.counting b.counting
 
 -- whether the exchanges are the same, and each packet and reply is one
 abbrev pub is_alike : Contents → Contents → Bool

@@ -3,7 +3,7 @@ use Rattle.std.specs.Prelude.{ℕ, Bool, true, false, ◌&&◌, List, [], ◌∷
 use Rattle.std.specs.Str.{bytes_eq}
 use Rattle.trace_events.specs.declared.event.Event.{Event}
 use Rattle.trace_events.specs.declared.event.Event.TheVariants as event
-use Rattle.trace_words.specs.Telling.{next_number, tell}
+use Rattle.trace_words.specs.Telling.{next_exchange_number, tell}
 use Rattle.trace_compare.specs.declared.exchange.Exchange.{Exchange}
 use Rattle.trace_compare.specs.Counting.{Counting, after_event}
 
@@ -20,7 +20,7 @@ then_exchange (Some first) others = first ∷ others
 
 -- the exchange of an event, which has the next number
 abbrev pub exchange_in : Counting → Event → Option Exchange
-exchange_in c e = exchange_of (next_number c.telling.number) (tell c.telling e).text e
+exchange_in c e = exchange_of (next_exchange_number c.telling.number) (tell c.telling e).text e
 
 -- the exchanges of events
 abbrev pub exchanges : Counting → List Event → List Exchange

@@ -4,7 +4,7 @@ use Rattle.std.specs.Io.KnownBytes.{Appends}
 use Rattle.trace_compare.specs.declared.traces.Traces.{Traces}
 use Rattle.trace_compare.specs.declared.traces.Two.{Two}
 use Rattle.trace_compare.specs.Coming.{Contents, GivesExchange, TakesAll, contents_left, first_coming}
-use Rattle.trace_compare.specs.Comparison.{are_same, comparison, difference, is_alike}
+use Rattle.trace_compare.specs.Comparison.{are_same, comparison, exchange_difference, is_alike}
 use Rattle.trace_compare.specs.Counting.{Counting}
 
 -- before the first exchanges
@@ -30,10 +30,10 @@ pub record Compared : Type 0 where
 
 -- what comes of two traces, compared after the exchange of this number
 abbrev pub compared : ℕ → Contents → Contents → Compared
-compared last a b = record { text = difference last a.exchanges b.exchanges; same = are_same a.exchanges b.exchanges; trace = a.counting; against = b.counting }
+compared last a b = record { text = exchange_difference last a.exchanges b.exchanges; same = are_same a.exchanges b.exchanges; trace = a.counting; against = b.counting }
 
 -- the difference was put, and this is counted in all
-pub record IsPut (c : Compared) (trace against : Counting) (written now : Option (List ℕ)) (same : Bool) : Type 0 where
+pub record DifferenceIsPut (c : Compared) (trace against : Counting) (written now : Option (List ℕ)) (same : Bool) : Type 0 where
   pub text : Appends written now c.text
   pub same_is : same ≡ c.same
   pub trace_is : trace ≡ c.trace
@@ -47,7 +47,7 @@ compared_left last traces a b = compared last (contents_left traces.trace a) (co
 pub record PutsDifference (before after : Traces) (old new other_old other_new written now : Option (List ℕ)) (same : Bool) : Type 0 where
   pub given : (a b : List ℕ) → old ≡ Some a → other_old ≡ Some b
       → (x : List ℕ) × (y : List ℕ) × (new ≡ Some x) × (other_new ≡ Some y)
-      × IsPut (compared_left 0 before a b) (contents_left after.trace x).counting (contents_left after.against y).counting written now same
+      × DifferenceIsPut (compared_left 0 before a b) (contents_left after.trace x).counting (contents_left after.against y).counting written now same
 
 -- the text of the comparison of what comes of both
 abbrev pub comparison_left : Traces → List ℕ → List ℕ → List ℕ

@@ -40,6 +40,6 @@ unfoldable pub count_line : ℕ → ℕ → ℕ → List ℕ
 count_line place x y = if x == y then [] else register_name (register_at (place / 2)) ++ access_name place ++ against x y
 
 -- the lines of all places below this one
-unfoldable pub count_lines : ℕ → List ℕ → List ℕ → List ℕ
-count_lines zero xs ys = []
-count_lines (suc place) xs ys = count_lines place xs ys ++ count_line place (slice_index xs place) (slice_index ys place)
+unfoldable pub place_count_lines : ℕ → List ℕ → List ℕ → List ℕ
+place_count_lines zero xs ys = []
+place_count_lines (suc place) xs ys = place_count_lines place xs ys ++ count_line place (slice_index xs place) (slice_index ys place)

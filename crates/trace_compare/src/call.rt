@@ -3,7 +3,7 @@ ghost use Rattle.std.specs.Prelude.{◌≡◌, ◌≢◌, ℕ, List, [], IfOk, S
 ghost use Rattle.std.specs.Option.{option_copied};
 ghost use Rattle.tool_calls.specs.Calls.{Blames};
 ghost use Rattle.trace_compare.specs.Blames.{BlamesEach, BlamesFile, is_of_file, WritesInto};
-ghost use Rattle.trace_compare.specs.Calls.{code_of, file_named, refusal_line, Writes, WritesAgainst, WritesFile, WritesRefusal, WritesUsage};
+ghost use Rattle.trace_compare.specs.Calls.{words_exit_code, file_named, not_opened_line, WritesWords, WritesAgainst, WritesFile, WritesRefusal, WritesUsage};
 
 use crate::compare::{CompareEnd, compare_traces};
 use crate::file::NamedFile;
@@ -37,7 +37,7 @@ impl Status {
     /// The number with which the program ends: 0, 1 and 2 in the order of the variants, 5 where an input failed, then 6
     /// and 7.
     pub fn code(&self) -> u8
-        ensures { result ≡ code_of self.now }
+        ensures { result ≡ words_exit_code self.now }
     {
         match self {
             Status::Done => 0,
@@ -71,9 +71,9 @@ fn file_named(words: &Words) -> Option<&str>
 }
 
 // The line of a file that cannot be opened.
-#[tactic(auto, unfolding(crate::specs::Calls::refusal_line))]
+#[tactic(auto, unfolding(crate::specs::Calls::not_opened_line))]
 fn refusal_line(alloc: Global, name: &str) -> Result<Line, OutOfMemory>
-    ensures { IfOk result (λ line. line ≡ refusal_line name.now) }
+    ensures { IfOk result (λ line. line ≡ not_opened_line name.now) }
 {
     let line = Line::begin(alloc, "file ")?.add_shown(name.as_bytes())?;
     line.text(" cannot be opened\n")
@@ -94,7 +94,7 @@ fn write_refusal<K: Sink>(alloc: Global, name: &str, sink: &mut K) -> Status
 
 // A call without words.
 fn write_words<S: Source, K: Sink>(alloc: Global, source: &mut S, sink: &mut K) -> Status
-    ensures words { (bytes : List ℕ) → S.left source.old ≡ Some bytes → Writes bytes result (K.written sink.old) (K.written sink.new) }
+    ensures words { (bytes : List ℕ) → S.left source.old ≡ Some bytes → WritesWords bytes result (K.written sink.old) (K.written sink.new) }
     ensures source { Blames Status.ReadFault result (S.faults source.old) (S.faults source.new) }
     ensures sink { Blames Status.WriteFault result (K.faults sink.old) (K.faults sink.new) }
     ensures file { is_of_file result ≡ false }
@@ -160,7 +160,7 @@ pub fn dapseq_words<S: Source, F: NamedFile, K: Sink>(
 ) -> Status
     // The words of all bytes of the source, where they are known; at a fault a part of them, from the front.
     ensures words { words.now ≡ [] → (bytes : List ℕ) → S.left source.old ≡ Some bytes
-        → Writes bytes result (K.written sink.old) (K.written sink.new) }
+        → WritesWords bytes result (K.written sink.old) (K.written sink.new) }
     // The comparison of all bytes of both, where they are known; at a fault a part of it, from the front.
     ensures against { (name : List ℕ) → file_named words.now ≡ Some name
         → (bytes others : List ℕ) → S.left source.old ≡ Some bytes → F.contents file.old name ≡ Some others

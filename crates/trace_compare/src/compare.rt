@@ -3,7 +3,7 @@ ghost use Rattle.std.specs.Prelude.{◌≡◌, ℕ, ◌&&◌, List, Some, IfErr,
 ghost use Rattle.std.specs.Io.KnownBytes.{Appends};
 ghost use Rattle.dap_base.specs.Streams.{AppendsPrefix};
 ghost use Rattle.text_lines.specs.Causes.{NamesFault};
-ghost use Rattle.trace_compare.specs.Comparison.{are_alike, is_end, is_right, words_against};
+ghost use Rattle.trace_compare.specs.Comparison.{are_alike, are_both_absent, is_right, words_against};
 ghost use Rattle.trace_compare.specs.Faults.{IsOfSink, NamesEach};
 ghost use Rattle.trace_compare.specs.Pairs.{alike_left, compared_left, comparison_left, PutsDifference};
 ghost use Rattle.trace_compare.specs.Texts.{two_text};
@@ -33,7 +33,7 @@ pub enum CompareEnd {
 fn put_two<K: Sink>(alloc: Global, last: u64, two: Two, sink: &mut K) -> Result<bool, CompareEnd>
     ensures text { OnOk result (Appends (K.written sink.old) (K.written sink.new) (two_text last two.trace two.against)) }
     ensures part { OnErr result (AppendsPrefix (K.written sink.old) (K.written sink.new) (two_text last two.trace two.against)) }
-    ensures end { IfOk result (λ end. end ≡ is_end two.trace two.against) }
+    ensures end { IfOk result (λ end. end ≡ are_both_absent two.trace two.against) }
     ensures sink { NamesFault CompareEnd.WriteFault (K.faults sink.old) (K.faults sink.new) result }
     ensures other { IfErr result IsOfSink }
 {

@@ -2,9 +2,9 @@
 ghost use Rattle.std.specs.Prelude.{◌≡◌, IfOk, OnOk, true};
 ghost use Rattle.trace_words.specs.Telling.{tell};
 ghost use Rattle.trace_compare.specs.Counts.{all_counted};
-ghost use Rattle.trace_compare.specs.Counting.{begin, accesses_of, wrong_after};
+ghost use Rattle.trace_compare.specs.Counting.{begin, accesses_of_event, wrong_after};
 ghost use Rattle.trace_compare.specs.Exchanges.{exchange_of};
-ghost use Rattle.trace_compare.specs.Coming.{Counted};
+ghost use Rattle.trace_compare.specs.Coming.{CountsEvent};
 
 use crate::counts::Counts;
 use crate::exchange::Exchange;
@@ -60,7 +60,7 @@ impl Counter {
 
     // Counts the accesses of an event.
     fn count(&mut self, alloc: Global, event: &Event) -> Result<(), OutOfMemory>
-        ensures { OnOk result (self.new ≡ record self.old { counts = all_counted self.old.counts (accesses_of self.old.telling.known event.now) }) }
+        ensures { OnOk result (self.new ≡ record self.old { counts = all_counted self.old.counts (accesses_of_event self.old.telling.known event.now) }) }
     {
         let Event::Exchange { packet, reply } = event else {
             return Ok(());
@@ -104,7 +104,7 @@ impl Counter {
     /// of no use.
     #[tactic(auto, using(crate::proofs::CountingLemmas::number_in))]
     pub fn event(&mut self, alloc: Global, event: Event) -> Result<Option<Exchange>, OutOfMemory>
-        ensures { IfOk result (λ found. Counted self.old event found self.new) }
+        ensures { IfOk result (λ found. CountsEvent self.old event found self.new) }
     {
         self.count(alloc, &event)?;
         let words = self.teller.tell(alloc, &event)?;

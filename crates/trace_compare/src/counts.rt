@@ -1,6 +1,6 @@
 //! How many accesses there are of each register.
 ghost use Rattle.std.specs.Prelude.{◌≡◌, ◌<◌, IfOk, slice_index, vec_len};
-ghost use Rattle.trace_compare.specs.Counts.{zeros, no_counts, counted, all_counted};
+ghost use Rattle.trace_compare.specs.Counts.{zero_counts, no_counts, counts_with_access, all_counted};
 
 use dap_base::OutOfMemory;
 use register_words::Access;
@@ -11,9 +11,9 @@ use std::marker::Model;
 pub const PLACES: u16 = 32800;
 
 // So many zeros.
-#[tactic(auto, unfolding(crate::specs::Counts::zeros))]
+#[tactic(auto, unfolding(crate::specs::Counts::zero_counts))]
 fn zeros(alloc: Global, count: usize) -> Result<Vec<u64>, OutOfMemory>
-    ensures items { IfOk result (λ v. v.items ≡ zeros count) }
+    ensures items { IfOk result (λ v. v.items ≡ zero_counts count) }
     ensures len { IfOk result (λ v. vec_len v ≡ count) }
 {
     match vec![in alloc; 0u64; count] {
@@ -48,9 +48,9 @@ impl Counts {
     }
 
     // One access more.
-    #[tactic(auto, unfolding(crate::specs::Counts::counted))]
+    #[tactic(auto, unfolding(crate::specs::Counts::counts_with_access))]
     fn add(&mut self, access: Access)
-        ensures { self.new ≡ counted self.old access }
+        ensures { self.new ≡ counts_with_access self.old access }
     {
         let place = access.place();
         self.counts[place] = self.counts[place].saturating_add(1);

@@ -2,7 +2,7 @@
 ghost use Rattle.std.specs.Prelude.{◌<◌};
 ghost use Rattle.trace_compare.specs.Comparison.{summary};
 ghost use Rattle.trace_compare.specs.Faults.{PutsOnly};
-ghost use Rattle.trace_compare.specs.Texts.{count_line, count_lines};
+ghost use Rattle.trace_compare.specs.Texts.{count_line, place_count_lines};
 
 use crate::compare::CompareEnd;
 use crate::counter::Counter;
@@ -37,7 +37,7 @@ fn put_counts<K: Sink>(
     second: &Counts,
     sink: &mut K,
 ) -> Result<(), CompareEnd>
-    ensures { PutsOnly (count_lines 32800 first.now second.now) result K.written K.faults sink.old sink.new }
+    ensures { PutsOnly (place_count_lines 32800 first.now second.now) result K.written K.faults sink.old sink.new }
 {
     for place in 0..PLACES {
         match put_count(alloc, place, first.get(place), second.get(place), sink) {

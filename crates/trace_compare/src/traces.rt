@@ -2,7 +2,7 @@
 ghost use Rattle.std.specs.Prelude.{◌≡◌, IfOk, OnOk};
 ghost use Rattle.trace_compare.specs.Faults.{against_end, trace_end, ReadsTwo};
 ghost use Rattle.trace_compare.specs.Pairs.{first_two, GivesTwo, TakesBoth};
-ghost use Rattle.trace_compare.specs.Comparison.{same_number, is_end};
+ghost use Rattle.trace_compare.specs.Comparison.{same_exchange_number, are_both_absent};
 
 use crate::compare::CompareEnd;
 use crate::exchange::Exchange;
@@ -28,7 +28,7 @@ pub struct Two {
 impl Two {
     /// The number of the exchanges, where both are there and the same.
     pub fn same_number(&self) -> Option<u64>
-        ensures { result ≡ same_number self.now.trace self.now.against }
+        ensures { result ≡ same_exchange_number self.now.trace self.now.against }
     {
         match (&self.trace, &self.against) {
             (Some(first), Some(second)) if first.is_same(second) => Some(first.number),
@@ -38,7 +38,7 @@ impl Two {
 
     /// Whether neither is there.
     pub fn is_end(&self) -> bool
-        ensures { result ≡ is_end self.now.trace self.now.against }
+        ensures { result ≡ are_both_absent self.now.trace self.now.against }
     {
         self.trace.is_none() && self.against.is_none()
     }

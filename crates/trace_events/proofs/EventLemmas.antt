@@ -1,8 +1,8 @@
 -- The events that come of a source.
 use Rattle.std.proofs.Common.{◌≡◌, ◌∙◌, ℕ, List, [], ◌∷◌, ◌++◌, Option, None, Some, refl, sym, ap, subst}
 use Rattle.trace_events.specs.declared.event.Event.{Event}
-use Rattle.trace_events.specs.Inputs.{GivesByte, Input, Passes, coming}
-use Rattle.trace_events.specs.Readings.{Reading, end_events, events_from, take_byte, then_events}
+use Rattle.trace_events.specs.Inputs.{GivesByte, GivesFirstItem, Input, coming}
+use Rattle.trace_events.specs.Readings.{TraceReading, end_events, events_from, take_byte, then_events}
 use Rattle.trace_events.specs.Steps.{Steps}
 use Rattle.trace_events.specs.Events.{GivesEvent, Place, events_left}
 
@@ -19,7 +19,7 @@ after_byte : (now : Place) (later : Place) (bytes rest : List ℕ) (byte : ℕ) 
 after_byte now later bytes rest byte event is step =
     ap (λ (bs : List ℕ). events_from now.reading bs) is
     ∙ ap (λ (e : Option Event). then_events e (events_from (take_byte now.reading byte).reading (coming later.input rest))) (sym step.event_is)
-    ∙ ap (λ (r : Reading). then_events event (events_from r (coming later.input rest))) (sym step.reading_is)
+    ∙ ap (λ (r : TraceReading). then_events event (events_from r (coming later.input rest))) (sym step.reading_is)
 
 -- a byte that was given
 passed_byte : (now later : Place) (old new : Option (List ℕ)) (given : Option ℕ) (byte : ℕ) → GivesByte now.input later.input old new given → given ≡ Some byte
@@ -58,12 +58,12 @@ ahead_event first now later old new next given byte event e h gives given_is ste
 }
 
 -- the end of all bytes
-at_end : (r s : Reading) (event : Option Event) (es fs : List Event) → es ≡ end_events r → fs ≡ end_events s → Passes (end_events r) event (end_events s) → Passes es event fs
+at_end : (r s : TraceReading) (event : Option Event) (es fs : List Event) → es ≡ end_events r → fs ≡ end_events s → GivesFirstItem (end_events r) event (end_events s) → GivesFirstItem es event fs
 at_end r s None es fs before after passes = (before ∙ passes.0, after ∙ passes.1)
 at_end r s (Some event) es fs before after passes = before ∙ passes ∙ ap (λ (gs : List Event). event ∷ gs) (sym after)
 
 pub ahead_end : (first now later : Place) (old new next : Option (List ℕ)) (given : Option ℕ) (event : Option Event) → Ahead first now old new
-    → GivesByte now.input later.input new next given → given ≡ None → Passes (end_events now.reading) event (end_events later.reading) → GivesEvent first later old next event
+    → GivesByte now.input later.input new next given → given ≡ None → GivesFirstItem (end_events now.reading) event (end_events later.reading) → GivesEvent first later old next event
 ahead_end first now later old new next given event h gives given_is passes = record {
   given = λ bytes is.
       let before = h.ahead bytes is in

@@ -5,7 +5,7 @@ use Rattle.std.proofs.Math.Dec.{eqb-suc-zero}
 use Rattle.std.proofs.Math.ListN.{drop_of_length-le}
 use Rattle.std.proofs.lemmas.List.{length-take-le}
 use Rattle.std.specs.Io.KnownBytes.{Consumes, IsAtEnd}
-use Rattle.trace_events.specs.Inputs.{GivesByte, Input, IsFilled, IsReady, Passes, coming}
+use Rattle.trace_events.specs.Inputs.{GivesByte, GivesFirstByte, GivesFirstItem, Input, IsFilled, coming}
 
 -- the bytes of a source, of which some were taken
 pub rest_of : (left : Option (List ℕ)) (bytes taken : List ℕ) → Consumes (Some bytes) left taken → (rest : List ℕ) × (left ≡ Some rest) × (bytes ≡ taken ++ rest)
@@ -43,7 +43,7 @@ filled before after old new n buf empty more ready over some consumed end = reco
 }
 
 -- the next byte that comes
-pub gives : (before mid after : Input) (old new : Option (List ℕ)) (byte : Option ℕ) → IsFilled before mid old new → IsReady mid byte after → GivesByte before after old new byte
+pub gives : (before mid after : Input) (old new : Option (List ℕ)) (byte : Option ℕ) → IsFilled before mid old new → GivesFirstByte mid byte after → GivesByte before after old new byte
 gives before mid after old new None filled ready = record {
   given = λ bytes is.
       let f = filled.filled bytes is in

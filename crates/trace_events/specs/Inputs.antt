@@ -7,17 +7,17 @@ pub record Input : Type 0 where
   pub over : Bool
 
 -- nothing was taken
-abbrev pub fresh : Input
-fresh = record { ready = []; over = false }
+abbrev pub untaken_input : Input
+untaken_input = record { ready = []; over = false }
 
 -- the bytes that come, where these are left of the source
 abbrev pub coming : Input → List ℕ → List ℕ
 coming input left = input.ready ++ (if input.over then [] else left)
 
 -- the first of the bytes that were taken is given, where there is one
-abbrev pub IsReady : Input → Option ℕ → Input → Type 0
-IsReady before None after = (before.ready ≡ []) × (after ≡ before)
-IsReady before (Some byte) after = (before.ready ≡ byte ∷ after.ready) × (after.over ≡ before.over)
+abbrev pub GivesFirstByte : Input → Option ℕ → Input → Type 0
+GivesFirstByte before None after = (before.ready ≡ []) × (after ≡ before)
+GivesFirstByte before (Some byte) after = (before.ready ≡ byte ∷ after.ready) × (after.over ≡ before.over)
 
 -- More bytes were taken of a source, where none was left of the last ones: the same bytes come, and none comes where none was taken.
 pub record IsFilled (before after : Input) (old new : Option (List ℕ)) : Type 0 where
@@ -25,10 +25,10 @@ pub record IsFilled (before after : Input) (old new : Option (List ℕ)) : Type 
       → (rest : List ℕ) × (new ≡ Some rest) × (coming after rest ≡ coming before bytes) × (after.ready ≡ [] → coming after rest ≡ [])
 
 -- the first of these items was given, where there is one
-abbrev pub Passes : {A : Type 0} → List A → Option A → List A → Type 0
-Passes before None after = (before ≡ []) × (after ≡ [])
-Passes before (Some first) after = before ≡ first ∷ after
+abbrev pub GivesFirstItem : {A : Type 0} → List A → Option A → List A → Type 0
+GivesFirstItem before None after = (before ≡ []) × (after ≡ [])
+GivesFirstItem before (Some first) after = before ≡ first ∷ after
 
 -- the next byte that comes was given, where the bytes of the source are known
 pub record GivesByte (before after : Input) (old new : Option (List ℕ)) (byte : Option ℕ) : Type 0 where
-  pub given : (bytes : List ℕ) → old ≡ Some bytes → (rest : List ℕ) × (new ≡ Some rest) × Passes (coming before bytes) byte (coming after rest)
+  pub given : (bytes : List ℕ) → old ≡ Some bytes → (rest : List ℕ) × (new ≡ Some rest) × GivesFirstItem (coming before bytes) byte (coming after rest)

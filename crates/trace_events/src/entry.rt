@@ -1,7 +1,7 @@
 //! The lines of a trace that are packets and replies.
 ghost use Rattle.std.specs.Prelude.{◌≡◌, IfOk};
 ghost use Rattle.std.specs.Option.{option_map};
-ghost use Rattle.trace_events.specs.Entries.{bytes_in, entry_in};
+ghost use Rattle.trace_events.specs.Entries.{bytes_of_digits, entry_in};
 ghost use Rattle.hex.specs.Hex.{decode_of};
 
 use crate::bytes::Bytes;
@@ -18,7 +18,7 @@ pub struct Entry {
 
 // The bytes of digits, where they are an even number of hexadecimal digits.
 fn bytes_in(alloc: Global, is_reply: bool, digits: &[u8]) -> Result<Option<Entry>, OutOfMemory>
-    ensures { IfOk result (λ found. option_map (λ e. (e.is_reply, e.bytes)) found ≡ bytes_in is_reply (decode_of digits.now)) }
+    ensures { IfOk result (λ found. option_map (λ e. (e.is_reply, e.bytes)) found ≡ bytes_of_digits is_reply (decode_of digits.now)) }
 {
     match decode(alloc, digits) {
         Ok(bytes) => Ok(Some(Entry {

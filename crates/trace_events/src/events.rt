@@ -2,7 +2,7 @@
 ghost use Rattle.std.specs.Prelude.{◌≡◌, IfErr, IfOk};
 ghost use Rattle.text_lines.specs.Causes.{NamesFault};
 ghost use Rattle.trace_events.specs.Events.{first_place, GivesEvent};
-ghost use Rattle.trace_events.specs.Inputs.{Passes};
+ghost use Rattle.trace_events.specs.Inputs.{GivesFirstItem};
 ghost use Rattle.trace_events.specs.Readings.{end_events};
 
 use crate::event::Event;
@@ -49,7 +49,7 @@ impl Events {
 
     // The next event at the end of the trace.
     fn end(&mut self, alloc: Global) -> Result<Option<Event>, ReadEnd>
-        ensures event { IfOk result (λ event. Passes (end_events self.old.reading) event (end_events self.new.reading)) }
+        ensures event { IfOk result (λ event. GivesFirstItem (end_events self.old.reading) event (end_events self.new.reading)) }
         ensures input { self.new.input ≡ self.old.input }
         ensures memory { IfErr result (λ e. e ≡ ReadEnd.OutOfMemory) }
     {

@@ -1,7 +1,7 @@
 //! The bytes of a source, one by one.
 ghost use Rattle.std.specs.Prelude.{◌≡◌, IfOk, OnOk};
 ghost use Rattle.dap_base.specs.Causes.{HasCause};
-ghost use Rattle.trace_events.specs.Inputs.{fresh, GivesByte, IsFilled, IsReady};
+ghost use Rattle.trace_events.specs.Inputs.{untaken_input, GivesByte, IsFilled, GivesFirstByte};
 
 use dap_base::{Failed, Source};
 use std::marker::Model;
@@ -32,7 +32,7 @@ impl Model for Input {
 
 impl Input {
     pub fn new() -> Input
-        ensures { result ≡ fresh }
+        ensures { result ≡ untaken_input }
     {
         Input {
             chunk: [0; CHUNK],
@@ -45,7 +45,7 @@ impl Input {
     // The first of the bytes that were taken.
     #[tactic(auto, using(crate::proofs::InputLemmas::first_of_piece, crate::proofs::InputLemmas::end_of_piece))]
     fn ready(&mut self) -> Option<u8>
-        ensures { IsReady self.old result self.new }
+        ensures { GivesFirstByte self.old result self.new }
     {
         if self.at == self.count {
             return None;

@@ -1,7 +1,7 @@
 //! What the lines of a trace say.
 ghost use Rattle.std.specs.Prelude.{◌≡◌, ◌++◌, ◌∷◌, IfOk, [], OnOk, Some};
-ghost use Rattle.trace_events.specs.Inputs.{Passes};
-ghost use Rattle.trace_events.specs.Readings.{start, answer, take_packet, take_entry, end_line, take_byte, last_line, end_events};
+ghost use Rattle.trace_events.specs.Inputs.{GivesFirstItem};
+ghost use Rattle.trace_events.specs.Readings.{first_reading, answer, take_packet, take_entry, step_at_line_end, take_byte, step_at_last_line, end_events};
 ghost use Rattle.trace_events.specs.Steps.{Steps};
 
 use crate::bytes::Bytes;
@@ -29,9 +29,9 @@ pub struct Reading {
 }
 
 impl Model for Reading {
-    ghost use Rattle.trace_events.specs.Readings.{Reading};
+    ghost use Rattle.trace_events.specs.Readings.{TraceReading};
 
-    ghost Value = { Reading };
+    ghost Value = { TraceReading };
 
     ghost view = { λ r. record { waiting = r.waiting.items; line = r.line; long = r.is_long } };
 }
@@ -47,7 +47,7 @@ fn other_event(line: Bytes, ended: &[u8]) -> Result<Option<Event>, OutOfMemory>
 
 impl Reading {
     pub fn new(alloc: Global) -> Reading
-        ensures { result ≡ start }
+        ensures { result ≡ first_reading }
     {
         Reading {
             waiting: Vec::new(alloc),
@@ -109,9 +109,9 @@ impl Reading {
     }
 
     // A line ends, by these bytes.
-    #[tactic(auto, unfolding(crate::specs::Readings::end_line))]
+    #[tactic(auto, unfolding(crate::specs::Readings::step_at_line_end))]
     fn end_line(&mut self, alloc: Global, ended: &[u8]) -> Result<Option<Event>, OutOfMemory>
-        ensures { IfOk result (λ event. Steps (end_line self.old self.old.line ended.now) event self.new) }
+        ensures { IfOk result (λ event. Steps (step_at_line_end self.old self.old.line ended.now) event self.new) }
     {
         let line = self.take_line(alloc);
         if self.is_long {
@@ -141,9 +141,9 @@ impl Reading {
     }
 
     // A line without a line feed.
-    #[tactic(auto, unfolding(crate::specs::Readings::last_line))]
+    #[tactic(auto, unfolding(crate::specs::Readings::step_at_last_line))]
     fn last_line(&mut self, alloc: Global) -> Result<Option<Event>, OutOfMemory>
-        ensures { IfOk result (λ event. Steps (last_line self.old) event self.new) }
+        ensures { IfOk result (λ event. Steps (step_at_last_line self.old) event self.new) }
     {
         if self.line.is_empty() {
             return Ok(None);
@@ -154,7 +154,7 @@ impl Reading {
     // The next event at the end of all bytes.
     #[tactic(auto, using(crate::proofs::ReadingLemmas::end_some, crate::proofs::ReadingLemmas::end_none))]
     pub fn end(&mut self, alloc: Global) -> Result<Option<Event>, OutOfMemory>
-        ensures { IfOk result (λ event. Passes (end_events self.old) event (end_events self.new)) }
+        ensures { IfOk result (λ event. GivesFirstItem (end_events self.old) event (end_events self.new)) }
     {
         match self.last_line(alloc)? {
             Some(event) => Ok(Some(event)),

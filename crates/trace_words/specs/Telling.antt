@@ -3,7 +3,7 @@ use Rattle.std.specs.Prelude.{ℕ, ◌+◌, ◌-◌, ◌^◌, Bool, true, false,
 use Rattle.hex.specs.Hex.{encode_lower}
 use Rattle.packet_words.specs.Exchange.{Said, exchange}
 use Rattle.register_words.specs.declared.known.Known.{Known}
-use Rattle.register_words.specs.Known.{unknown}
+use Rattle.register_words.specs.Known.{nothing_known}
 use Rattle.trace_events.specs.declared.event.Event.{Event}
 use Rattle.trace_events.specs.declared.event.Event.TheVariants as event
 
@@ -17,8 +17,8 @@ pub record Telling : Type 0 where
   pub good : Bool
 
 -- before the first event
-abbrev pub start : Telling
-start = record { number = 0; known = unknown; good = true }
+abbrev pub first_telling : Telling
+first_telling = record { number = 0; known = nothing_known; good = true }
 
 -- a text, and what is kept after it
 pub record Spoken : Type 0 where
@@ -26,18 +26,18 @@ pub record Spoken : Type 0 where
   pub telling : Telling
 
 -- the same after a text
-abbrev pub after_text : List ℕ → Spoken → Spoken
-after_text text told = record told { text = text ++ told.text }
+abbrev pub told_after_text : List ℕ → Spoken → Spoken
+told_after_text text told = record told { text = text ++ told.text }
 
 -- the number after this one; it stops at 2^64 - 1
-abbrev pub next_number : ℕ → ℕ
-next_number number = min (number + 1) (2 ^ 64 - 1)
+abbrev pub next_exchange_number : ℕ → ℕ
+next_exchange_number number = min (number + 1) (2 ^ 64 - 1)
 
 -- an exchange, by what is said of it
 abbrev pub told_said : Telling → Said → Spoken
 told_said t said = record {
   text = said.text;
-  telling = record { number = next_number t.number; known = said.known; good = t.good && said.good };
+  telling = record { number = next_exchange_number t.number; known = said.known; good = t.good && said.good };
 }
 
 -- the lines of a reply that no packet waits for
@@ -46,11 +46,11 @@ stray_line reply = codes "< " ++ encode_lower reply ++ codes "\nno packet for th
 
 -- the words of an event: an exchange has the next number, and other lines are passed on as they are
 abbrev pub tell : Telling → Event → Spoken
-tell t (event.Exchange packet reply) = told_said t (exchange t.known (next_number t.number) packet reply)
+tell t (event.Exchange packet reply) = told_said t (exchange t.known (next_exchange_number t.number) packet reply)
 tell t (event.Stray reply) = record { text = stray_line reply; telling = record t { good = false } }
 tell t (event.Other bytes) = record { text = bytes; telling = t }
 
 -- the words of events
 abbrev pub told : Telling → List Event → Spoken
 told t [] = record { text = []; telling = t }
-told t (first ∷ others) = after_text (tell t first).text (told (tell t first).telling others)
+told t (first ∷ others) = told_after_text (tell t first).text (told (tell t first).telling others)

@@ -2,7 +2,7 @@
 ghost use Rattle.std.specs.Prelude.{◌≡◌, IfOk, true};
 ghost use Rattle.std.specs.Option.{option_copied};
 ghost use Rattle.packet_words.specs.Exchange.{exchange};
-ghost use Rattle.trace_words.specs.Telling.{start, next_number, told_said, stray_line, tell};
+ghost use Rattle.trace_words.specs.Telling.{first_telling, next_exchange_number, told_said, stray_line, tell};
 ghost use Rattle.trace_words.specs.Tells.{Tells};
 
 use dap_base::OutOfMemory;
@@ -58,7 +58,7 @@ fn stray_line(alloc: Global, reply: &[u8]) -> Result<Bytes, OutOfMemory>
 impl Teller {
     /// Before the first event.
     pub fn new() -> Teller
-        ensures { result ≡ start }
+        ensures { result ≡ first_telling }
     {
         Teller {
             number: 0,
@@ -103,7 +103,7 @@ impl Teller {
         packet: &[u8],
         reply: Option<&[u8]>,
     ) -> Result<Bytes, OutOfMemory>
-        ensures { IfOk result (λ text. Tells (told_said self.old (exchange self.old.known (next_number self.old.number) packet.now (option_copied reply.entry))) text self.new) }
+        ensures { IfOk result (λ text. Tells (told_said self.old (exchange self.old.known (next_exchange_number self.old.number) packet.now (option_copied reply.entry))) text self.new) }
     {
         self.number = self.number.saturating_add(1);
         let said = exchange_words(alloc, &mut self.known, self.number, packet, reply)?;

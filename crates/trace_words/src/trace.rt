@@ -6,7 +6,7 @@ ghost use Rattle.std.specs.Io.KnownBytes.{Appends};
 ghost use Rattle.dap_base.specs.Streams.{AppendsPrefix, PutAppends};
 ghost use Rattle.text_lines.specs.Causes.{NamesFault};
 ghost use Rattle.trace_words.specs.Telling.{tell};
-ghost use Rattle.trace_words.specs.Words.{words, are_good};
+ghost use Rattle.trace_words.specs.Words.{words_of_trace, are_good};
 
 use crate::teller::Teller;
 use dap_base::{Sink, Source};
@@ -67,10 +67,10 @@ pub fn trace_words<S: Source, K: Sink>(
 ) -> Result<bool, TraceEnd>
     // The words of all bytes, where they are known.
     ensures words { (bytes : List ℕ) → S.left source.old ≡ Some bytes
-        → IfOk result (λ good. Appends (K.written sink.old) (K.written sink.new) (words bytes) × (good ≡ are_good bytes)) }
+        → IfOk result (λ good. Appends (K.written sink.old) (K.written sink.new) (words_of_trace bytes) × (good ≡ are_good bytes)) }
     // At an error a part of them.
     ensures part { (bytes : List ℕ) → S.left source.old ≡ Some bytes
-        → OnErr result (AppendsPrefix (K.written sink.old) (K.written sink.new) (words bytes)) }
+        → OnErr result (AppendsPrefix (K.written sink.old) (K.written sink.new) (words_of_trace bytes)) }
     // A fault is that of the object that failed.
     ensures source { NamesFault TraceEnd.ReadFault (S.faults source.old) (S.faults source.new) result }
     ensures sink { NamesFault TraceEnd.WriteFault (K.faults sink.old) (K.faults sink.new) result }

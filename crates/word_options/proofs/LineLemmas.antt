@@ -11,7 +11,7 @@ use Rattle.clap.specs.declared.error.kind.ErrorKind.TheVariants as kind
 use Rattle.clap.specs.declared.parser.matches.ArgMatches.{ArgMatches}
 use Rattle.clap.proofs.WalkLemmas.{first_value-rows}
 use Rattle.dap_base.proofs.Basics.{first_true}
-use Rattle.word_options.specs.Line.{Finds, IsTaken, given}
+use Rattle.word_options.specs.Line.{Finds, WordsAreTaken, given_value}
 
 -- ---- building
 
@@ -29,12 +29,12 @@ one_more old new arg before rule adds local is rule_is = adds.shape local ∙ ap
 
 -- ---- parsing
 
-pub taken : (line : App) (words : List Text) → is_simple_and_free line ≡ true → (is_simple_and_free line ≡ true → fault_of line words ≡ []) → IsTaken line words
-unfolding IsTaken
+pub taken : (line : App) (words : List Text) → is_simple_and_free line ≡ true → (is_simple_and_free line ≡ true → fault_of line words ≡ []) → WordsAreTaken line words
+unfolding WordsAreTaken
 taken line words free h = h free
 
 pub finds : (line : App) (words : List Text) (m : ArgMatches) → is_simple_and_free line ≡ true → HasMatchesOf line words m → Finds line words (found_of m)
-unfolding given
+unfolding given_value
 finds line words m free h = λ name. first_value-rows (found_of m) name ∙ ap (first_of name) (h (first_true (is_simple line) (is_free_app (built line)) free)).0
 
 kind_left : (e : Error) (kinds : Kinds) → kinds ≡ [] → HasKind kinds e → kind_of e ≡ kind.OutOfMemory
@@ -45,6 +45,6 @@ kind_left e kinds none h = go (subst (λ (ks : Kinds). HasKind ks e) none h)
     go (inr among) = absurd among
 
 -- clap refuses words that it takes only where memory is refused
-pub refused : (line : App) (words : List Text) (e : Error) → is_simple_and_free line ≡ true → (is_simple_and_free line ≡ true → HasKind (fault_of line words) e) → IsTaken line words → kind_of e ≡ kind.OutOfMemory
-unfolding IsTaken
+pub refused : (line : App) (words : List Text) (e : Error) → is_simple_and_free line ≡ true → (is_simple_and_free line ≡ true → HasKind (fault_of line words) e) → WordsAreTaken line words → kind_of e ≡ kind.OutOfMemory
+unfolding WordsAreTaken
 refused line words e free h none = kind_left e (fault_of line words) none (h free)

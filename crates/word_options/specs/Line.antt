@@ -23,16 +23,16 @@ abbrev pub line_with : Text → List Rule → App
 line_with name rules = on_top (λ s. record s { no_binary_name = true; rules = rules }) (new_app name)
 
 -- clap finds no fault with the words: it refuses them only where memory is refused
-unfoldable pub IsTaken : App → List Text → Type 0
-IsTaken line words = fault_of line words ≡ []
+unfoldable pub WordsAreTaken : App → List Text → Type 0
+WordsAreTaken line words = fault_of line words ≡ []
 
 -- the value that clap finds for the argument of this name
-unfoldable pub given : App → List Text → Text → Option Text
-given line words name = first_of name (matches_of line words)
+unfoldable pub given_value : App → List Text → Text → Option Text
+given_value line words name = first_of name (matches_of line words)
 
 -- what was found is what clap finds in the words
 abbrev pub Finds : App → List Text → Found → Type 0
-Finds line words found = (name : Text) → first_value found name ≡ given line words name
+Finds line words found = (name : Text) → first_value found name ≡ given_value line words name
 
 -- a flag that is given has this value
 abbrev pub is_set : Option Text → Bool
@@ -41,11 +41,11 @@ is_set (Some value) = bytes_eq value (codes "true")
 
 -- an answer to the words: what clap finds, where it takes them; `Usage` comes only where it does not
 pub record HasMatches (line : App) (words : List Text) (result : Result ArgMatches WordsError) : Type 0 where
-  pub taken : IfOk result (λ m. IsTaken line words)
+  pub taken : IfOk result (λ m. WordsAreTaken line words)
   pub values : IfOk result (λ m. Finds line words (found_of m))
-  pub usage : IfErr result (λ e. e ≡ errors.Usage → IsTaken line words → ⊥)
+  pub usage : IfErr result (λ e. e ≡ errors.Usage → WordsAreTaken line words → ⊥)
 
 -- clap takes the words, and the values that it finds ask for this
-pub record AsksFor {A : Type 0} (line : App) (IsAskedBy : (Text → Option Text) → A → Type 0) (words : List Text) (asked : A) : Type 0 where
-  pub taken : IsTaken line words
-  pub found : IsAskedBy (given line words) asked
+pub record WordsAskFor {A : Type 0} (line : App) (IsAskedBy : (Text → Option Text) → A → Type 0) (words : List Text) (asked : A) : Type 0 where
+  pub taken : WordsAreTaken line words
+  pub found : IsAskedBy (given_value line words) asked

@@ -8,7 +8,7 @@ ghost use Rattle.access_calls.specs.Answers.{StopsCalls};
 ghost use Rattle.access_calls.specs.Asking.{MayAsk};
 ghost use Rattle.access_calls.specs.CallEnds.{EndsAtAsk, InEachWorld};
 ghost use Rattle.access_calls.specs.Copy.{AccessEndsAs, HasSinkCause, IsCopyEnd, copied, read_word, write_word};
-ghost use Rattle.access_calls.specs.Keeps.{Keeps};
+ghost use Rattle.access_calls.specs.Keeps.{KeepsAccess};
 ghost use Rattle.access_calls.specs.Left.{answered_by};
 ghost use Rattle.access_calls.specs.Reported.{world_from};
 
@@ -89,7 +89,7 @@ pub fn copy_word<A: Access, K: Sink>(from: u32, to: u32, access: &mut A, sink: &
         → IsCopyEnd result (A.reported access.new) (copied (world_from m (answered_by (A.reported access.new))) from to) (K.written sink.old) (K.written sink.new) }
     ensures end { AccessEndsAs result (A.reported access.new).end }
     ensures cause { HasSinkCause result (K.faults sink.old) (K.faults sink.new) }
-    ensures keeps { Keeps A.begun A.reported A.identity access.old access.new }
+    ensures keeps { KeepsAccess A.begun A.reported A.identity access.old access.new }
 {
     let slot = match ask(read_word(from), access) {
         Ok(slot) => slot,

@@ -3,7 +3,7 @@ ghost use Rattle.std.specs.Prelude.{◌≡◌, OnOk, IfErr, IfSome, Err};
 ghost use Rattle.target_calls.specs.NeedPoints.{needed};
 ghost use Rattle.access_calls.specs.Answers.{IsEnd, NoMemory};
 ghost use Rattle.access_calls.specs.CallEnds.{EndsAtFlush};
-ghost use Rattle.access_calls.specs.GoesOn.{GoesOn};
+ghost use Rattle.access_calls.specs.GoesOn.{AccessGoesOn};
 
 use crate::{Access, Stop};
 
@@ -45,7 +45,7 @@ pub fn flush_lent<A: Access>(access: &mut A) -> Result<(), Stop>
     ensures memory { IfErr result NoMemory }
     ensures end { IfErr result (IsEnd (A.reported access.new).end) }
     ensures ended { IfSome (A.reported access.old).end (λ s. result ≡ Err s) }
-    ensures goes { GoesOn (A.reported access.old) (A.reported access.new) }
+    ensures goes { AccessGoesOn (A.reported access.old) (A.reported access.new) }
 {
     let mut held = AccessOwner::new(&mut *access);
     let answer = held.flush();

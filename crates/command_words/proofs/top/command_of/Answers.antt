@@ -1,7 +1,7 @@
 use Rattle.std.proofs.Common.{◌∙◌, ap, map, List, ℕ, Bor}
 use Rattle.word_options.proofs.AskLemmas.{answered, no_usage, only_asked}
 use Rattle.command_words.specs.Line.{command_line}
-use Rattle.command_words.specs.Table.{IsCommand, IsCommandBy}
+use Rattle.command_words.specs.Table.{IsCommandBy, WordsAreCommand}
 use Rattle.command_words.proofs.TableLemmas.{one_command}
 use Rattle.command_words.proofs.top.command_of.Goals as goal
 
@@ -20,4 +20,4 @@ returns-clause-usage c =
 
 pub returns-clause-only : goal.returns-clause-only
 returns-clause-only c =
-    only_asked (IsCommand c.args.words.now) c.command_by.result (one_command c.args.words.now) (returns-clause-answer c) (returns-clause-usage c)
+    only_asked (WordsAreCommand c.args.words.now) c.command_by.result (one_command c.args.words.now) (returns-clause-answer c) (returns-clause-usage c)

@@ -2,7 +2,7 @@ use Rattle.std.proofs.Common.{◌≡◌, ◌≤◌, ◌-◌, ℕ, Option, None, 
 use Rattle.probe_core.specs.Bench.{BenchState}
 use Rattle.access_calls.specs.Left.{IsLeft}
 use Rattle.access_calls.specs.Reported.{world_from}
-use Rattle.access_calls.specs.Keeps.{Keeps}
+use Rattle.access_calls.specs.Keeps.{KeepsAccess}
 use Rattle.sequence_rules.specs.Shared.{bindings_of}
 use Rattle.sequence_rules.specs.Runs.{variables_of}
 use Rattle.control_flow.specs.Closing.{AreAsked, numbers_in}
@@ -16,7 +16,7 @@ invariant-loop-index g l = record {
   calls : (g.A.Access.reported l.access).asks.calls ≡ (g.A.Access.reported l.fn.access).asks.calls;
   asks : AreAsked (g.A.Access.reported l.fn.access).asks.fence (bindings_of l.globals) → (g.A.Access.reported l.access).asks ≡ (g.A.Access.reported l.fn.access).asks;
   ended : (g.A.Access.reported l.access).end ≡ None;
-  keeps : Keeps g.A.Access.begun g.A.Access.reported g.A.Access.identity l.fn.access l.access;
+  keeps : KeepsAccess g.A.Access.begun g.A.Access.reported g.A.Access.identity l.fn.access l.access;
 }
 
 abbrev pub decreases-loop-index : goal.decreases-loop-index

@@ -6,8 +6,8 @@ use Rattle.seq_check.specs.Answers.{checked_trees}
 use Rattle.sequence_rules.specs.Runs.{late_meaning, meaning, outcome_of, program_of}
 use Rattle.sequence_rules.proofs.Made.{late_pair}
 use Rattle.sequence_rules.specs.Known.{known_part}
-use Rattle.function_calls.specs.Held.{state_of}
-use Rattle.control_flow.specs.Answers.{EndsAs, HasLines, ran}
+use Rattle.function_calls.specs.Held.{late_state_of}
+use Rattle.control_flow.specs.Answers.{HasLines, RunEndsAs, ran}
 use Rattle.control_flow.specs.Closing.{ComesToEnd}
 use Rattle.access_calls.specs.declared.ended.Ending.TheVariants as ending
 use Rattle.function_calls.proofs.WholeLines.{lines_none}
@@ -22,7 +22,7 @@ returns-in_default-clause-answer g c = λ m known b knows.
     let p = program_of (checked_trees c.args.checked.now) c.args.start.now c.args.settings.now in
     let before = known_part known (g.K.Sink.written c.args.sink.now) in
     let r = ran c.ended_early.result a.asks before in
-    subst (λ x. EndsAs x a.lines (outcome_of (meaning w p before)) r) (sym c.ended_early.ensures.ending) (not_begun w p before r c.requires.fresh refl)
+    subst (λ x. RunEndsAs x a.lines (outcome_of (meaning w p before)) r) (sym c.ended_early.ensures.ending) (not_begun w p before r c.requires.fresh refl)
 
 pub returns-in-Ok-run_all-clause-answer : goal.returns-in-Ok-run_all-clause-answer
 returns-in-Ok-run_all-clause-answer g c = λ m known b knows.
@@ -32,7 +32,7 @@ returns-in-Ok-run_all-clause-answer g c = λ m known b knows.
     let p = program_of (checked_trees c.args.checked.now) c.args.start.now c.args.settings.now in
     let before = known_part known (g.K.Sink.written c.args.sink.now) in
     let after = known_part known (g.K.Sink.written c.run_all.new.sink) in
-    let now = state_of c.run_all.new.held (g.A.Access.reported c.run_all.new.access).asks after in
+    let now = late_state_of c.run_all.new.held (g.A.Access.reported c.run_all.new.access).asks after in
     let same = at_start g.A.Access.cost w p c.in-Ok.held (g.A.Access.reported c.args.access.now).asks before c.requires.fresh (c.in-Ok.ensures.state g.A.Access.cost w before) in
     (c.ended_whole.ensures.answer m after (late_meaning g.A.Access.cost w p before) (meaning w p before) (c.run_all.ensures.keeps.on m b) (at_end (ending.Done) now _ _ same (c.in-Ok-run_all.ensures.gives m n known b (c.ended_whole.ensures.keeps.goes.left n (left_by last)) knows)) (late_pair g.A.Access.cost w p before)).0
 
@@ -44,7 +44,7 @@ returns-in-Ok-run_all-clause-needs g c = λ m known b knows.
     let p = program_of (checked_trees c.args.checked.now) c.args.start.now c.args.settings.now in
     let before = known_part known (g.K.Sink.written c.args.sink.now) in
     let after = known_part known (g.K.Sink.written c.run_all.new.sink) in
-    let now = state_of c.run_all.new.held (g.A.Access.reported c.run_all.new.access).asks after in
+    let now = late_state_of c.run_all.new.held (g.A.Access.reported c.run_all.new.access).asks after in
     let same = at_start g.A.Access.cost w p c.in-Ok.held (g.A.Access.reported c.args.access.now).asks before c.requires.fresh (c.in-Ok.ensures.state g.A.Access.cost w before) in
     (c.ended_whole.ensures.answer m after (late_meaning g.A.Access.cost w p before) (meaning w p before) (c.run_all.ensures.keeps.on m b) (at_end (ending.Done) now _ _ same (c.in-Ok-run_all.ensures.gives m n known b (c.ended_whole.ensures.keeps.goes.left n (left_by last)) knows)) (late_pair g.A.Access.cost w p before)).1
 
@@ -62,7 +62,7 @@ returns-in-Err-Halted-clause-answer g c = λ m known b knows.
     let p = program_of (checked_trees c.args.checked.now) c.args.start.now c.args.settings.now in
     let before = known_part known (g.K.Sink.written c.args.sink.now) in
     let after = known_part known (g.K.Sink.written c.run_all.new.sink) in
-    let now = state_of c.run_all.new.held (g.A.Access.reported c.run_all.new.access).asks after in
+    let now = late_state_of c.run_all.new.held (g.A.Access.reported c.run_all.new.access).asks after in
     let same = at_start g.A.Access.cost w p c.in-Ok.held (g.A.Access.reported c.args.access.now).asks before c.requires.fresh (c.in-Ok.ensures.state g.A.Access.cost w before) in
     (c.ended_whole-in-Err-Halted.ensures.answer m after (late_meaning g.A.Access.cost w p before) (meaning w p before) (c.run_all.ensures.keeps.on m b) (at_end (ending.Halted c.in-Err-Halted.cause) now _ _ same (rw c.in-Err-Halted.field-0-is at (c.in-Err-Halted.ensures.gives m n known b (c.ended_whole-in-Err-Halted.ensures.keeps.goes.left n (left_by last)) knows))) (late_pair g.A.Access.cost w p before)).0
 
@@ -74,7 +74,7 @@ returns-in-Err-Halted-clause-needs g c = λ m known b knows.
     let p = program_of (checked_trees c.args.checked.now) c.args.start.now c.args.settings.now in
     let before = known_part known (g.K.Sink.written c.args.sink.now) in
     let after = known_part known (g.K.Sink.written c.run_all.new.sink) in
-    let now = state_of c.run_all.new.held (g.A.Access.reported c.run_all.new.access).asks after in
+    let now = late_state_of c.run_all.new.held (g.A.Access.reported c.run_all.new.access).asks after in
     let same = at_start g.A.Access.cost w p c.in-Ok.held (g.A.Access.reported c.args.access.now).asks before c.requires.fresh (c.in-Ok.ensures.state g.A.Access.cost w before) in
     (c.ended_whole-in-Err-Halted.ensures.answer m after (late_meaning g.A.Access.cost w p before) (meaning w p before) (c.run_all.ensures.keeps.on m b) (at_end (ending.Halted c.in-Err-Halted.cause) now _ _ same (rw c.in-Err-Halted.field-0-is at (c.in-Err-Halted.ensures.gives m n known b (c.ended_whole-in-Err-Halted.ensures.keeps.goes.left n (left_by last)) knows))) (late_pair g.A.Access.cost w p before)).1
 
@@ -97,10 +97,10 @@ returns-in-Err-Stopped-clause-answer g c = λ m known b knows.
     let p = program_of (checked_trees c.args.checked.now) c.args.start.now c.args.settings.now in
     let before = known_part known (g.K.Sink.written c.args.sink.now) in
     let after = known_part known (g.K.Sink.written c.run_all.new.sink) in
-    let now = state_of c.run_all.new.held a.asks after in
+    let now = late_state_of c.run_all.new.held a.asks after in
     let r = ran c.ended_early-in-Err-Stopped.result last.asks after in
     let same = at_start g.A.Access.cost w p c.in-Ok.held (g.A.Access.reported c.args.access.now).asks before c.requires.fresh (c.in-Ok.ensures.state g.A.Access.cost w before) in
-    subst (λ x. EndsAs x last.lines (outcome_of (meaning w p before)) r) (sym (c.ended_early-in-Err-Stopped.ensures.ending ∙ c.from.ensures))
+    subst (λ x. RunEndsAs x last.lines (outcome_of (meaning w p before)) r) (sym (c.ended_early-in-Err-Stopped.ensures.ending ∙ c.from.ensures))
     (stopped_ends w st a last r now (late_meaning g.A.Access.cost w p before) (meaning w p before) (late_pair g.A.Access.cost w p before) (answered_as st last c.stop_of-stop.ensures.by)
     (left_end w a now _ _ same (rw c.in-Err-Stopped.field-0-is at (c.in-Err-Stopped.ensures.gives m n known b (c.stop_of-stop.ensures.keeps.goes.left n (left_by last)) knows)))
     c.stop_of-stop.ensures.stop c.stop_of-stop.ensures.same c.stop_of-stop.ensures.calls refl)
@@ -113,10 +113,10 @@ returns-in-Err-OutOfMemory-clause-answer g c = λ m known b knows.
     let p = program_of (checked_trees c.args.checked.now) c.args.start.now c.args.settings.now in
     let before = known_part known (g.K.Sink.written c.args.sink.now) in
     let after = known_part known (g.K.Sink.written c.run_all.new.sink) in
-    let now = state_of c.run_all.new.held a.asks after in
+    let now = late_state_of c.run_all.new.held a.asks after in
     let r = ran c.ended_early-in-Err-OutOfMemory.result a.asks after in
     let same = at_start g.A.Access.cost w p c.in-Ok.held (g.A.Access.reported c.args.access.now).asks before c.requires.fresh (c.in-Ok.ensures.state g.A.Access.cost w before) in
-    subst (λ x. EndsAs x a.lines (outcome_of (meaning w p before)) r) (sym c.ended_early-in-Err-OutOfMemory.ensures.ending)
+    subst (λ x. RunEndsAs x a.lines (outcome_of (meaning w p before)) r) (sym c.ended_early-in-Err-OutOfMemory.ensures.ending)
     (is_broken w r now (late_meaning g.A.Access.cost w p before) (meaning w p before) (late_pair g.A.Access.cost w p before)
     (later_end w now _ _ same (rw c.in-Err-OutOfMemory.field-0-is at (c.in-Err-OutOfMemory.ensures.gives m n known b (left_by a) knows))) refl refl)
 
@@ -131,10 +131,10 @@ returns-clause-answer g c = λ m known b knows.
     let p = program_of (checked_trees c.args.checked.now) c.args.start.now c.args.settings.now in
     let before = known_part known (g.K.Sink.written c.args.sink.now) in
     let after = known_part known (g.K.Sink.written c.run_all.new.sink) in
-    let now = state_of c.run_all.new.held a.asks after in
+    let now = late_state_of c.run_all.new.held a.asks after in
     let r = ran c.ended_early-in-Err-WriteFault.result a.asks after in
     let same = at_start g.A.Access.cost w p c.in-Ok.held (g.A.Access.reported c.args.access.now).asks before c.requires.fresh (c.in-Ok.ensures.state g.A.Access.cost w before) in
-    subst (λ x. EndsAs x a.lines (outcome_of (meaning w p before)) r) (sym c.ended_early-in-Err-WriteFault.ensures.ending)
+    subst (λ x. RunEndsAs x a.lines (outcome_of (meaning w p before)) r) (sym c.ended_early-in-Err-WriteFault.ensures.ending)
     (is_broken w r now (late_meaning g.A.Access.cost w p before) (meaning w p before) (late_pair g.A.Access.cost w p before)
     (later_end w now _ _ same (rw c.in-Err-WriteFault.field-0-is at (c.in-Err-WriteFault.ensures.gives m n known b (left_by a) knows))) refl refl)
 
@@ -174,7 +174,7 @@ returns-in-Ok-run_all-clause-part g c = λ m n known b left knows never.
     let p = program_of (checked_trees c.args.checked.now) c.args.start.now c.args.settings.now in
     let before = known_part known (g.K.Sink.written c.args.sink.now) in
     let after = known_part known (g.K.Sink.written c.run_all.new.sink) in
-    let now = state_of c.run_all.new.held (g.A.Access.reported c.run_all.new.access).asks after in
+    let now = late_state_of c.run_all.new.held (g.A.Access.reported c.run_all.new.access).asks after in
     let same = at_start g.A.Access.cost w p c.in-Ok.held (g.A.Access.reported c.args.access.now).asks before c.requires.fresh (c.in-Ok.ensures.state g.A.Access.cost w before) in
     c.ended_whole.ensures.part m n after (late_meaning g.A.Access.cost w p before) (meaning w p before) (c.run_all.ensures.keeps.on m b) left
     (at_end (ending.Done) now _ _ same ((c.in-Ok-run_all.ensures.gives m n known b (c.ended_whole.ensures.keeps.goes.left n left) knows))) (late_pair g.A.Access.cost w p before) never
@@ -185,7 +185,7 @@ returns-in-Err-Halted-clause-part g c = λ m n known b left knows never.
     let p = program_of (checked_trees c.args.checked.now) c.args.start.now c.args.settings.now in
     let before = known_part known (g.K.Sink.written c.args.sink.now) in
     let after = known_part known (g.K.Sink.written c.run_all.new.sink) in
-    let now = state_of c.run_all.new.held (g.A.Access.reported c.run_all.new.access).asks after in
+    let now = late_state_of c.run_all.new.held (g.A.Access.reported c.run_all.new.access).asks after in
     let same = at_start g.A.Access.cost w p c.in-Ok.held (g.A.Access.reported c.args.access.now).asks before c.requires.fresh (c.in-Ok.ensures.state g.A.Access.cost w before) in
     c.ended_whole-in-Err-Halted.ensures.part m n after (late_meaning g.A.Access.cost w p before) (meaning w p before) (c.run_all.ensures.keeps.on m b) left
     (at_end (ending.Halted c.in-Err-Halted.cause) now _ _ same (rw c.in-Err-Halted.field-0-is at (c.in-Err-Halted.ensures.gives m n known b (c.ended_whole-in-Err-Halted.ensures.keeps.goes.left n left) knows))) (late_pair g.A.Access.cost w p before) never
@@ -197,7 +197,7 @@ returns-in-Err-Stopped-clause-part g c = λ m n known b left knows never.
     let p = program_of (checked_trees c.args.checked.now) c.args.start.now c.args.settings.now in
     let before = known_part known (g.K.Sink.written c.args.sink.now) in
     let after = known_part known (g.K.Sink.written c.run_all.new.sink) in
-    let now = state_of c.run_all.new.held a.asks after in
+    let now = late_state_of c.run_all.new.held a.asks after in
     let same = at_start g.A.Access.cost w p c.in-Ok.held (g.A.Access.reported c.args.access.now).asks before c.requires.fresh (c.in-Ok.ensures.state g.A.Access.cost w before) in
     is_broken w (ran c.ended_early-in-Err-Stopped.result (g.A.Access.reported c.stop_of-stop.new.access).asks after) now (late_meaning g.A.Access.cost w p before) (meaning w p before) (late_pair g.A.Access.cost w p before)
     (left_end w a now _ _ same (rw c.in-Err-Stopped.field-0-is at (c.in-Err-Stopped.ensures.gives m n known b (c.stop_of-stop.ensures.keeps.goes.left n left) knows))).later c.stop_of-stop.ensures.calls refl
@@ -209,7 +209,7 @@ returns-in-Err-OutOfMemory-clause-part g c = λ m n known b left knows never.
     let p = program_of (checked_trees c.args.checked.now) c.args.start.now c.args.settings.now in
     let before = known_part known (g.K.Sink.written c.args.sink.now) in
     let after = known_part known (g.K.Sink.written c.run_all.new.sink) in
-    let now = state_of c.run_all.new.held a.asks after in
+    let now = late_state_of c.run_all.new.held a.asks after in
     let same = at_start g.A.Access.cost w p c.in-Ok.held (g.A.Access.reported c.args.access.now).asks before c.requires.fresh (c.in-Ok.ensures.state g.A.Access.cost w before) in
     is_broken w (ran c.ended_early-in-Err-OutOfMemory.result a.asks after) now (late_meaning g.A.Access.cost w p before) (meaning w p before) (late_pair g.A.Access.cost w p before)
     (later_end w now _ _ same (rw c.in-Err-OutOfMemory.field-0-is at (c.in-Err-OutOfMemory.ensures.gives m n known b left knows))) refl refl
@@ -221,7 +221,7 @@ returns-clause-part g c = λ m n known b left knows never.
     let p = program_of (checked_trees c.args.checked.now) c.args.start.now c.args.settings.now in
     let before = known_part known (g.K.Sink.written c.args.sink.now) in
     let after = known_part known (g.K.Sink.written c.run_all.new.sink) in
-    let now = state_of c.run_all.new.held a.asks after in
+    let now = late_state_of c.run_all.new.held a.asks after in
     let same = at_start g.A.Access.cost w p c.in-Ok.held (g.A.Access.reported c.args.access.now).asks before c.requires.fresh (c.in-Ok.ensures.state g.A.Access.cost w before) in
     is_broken w (ran c.ended_early-in-Err-WriteFault.result a.asks after) now (late_meaning g.A.Access.cost w p before) (meaning w p before) (late_pair g.A.Access.cost w p before)
     (later_end w now _ _ same (rw c.in-Err-WriteFault.field-0-is at (c.in-Err-WriteFault.ensures.gives m n known b left knows))) refl refl

@@ -1,6 +1,6 @@
 use Rattle.std.proofs.Common.{◌≡◌}
 use Rattle.job_runs.specs.Runs.{AccessKind, access_kind}
-use Rattle.dapseq_tool.specs.Headline.{Call, moment}
+use Rattle.dapseq_tool.specs.Headline.{BenchCall, bench_moment}
 use Rattle.dapseq_tool.proofs.FrameLemmas.{finished, finished_framed, sound_asked}
 use Rattle.dapseq_tool.proofs.call.make_call.Goals as goal
 
@@ -9,10 +9,10 @@ finish-over-requires g c = sound_asked c.args.words.now (g.S.Source.left c.args.
 
 pub returns-clause-asked : goal.returns-clause-asked
 returns-clause-asked g c =
-    let call : Call = record {
+    let call : BenchCall = record {
       words = c.args.words.now;
-      old = moment g.S.Source.left g.S.Source.faults g.K.Sink.written g.K.Sink.faults g.B.Bench.reported g.B.Bench.state c.args.source.now c.args.sink.now c.args.bench;
-      new = moment g.S.Source.left g.S.Source.faults g.K.Sink.written g.K.Sink.faults g.B.Bench.reported g.B.Bench.state c.ask-asked.new.source c.finish-over.new.sink c.finish-over.result.bench;
+      old = bench_moment g.S.Source.left g.S.Source.faults g.K.Sink.written g.K.Sink.faults g.B.Bench.reported g.B.Bench.state c.args.source.now c.args.sink.now c.args.bench;
+      new = bench_moment g.S.Source.left g.S.Source.faults g.K.Sink.written g.K.Sink.faults g.B.Bench.reported g.B.Bench.state c.ask-asked.new.source c.finish-over.new.sink c.finish-over.result.bench;
       end = c.finish-over.result.status;
     } in
     let access : AccessKind = access_kind g.A.Access.journal g.A.Access.cost g.A.Access.is_sparing in
@@ -20,10 +20,10 @@ returns-clause-asked g c =
 
 pub returns-clause-frame : goal.returns-clause-frame
 returns-clause-frame g c =
-    let call : Call = record {
+    let call : BenchCall = record {
       words = c.args.words.now;
-      old = moment g.S.Source.left g.S.Source.faults g.K.Sink.written g.K.Sink.faults g.B.Bench.reported g.B.Bench.state c.args.source.now c.args.sink.now c.args.bench;
-      new = moment g.S.Source.left g.S.Source.faults g.K.Sink.written g.K.Sink.faults g.B.Bench.reported g.B.Bench.state c.ask-asked.new.source c.finish-over.new.sink c.finish-over.result.bench;
+      old = bench_moment g.S.Source.left g.S.Source.faults g.K.Sink.written g.K.Sink.faults g.B.Bench.reported g.B.Bench.state c.args.source.now c.args.sink.now c.args.bench;
+      new = bench_moment g.S.Source.left g.S.Source.faults g.K.Sink.written g.K.Sink.faults g.B.Bench.reported g.B.Bench.state c.ask-asked.new.source c.finish-over.new.sink c.finish-over.result.bench;
       end = c.finish-over.result.status;
     } in
     let access : AccessKind = access_kind g.A.Access.journal g.A.Access.cost g.A.Access.is_sparing in

@@ -1,15 +1,15 @@
 use Rattle.std.proofs.Common.{◌≡◌, ◌∙◌, ℕ, List, Some, ap, inl, inr, refl, subst, sym}
 use Rattle.dap_base.specs.Memory.{SourceState, SinkState}
 use Rattle.probe_core.specs.Memory.{IsBeforeLoad, MemoryBenchState, reported_of}
-use Rattle.dapseq_tool.specs.Headline.{Call, Moment, moment}
+use Rattle.dapseq_tool.specs.Headline.{BenchCall, BenchMoment, bench_moment}
 use Rattle.dapseq_tool.specs.declared.memory.InMemory.{InMemory}
 use Rattle.dapseq_tool.proofs.MemoryLemmas.{done_in_memory, quiet_zero, quiet_sink}
 use Rattle.dapseq_tool.proofs.memory.dapseq_in_memory.Goals as goal
 use Rattle.dapseq_tool.specs.Packed.{packed}
 
 -- what is known of objects in memory
-abbrev at : SourceState → SinkState → MemoryBenchState → Moment
-at source sink bench = moment (λ (s : SourceState). Some s.left) (λ s. 0) (λ (k : SinkState). Some k.written) (λ (k : SinkState). k.faults) reported_of (λ (b : MemoryBenchState). Some b.state) source sink bench
+abbrev at : SourceState → SinkState → MemoryBenchState → BenchMoment
+at source sink bench = bench_moment (λ (s : SourceState). Some s.left) (λ s. 0) (λ (k : SinkState). Some k.written) (λ (k : SinkState). k.faults) reported_of (λ (b : MemoryBenchState). Some b.state) source sink bench
 
 -- a bench that stayed as it was made
 before_load : (made : MemoryBenchState) → IsBeforeLoad made → (b : MemoryBenchState) → b ≡ made → IsBeforeLoad b
@@ -25,7 +25,7 @@ returns-clause-refused c refused =
 
 pub returns-clause-done : goal.returns-clause-done
 returns-clause-done c =
-    let call : Call = record {
+    let call : BenchCall = record {
       words = c.args.words.now;
       old = at c.in_ok-source.source c.in_ok-sink.sink c.new-bench.result;
       new = at c.dapseq-status.new.source c.dapseq-status.new.sink c.dapseq-status.new.bench;

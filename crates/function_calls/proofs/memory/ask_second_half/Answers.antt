@@ -1,6 +1,6 @@
 use Rattle.access_calls.specs.Reported.{world_from}
 use Rattle.sequence_rules.specs.Calls.{second_half}
-use Rattle.function_calls.specs.Held.{state_of}
+use Rattle.function_calls.specs.Held.{late_state_of}
 use Rattle.function_calls.proofs.FrameLemmas.{call_end}
 use Rattle.function_calls.proofs.Leaves.{later_cond, later_low_and_high, later_ok, second_write}
 use Rattle.function_calls.proofs.memory.ask_second_half.Goals as goal
@@ -17,7 +17,7 @@ returns-else-read g c =
     record {
       gives = λ m answered written b l.
           second_write g.A.Access.cost (world_from m answered) c.args.read (record { ap = c.args.ap; forgive = c.args.forgive; dp = 0 }) c.args.address c.args.value c.args.low c.in_ok-high.high _
-          (state_of c.args.held.now (g.A.Access.reported c.args.access.now).asks written) (state_of c.ask.new.held (g.A.Access.reported c.ask.new.access).asks written) c.if-read.false c.memory_unit-unit.ensures.unit (e.gives m answered written b l);
+          (late_state_of c.args.held.now (g.A.Access.reported c.args.access.now).asks written) (late_state_of c.ask.new.held (g.A.Access.reported c.ask.new.access).asks written) c.if-read.false c.memory_unit-unit.ensures.unit (e.gives m answered written b l);
       keeps = e.keeps;
       ends = record { end = e.ends.end; counted = e.ends.counted; cause = tt };
     }

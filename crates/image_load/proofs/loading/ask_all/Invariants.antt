@@ -1,5 +1,5 @@
 use Rattle.std.proofs.Common.{◌≡◌, ◌+◌, ◌<◌, ◌++◌, None, length, take}
-use Rattle.access_calls.specs.Keeps.{Keeps}
+use Rattle.access_calls.specs.Keeps.{KeepsAccess}
 use Rattle.image_load.specs.Pieces.{asked_all}
 use Rattle.image_load.proofs.loading.ask_all.Given as goal
 
@@ -10,5 +10,5 @@ invariant-loop-i g l = record {
   some : 0 < l.i → l.first ≡ length (g.A.Access.reported l.fn.access).asks.calls;
   none : l.i ≡ 0 → l.first ≡ 0;
   ended : (g.A.Access.reported l.access).end ≡ None;
-  keeps : Keeps g.A.Access.begun g.A.Access.reported g.A.Access.identity l.fn.access l.access;
+  keeps : KeepsAccess g.A.Access.begun g.A.Access.reported g.A.Access.identity l.fn.access l.access;
 }

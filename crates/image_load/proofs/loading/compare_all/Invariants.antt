@@ -1,7 +1,7 @@
 use Rattle.std.proofs.Common.{◌≡◌, ◌+◌, ◌≤◌, ℕ, Option, None, drop, length, slice_index}
 use Rattle.probe_core.specs.Bench.{BenchState}
 use Rattle.target_calls.specs.World.{results}
-use Rattle.access_calls.specs.Keeps.{Keeps}
+use Rattle.access_calls.specs.Keeps.{KeepsAccess}
 use Rattle.access_calls.specs.Left.{IsLeft}
 use Rattle.access_calls.specs.Reported.{world_from}
 use Rattle.image_load.specs.Pieces.{first_difference}
@@ -15,5 +15,5 @@ invariant-loop-i g l = record {
   calls : (g.A.Access.reported l.access).asks.calls ≡ (g.A.Access.reported l.fn.access).asks.calls;
   known : l.first + length l.pieces ≤ (g.A.Access.reported l.access).known;
   ended : (g.A.Access.reported l.access).end ≡ None;
-  keeps : Keeps g.A.Access.begun g.A.Access.reported g.A.Access.identity l.fn.access l.access;
+  keeps : KeepsAccess g.A.Access.begun g.A.Access.reported g.A.Access.identity l.fn.access l.access;
 }

@@ -1,7 +1,7 @@
 use Rattle.std.proofs.Common.{◌∙◌, ap, map, List, ℕ, Bor}
 use Rattle.word_options.proofs.AskLemmas.{answered, no_usage, only_asked}
-use Rattle.log_words.specs.Asks.{Asks, IsAskedBy}
-use Rattle.log_words.specs.Line.{command_line}
+use Rattle.log_words.specs.Asks.{IsLogRequest, WordsAskForLog}
+use Rattle.log_words.specs.Line.{log_command_line}
 use Rattle.log_words.proofs.AskLemmas.{one_asked}
 use Rattle.log_words.proofs.top.asked_of.Goals as goal
 
@@ -10,14 +10,14 @@ texts = map (λ t. t.now)
 
 pub returns-clause-answer : goal.returns-clause-answer
 returns-clause-answer c =
-    answered command_line IsAskedBy c.args.words.now (texts c.as_slice.result.now) c.in_ok-matches.matches c.asked_by.result
+    answered log_command_line IsLogRequest c.args.words.now (texts c.as_slice.result.now) c.in_ok-matches.matches c.asked_by.result
     (ap texts c.as_slice.ensures.value ∙ c.in_ok-texts.ensures) c.in_ok-matches.ensures c.asked_by.ensures.answer
 
 pub returns-clause-usage : goal.returns-clause-usage
 returns-clause-usage c =
-    no_usage command_line IsAskedBy c.args.words.now (texts c.as_slice.result.now) c.in_ok-matches.matches c.asked_by.result
+    no_usage log_command_line IsLogRequest c.args.words.now (texts c.as_slice.result.now) c.in_ok-matches.matches c.asked_by.result
     (ap texts c.as_slice.ensures.value ∙ c.in_ok-texts.ensures) c.in_ok-matches.ensures c.asked_by.ensures.usage
 
 pub returns-clause-only : goal.returns-clause-only
 returns-clause-only c =
-    only_asked (Asks c.args.words.now) c.asked_by.result (one_asked c.args.words.now) (returns-clause-answer c) (returns-clause-usage c)
+    only_asked (WordsAskForLog c.args.words.now) c.asked_by.result (one_asked c.args.words.now) (returns-clause-answer c) (returns-clause-usage c)

@@ -2,8 +2,8 @@ use Rattle.std.proofs.Common.{◌∙◌, None}
 use Rattle.run_events.specs.OfRuns.{events_in}
 use Rattle.sequence_rules.specs.Runs.{meaning}
 use Rattle.target_calls.specs.World.{start_world}
-use Rattle.logged_runs.specs.Seen.{Notes}
-use Rattle.logged_runs.specs.Walk.{now, seen}
+use Rattle.logged_runs.specs.Seen.{NotesByTurns}
+use Rattle.logged_runs.specs.Walk.{now, seen_so_far}
 use Rattle.logged_runs.proofs.Answering.{at_end, came_to, covered_at, error_at, log_at, places_at, timed_out_at}
 use Rattle.logged_runs.proofs.logged.answer_run.Goals as goal
 
@@ -14,11 +14,11 @@ returns-clause-answer c = λ p start target h units.
 
 pub returns-clause-seen : goal.returns-clause-seen
 returns-clause-seen c = λ turns p start first none h.
-    let n = at_end (Notes turns first (seen c.args.walked) (λ shows. events_in shows (start_world start None) p None)) c.args.walked.held.end c.args.ended c.in-Ok.ending c.args.walked.held.units c.in-Ok.ensures h in
+    let n = at_end (NotesByTurns turns first (seen_so_far c.args.walked) (λ shows. events_in shows (start_world start None) p None)) c.args.walked.held.end c.args.ended c.in-Ok.ending c.args.walked.held.units c.in-Ok.ensures h in
     record {
-      log = c.in-Ok-write_text.ensures ∙ log_at turns first (seen c.args.walked) (λ shows. events_in shows (start_world start None) p None) none n;
-      coverage = covered_at turns first (seen c.args.walked) (λ shows. events_in shows (start_world start None) p None) none n;
-      at = c.place_of_end.ensures _ (places_at turns first (seen c.args.walked) (λ shows. events_in shows (start_world start None) p None) none n);
-      timed_out = timed_out_at turns first (seen c.args.walked) (λ shows. events_in shows (start_world start None) p None) none n;
-      error_shown = error_at turns first (seen c.args.walked) (λ shows. events_in shows (start_world start None) p None) none n;
+      log = c.in-Ok-write_text.ensures ∙ log_at turns first (seen_so_far c.args.walked) (λ shows. events_in shows (start_world start None) p None) none n;
+      coverage = covered_at turns first (seen_so_far c.args.walked) (λ shows. events_in shows (start_world start None) p None) none n;
+      at = c.place_of_end.ensures _ (places_at turns first (seen_so_far c.args.walked) (λ shows. events_in shows (start_world start None) p None) none n);
+      timed_out = timed_out_at turns first (seen_so_far c.args.walked) (λ shows. events_in shows (start_world start None) p None) none n;
+      error_shown = error_at turns first (seen_so_far c.args.walked) (λ shows. events_in shows (start_world start None) p None) none n;
     }

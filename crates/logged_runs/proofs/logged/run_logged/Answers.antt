@@ -12,8 +12,8 @@ use Rattle.sequence_rules.specs.Steps as m
 use Rattle.sequence_rules.specs.Variables.{with_all_new}
 use Rattle.sequence_rules.proofs.StartLemmas.{start_is}
 use Rattle.logged_calls.specs.Held.{Means, Unless}
-use Rattle.logged_runs.specs.Seen.{Notes}
-use Rattle.logged_runs.specs.Walk.{now, seen}
+use Rattle.logged_runs.specs.Seen.{NotesByTurns}
+use Rattle.logged_runs.specs.Walk.{now, seen_so_far}
 use Rattle.logged_runs.proofs.logged.run_logged.Goals as goal
 
 pub returns-clause-answer : goal.returns-clause-answer
@@ -35,8 +35,8 @@ returns-clause-seen c =
     let values = c.in-Ok.ensures ∙ ap (λ (l : List Variable). variables_of l) c.as_slice.ensures in
     let all = c.in-Ok-add_declared.ensures ∙ ap (λ bs. with_all_new bs (m.declared_names (code_trees c.as_slice-2.result.now)) 0) values ∙ ap (λ k. with_all_new (variables_of c.args.settings.now.start) (m.declared_names k) 0) code in
     let same = c.new-walked.ensures.state c.args.target.now ∙ start_is c.args.settings.now.turn_us set (variables_of c.args.settings.now.start) _ c.args.target.now None all in
-    let noted = subst (λ s. Unless c.run_all-ended.new.walked.held.end c.run_all-ended.result (Notes c.args.turns (seen c.new-walked.result) (seen c.run_all-ended.new.walked) (λ shows. r.run_events shows c.args.settings.now.turn_us set c.args.start.now s))) same c.run_all-ended.ensures.noted in
+    let noted = subst (λ s. Unless c.run_all-ended.new.walked.held.end c.run_all-ended.result (NotesByTurns c.args.turns (seen_so_far c.new-walked.result) (seen_so_far c.run_all-ended.new.walked) (λ shows. r.run_events shows c.args.settings.now.turn_us set c.args.start.now s))) same c.run_all-ended.ensures.noted in
     let p = program_of (checked_trees c.args.checked.now) c.args.start.now c.args.settings.now in
     let start = c.new-walked.ensures in
-    c.answer_run.ensures.seen c.args.turns p c.args.target.now (seen c.new-walked.result)
+    c.answer_run.ensures.seen c.args.turns p c.args.target.now (seen_so_far c.new-walked.result)
     (record { log = start.log; places = start.places; coverage = start.coverage; timed_out = start.timed_out; error_shown = start.error_shown }) noted

@@ -4,7 +4,7 @@ use Rattle.std.proofs.lemmas.List.Elements.{All-get_or}
 use Rattle.std.proofs.lemmas.Option.{get_or_from_slice_get}
 use Rattle.pack_faults.specs.declared.lined.LinedSet.{LinedSet}
 use Rattle.pack_faults.specs.declared.sets.SetRef.{SetRef}
-use Rattle.pack_faults.specs.Answers.{IsChecked}
+use Rattle.pack_faults.specs.Answers.{IsCheckOfSet}
 use Rattle.pack_faults.specs.Lined.{checked_view, IsCheckedAt}
 use Rattle.pack_faults.specs.Sets.{SetAt}
 use Rattle.pack_faults.specs.Views.{set_view}
@@ -22,7 +22,7 @@ loop-at-preserved c = record {
       let one = c.index-found-at.result in
       let is : IsCheckedAt pack all s = subst (IsCheckedAt pack all) (sym c.at-item.is) (All-get_or (IsCheckedAt pack all) sets i s c.loop-at-test.true found) in
       let same : one ≡ is.one = c.index-found-at.is ∙ get_or_from_slice_get all s.number is.one one is.there in
-      let checked = subst (λ (x : LinedSet). IsChecked pack (set_view s) (checked_view x)) (sym same) is.is in
+      let checked = subst (λ (x : LinedSet). IsCheckOfSet pack (set_view s) (checked_view x)) (sym same) is.is in
       subst (λ (ss : List SetAt). AreDone pack ss c.note.new.checking) (sym (map_taken set_view sets i s c.loop-at-test.true c.at-item.is))
       (c.in_ok-note.ensures.ok pack (map set_view (take i sets)) (set_view s) checked (c.loop-at.invariant.done pack found)));
   knows = c.in_ok-note.ensures.knows;

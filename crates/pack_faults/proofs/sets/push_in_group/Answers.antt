@@ -3,7 +3,7 @@ use Rattle.sequence_resolve.specs.Levels.{LevelAt, path_of}
 use Rattle.sequence_resolve.specs.Views.{place_view}
 use Rattle.pack_faults.specs.declared.shared.PnameSet.{PnameSet}
 use Rattle.pack_faults.specs.Sets.{device_sets}
-use Rattle.pack_faults.specs.Shared.{is_bare, levels_above, IsReady, AreAdded}
+use Rattle.pack_faults.specs.Shared.{is_bare, levels_above, IsFineWithShared, AreAdded}
 use Rattle.pack_faults.proofs.SharedLemmas.{device_trimmed}
 use Rattle.pack_faults.proofs.AddedLemmas.{on_ok, ready_along, added_along}
 use Rattle.pack_faults.proofs.sets.push_in_group.Goals as goal
@@ -37,5 +37,5 @@ returns c =
     let place = place_view c.args.place in
     let above = levels_above pack place.family place.sub_family in
     on_ok c.push_own.result
-    ((levels : List LevelAt) (shared : Option (List PnameSet)) → IsReady pack r levels shared c.args.found.now → AreAdded pack r levels (device_sets pack r place) c.args.found.now shared c.push_own.new.found)
+    ((levels : List LevelAt) (shared : Option (List PnameSet)) → IsFineWithShared pack r levels shared c.args.found.now → AreAdded pack r levels (device_sets pack r place) c.args.found.now shared c.push_own.new.found)
     _ c.push_own.ensures (λ e. e above c.args.shared.now c.requires)

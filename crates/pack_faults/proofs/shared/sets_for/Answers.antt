@@ -4,7 +4,7 @@ use Rattle.std.proofs.lemmas.List.{map-append}
 use Rattle.sequence_resolve.specs.Levels.{path_of}
 use Rattle.sequence_resolve.specs.Views.{place_view}
 use Rattle.pack_faults.specs.declared.shared.PnameSet.{PnameSet}
-use Rattle.pack_faults.specs.Shared.{pname_view, IsNumbered}
+use Rattle.pack_faults.specs.Shared.{pname_view, IsKnownSetOf}
 use Rattle.pack_faults.proofs.SharedLemmas.{map_taken, each_more, grown_then}
 use Rattle.pack_faults.proofs.shared.sets_for.Goals as goal
 
@@ -18,7 +18,7 @@ loop-pname-preserved c =
           ap (map pname_view) c.in_ok-push.ensures.ok ∙ map-append pname_view c.loop-pname.sets (m ∷ []) ∙ ap (λ ns. ns ++ pname_view m ∷ []) c.loop-pname.invariant.pnames
           ∙ sym (map_taken (λ pname. option_map (λ name. name.now) pname) c.args.pnames.now c.loop-pname.pname-index c.pname-item.result c.loop-pname-test.true c.pname-item.is);
       each =
-          subst (λ (sets : List PnameSet). All (λ (x : PnameSet). IsNumbered known path (pname_view x) x.number) sets) (sym c.in_ok-push.ensures.ok)
+          subst (λ (sets : List PnameSet). All (λ (x : PnameSet). IsKnownSetOf known path (pname_view x) x.number) sets) (sym c.in_ok-push.ensures.ok)
           (each_more c.loop-pname.known known path c.loop-pname.sets m c.in_ok-number.ensures.grown c.loop-pname.invariant.each c.in_ok-number.ensures.number);
       known = c.in_ok-number.ensures.known;
       grown = grown_then c.args.known.now c.loop-pname.known known c.loop-pname.invariant.grown c.in_ok-number.ensures.grown;

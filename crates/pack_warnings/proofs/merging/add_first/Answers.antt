@@ -3,7 +3,7 @@ use Rattle.std.specs.Ordering.{is_eq}
 use Rattle.std.specs.BTreeMap.{get}
 use Rattle.pack_warnings.specs.declared.answer.FoundWarning.{FoundWarning}
 use Rattle.pack_warnings.specs.declared.answer.PackWarning.{PackWarning}
-use Rattle.pack_warnings.specs.Keys.{key_cmp, Knows}
+use Rattle.pack_warnings.specs.Keys.{warning_key_cmp, KnowsWarningPlaces}
 use Rattle.pack_warnings.proofs.KeyLemmas.{there_known, found_last, knows_more}
 use Rattle.pack_warnings.proofs.merging.add_first.Goals as goal
 use Rattle.pack_faults.proofs.AddedLemmas.{on_ok}
@@ -22,6 +22,6 @@ returns-clause-knows c =
     let places = c.args.warnings.now.places in
     let new = c.note_place.new.places in
     on_ok c.push_found.result (c.push_found.new.list.items ≡ old ++ record { found = x; sets = c.args.number ∷ [] } ∷ []) _ c.push_found.ensures
-    (λ e. subst (λ (list : List PackWarning). Knows new list) (sym e)
+    (λ e. subst (λ (list : List PackWarning). KnowsWarningPlaces new list) (sym e)
     (knows_more places new old c.args.key x (c.args.number ∷ []) c.requires.knows c.requires.key c.requires.first
-    (λ other. c.in_ok-note_place.ensures other ∙ ap (λ n. cond (is_eq (key_cmp c.args.key other)) (Some n) (get key_cmp places other)) (c.len-place.ensures ∙ c.args.warnings.now.list.ok.0))))
+    (λ other. c.in_ok-note_place.ensures other ∙ ap (λ n. cond (is_eq (warning_key_cmp c.args.key other)) (Some n) (get warning_key_cmp places other)) (c.len-place.ensures ∙ c.args.warnings.now.list.ok.0))))

@@ -3,7 +3,7 @@ use Rattle.std.specs.List.{All}
 use Rattle.pack_faults.specs.declared.known.KnownSet.{KnownSet}
 use Rattle.pack_faults.specs.declared.sets.SetRef.{SetRef}
 use Rattle.pack_faults.specs.Known.{IsKnown}
-use Rattle.pack_faults.specs.Shared.{IsFound}
+use Rattle.pack_faults.specs.Shared.{HasNumberOfSet}
 use Rattle.pack_faults.specs.Sets.{SetAt}
 use Rattle.pack_faults.specs.Views.{set_view}
 use Rattle.pack_faults.proofs.AnswerLemmas.{found_within}
@@ -21,8 +21,8 @@ pub returns-clause-answer : goal.returns-clause-answer
 returns-clause-answer c =
     let pack = c.args.pack.now in
     let fine = c.in_ok-found.ensures.fine in
-    let known = subst (λ (ks : List KnownSet). All (IsFound pack ks) c.in_ok-found.found.sets) (sym c.as_slice.ensures) fine.found in
-    let found = subst (λ (ss : List SetRef). All (IsFound pack c.as_slice.result.now) ss) (sym c.as_slice-2.ensures) known in
+    let known = subst (λ (ks : List KnownSet). All (HasNumberOfSet pack ks) c.in_ok-found.found.sets) (sym c.as_slice.ensures) fine.found in
+    let found = subst (λ (ss : List SetRef). All (HasNumberOfSet pack c.as_slice.result.now) ss) (sym c.as_slice-2.ensures) known in
     let merged = c.in_ok-warnings_of_sets.ensures pack found in
     record {
       lists = merged.lists;

@@ -4,7 +4,7 @@ use Rattle.access_calls.proofs.KeepLemmas.{keeps_on, keeps_same}
 use Rattle.access_calls.specs.Reported.{world_from}
 use Rattle.sequels.specs.Meeting.{Reaches}
 use Rattle.sequels.proofs.MeetingLemmas.{whole_after}
-use Rattle.rom_scan.specs.Components.{words}
+use Rattle.rom_scan.specs.Components.{words_sequel}
 use Rattle.rom_scan.proofs.ReadLemmas.{next_word, stops_word, words_end, words_start}
 use Rattle.rom_scan.proofs.asking.read_words.Goals as goal
 
@@ -28,9 +28,9 @@ loop-i-preserved g c =
       so_far = λ m answered written b l whole.
           let w = world_from m answered in
           let r = inv.so_far m answered written b (e.ends.keeps.goes.left answered l) whole in
-          subst (λ (x : List ℕ). Reaches w (words c.args.ap c.args.count c.args.address []) old new written written (words c.args.ap (c.args.count - (c.loop-i.i + 1)) (c.args.address + 4 * (c.loop-i.i + 1)) x)) (sym c.push.ensures.items)
+          subst (λ (x : List ℕ). Reaches w (words_sequel c.args.ap c.args.count c.args.address []) old new written written (words_sequel c.args.ap (c.args.count - (c.loop-i.i + 1)) (c.args.address + 4 * (c.loop-i.i + 1)) x)) (sym c.push.ensures.items)
           (next_word w c.args.ap c.args.count c.loop-i.i c.args.address c.loop-i.read.items _ old mid new written c.loop-i-test.true c.word_unit.ensures.asks whole r c.in-Ok.word
-          (e.gives m answered written (inv.keeps.on m b) l (whole_after w (words c.args.ap c.args.count c.args.address []) _ old mid written written whole r)));
+          (e.gives m answered written (inv.keeps.on m b) l (whole_after w (words_sequel c.args.ap c.args.count c.args.address []) _ old mid written written whole r)));
       items =
           let a = ap (λ (x : List ℕ). length x) c.push.ensures.items in
           let b = length-append c.loop-i.read.items (c.in-Ok.word ∷ []) in
@@ -49,7 +49,7 @@ returns-in-Err-clause-gives g c = λ m answered written b l whole.
     let r = inv.so_far m answered written b (e.ends.keeps.goes.left answered l) whole in
     stops_word w c.args.ap c.args.count c.loop-i.i c.args.address c.loop-i.read.items _ (g.A.Access.reported c.args.access.now).asks.calls (g.A.Access.reported c.loop-i.access).asks.calls (g.A.Access.reported c.ask_now.new.access).asks.calls written
     c.loop-i-test.true c.word_unit.ensures.asks whole r (g.A.Access.reported c.ask_now.new.access).lines c.in-Err.stop
-    (e.gives m answered written (inv.keeps.on m b) l (whole_after w (words c.args.ap c.args.count c.args.address []) _ _ _ written written whole r))
+    (e.gives m answered written (inv.keeps.on m b) l (whole_after w (words_sequel c.args.ap c.args.count c.args.address []) _ _ _ written written whole r))
 
 pub returns-clause-gives : goal.returns-clause-gives
 returns-clause-gives g c = λ m answered written b l whole.

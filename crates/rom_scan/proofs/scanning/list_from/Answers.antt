@@ -2,7 +2,7 @@ use Rattle.std.proofs.Common.{rules, ◌≡◌, ◌+◌, [], length, Ok, Err, sy
 use Rattle.access_calls.specs.Reported.{world_from}
 use Rattle.sequels.specs.Meeting.{Reaches}
 use Rattle.sequels.proofs.MeetingLemmas.{reaches_as, whole_after}
-use Rattle.rom_scan.specs.Tables.{reached, unwound}
+use Rattle.rom_scan.specs.Tables.{unwound, walk_from_component}
 use Rattle.rom_scan.specs.Walk.{component}
 use Rattle.rom_scan.proofs.EndLemmas.{ends_as, ends_on}
 use Rattle.rom_scan.proofs.FullLemmas.{at_full}
@@ -27,9 +27,9 @@ returns-in-Err-clause-gives g c = λ m answered b l whole.
     let old = (g.A.Access.reported c.args.access.now).asks.calls in
     let before = g.K.Sink.written c.args.sink.now in
     let now = g.K.Sink.written c.arrive.new.sink in
-    lists_as w a.lines (component 1024 c.args.ap 7 c.args.address []) (reached 1024 c.args.ap c.new-tables.result c.args.address c.new-listed.result) (Err c.in-Err.end) old a.asks.calls before now
+    lists_as w a.lines (component 1024 c.args.ap 7 c.args.address []) (walk_from_component 1024 c.args.ap c.new-tables.result c.args.address c.new-listed.result) (Err c.in-Err.end) old a.asks.calls before now
     (root_at c.args.ap c.args.address c.new-tables.result c.new-listed.result c.new-tables.ensures c.new-listed.ensures)
-    (lists_end w a.lines c.args.ap (reached 1024 c.args.ap c.new-tables.result c.args.address c.new-listed.result) c.in-Err.end c.arrive.new.tables c.arrive.new.listed old a.asks.calls before now
+    (lists_end w a.lines c.args.ap (walk_from_component 1024 c.args.ap c.new-tables.result c.args.address c.new-listed.result) c.in-Err.end c.arrive.new.tables c.arrive.new.listed old a.asks.calls before now
     (c.in-Err.ensures.gives m answered b l whole))
 
 pub returns-in-Ok-walk-clause-gives : goal.returns-in-Ok-walk-clause-gives
@@ -46,7 +46,7 @@ returns-in-Ok-walk-clause-gives g c = λ m answered b l whole.
     let s = component 1024 n 7 c.args.address [] in
     let rest = unwound 1024 n c.arrive.new.tables c.arrive.new.listed in
     let r : Reaches w (component 1024 n 7 c.args.address []) old mid before then (unwound 1024 n c.arrive.new.tables c.arrive.new.listed) =
-    reaches_as w (reached 1024 n c.new-tables.result c.args.address c.new-listed.result) s rest old mid before then
+    reaches_as w (walk_from_component 1024 n c.new-tables.result c.args.address c.new-listed.result) s rest old mid before then
     (sym (root_at n c.args.address c.new-tables.result c.new-listed.result c.new-tables.ensures c.new-listed.ensures))
     (c.in-Ok.ensures.gives m answered b (e.ends.ends.keeps.goes.left answered l) whole) in
     lists_done w a.lines n (c.in-Ok.words + c.in-Ok-walk.more) s c.walk.new.tables c.walk.new.listed old a.asks.calls before now
@@ -68,7 +68,7 @@ returns-clause-gives g c = λ m answered b l whole.
     let s = component 1024 n 7 c.args.address [] in
     let rest = unwound 1024 n c.arrive.new.tables c.arrive.new.listed in
     let r : Reaches w (component 1024 n 7 c.args.address []) old mid before then (unwound 1024 n c.arrive.new.tables c.arrive.new.listed) =
-    reaches_as w (reached 1024 n c.new-tables.result c.args.address c.new-listed.result) s rest old mid before then
+    reaches_as w (walk_from_component 1024 n c.new-tables.result c.args.address c.new-listed.result) s rest old mid before then
     (sym (root_at n c.args.address c.new-tables.result c.new-listed.result c.new-tables.ensures c.new-listed.ensures))
     (c.in-Ok.ensures.gives m answered b (e.ends.ends.keeps.goes.left answered l) whole) in
     lists_end w a.lines n s c.in-Err-walk.end c.walk.new.tables c.walk.new.listed old a.asks.calls before now

@@ -5,7 +5,7 @@ use Rattle.access_calls.proofs.KeepLemmas.{keeps_on, keeps_same}
 use Rattle.access_calls.specs.Reported.{world_from}
 use Rattle.sequels.specs.Meeting.{Reaches}
 use Rattle.sequels.proofs.MeetingLemmas.{reaches_on, reaches_same, reaches_to, whole_after}
-use Rattle.rom_scan.specs.Arrivals.{IsOpen, left_of}
+use Rattle.rom_scan.specs.Arrivals.{IsOpenTable, reads_left}
 use Rattle.rom_scan.specs.Tables.{unwound}
 use Rattle.rom_scan.specs.declared.tables.Table.{Table}
 use Rattle.rom_scan.proofs.FullLemmas.{at_full}
@@ -45,12 +45,12 @@ tables-preserved-in-Ok g c =
           reaches_on w (unwound 1024 n c.args.tables.now c.args.listed.now) (unwound 1024 n (c.in-Some.table ∷ c.pop.new.self) c.tables.listed) (unwound 1024 n c.step.new.tables c.step.new.listed) old mid new
           (g.K.Sink.written c.args.sink.now) (g.K.Sink.written c.tables.sink) (g.K.Sink.written c.step.new.sink) whole q
           (e.gives m answered (inv.keeps.on m b) l (whole_after w (unwound 1024 n c.args.tables.now c.args.listed.now) (unwound 1024 n c.tables.tables c.tables.listed) old mid (g.K.Sink.written c.args.sink.now) (g.K.Sink.written c.tables.sink) whole r));
-      sound = e.open (All-tail IsOpen c.in-Some.table c.pop.new.self (subst (λ (ts : List Table). All IsOpen ts) c.in-Some.ensures inv.sound));
+      sound = e.open (All-tail IsOpenTable c.in-Some.table c.pop.new.self (subst (λ (ts : List Table). All IsOpenTable ts) c.in-Some.ensures inv.sound));
       deep = e.deep;
       count =
           let a = e.count in
           let d = inv.count in
-          let same : left_of c.tables.tables c.tables.listed ≡ left_of (c.in-Some.table ∷ c.pop.new.self) c.tables.listed = ap (λ (ts : List Table). left_of ts c.tables.listed) c.in-Some.ensures in
+          let same : reads_left c.tables.tables c.tables.listed ≡ reads_left (c.in-Some.table ∷ c.pop.new.self) c.tables.listed = ap (λ (ts : List Table). reads_left ts c.tables.listed) c.in-Some.ensures in
           omega (arith, a, d, same);
       asked = (let a = e.ends.counts.asked in let b = inv.asked in omega (arith, a, b));
       written = more_written _ _ _ inv.written e.ends.ends.lines;
@@ -88,11 +88,11 @@ tables-preserved g c =
           reaches_to w (unwound 1024 n c.args.tables.now c.args.listed.now) (unwound 1024 n c.tables.tables c.tables.listed) (unwound 1024 n c.pop.new.self c.tables.listed) old mid (g.K.Sink.written c.args.sink.now) (g.K.Sink.written c.tables.sink)
           (ap (λ (ts : List Table). unwound 1024 n ts c.tables.listed) c.in-Some.ensures ∙ closed_table n c.in-Some.table c.pop.new.self c.tables.listed none)
           (inv.so_far m answered b l whole);
-      sound = All-tail IsOpen c.in-Some.table c.pop.new.self (subst (λ (ts : List Table). All IsOpen ts) c.in-Some.ensures inv.sound);
+      sound = All-tail IsOpenTable c.in-Some.table c.pop.new.self (subst (λ (ts : List Table). All IsOpenTable ts) c.in-Some.ensures inv.sound);
       deep = (let long : length c.tables.tables ≡ suc (length c.pop.new.self) = ap (λ (ts : List Table). length ts) c.in-Some.ensures in let le = inv.deep in omega (arith, long, le));
       count =
           let d = inv.count in
-          let same : left_of c.tables.tables c.tables.listed ≡ left_of (c.in-Some.table ∷ c.pop.new.self) c.tables.listed = ap (λ (ts : List Table). left_of ts c.tables.listed) c.in-Some.ensures in
+          let same : reads_left c.tables.tables c.tables.listed ≡ reads_left (c.in-Some.table ∷ c.pop.new.self) c.tables.listed = ap (λ (ts : List Table). reads_left ts c.tables.listed) c.in-Some.ensures in
           let less = left_tail c.in-Some.table c.pop.new.self c.tables.listed in
           omega (arith, d, same, less);
       asked = inv.asked;

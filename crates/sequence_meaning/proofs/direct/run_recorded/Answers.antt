@@ -11,7 +11,7 @@ use Rattle.sequence_rules.specs.Steps as m
 use Rattle.sequence_rules.specs.Variables.{with_all_new}
 use Rattle.sequence_rules.specs.Known.{known_part}
 use Rattle.sequence_rules.proofs.StartLemmas.{start_is}
-use Rattle.sequence_meaning.specs.Held.{MeansDirect, seen}
+use Rattle.sequence_meaning.specs.Held.{MeansDirect, state_seen}
 use Rattle.sequence_meaning.proofs.PartLemmas.{no_part, start_made}
 use Rattle.sequence_meaning.proofs.direct.run_recorded.Goals as goal
 
@@ -24,7 +24,7 @@ returns-clause-answer g c = λ known knows.
     let values = c.in-Ok.ensures ∙ ap (λ (l : List Variable). variables_of l) c.as_slice.ensures in
     let all = c.in-Ok-add_declared.ensures ∙ ap (λ bs. with_all_new bs (m.declared_names (code_trees c.as_slice-2.result.now)) 0) values ∙ ap (λ k. with_all_new (variables_of c.args.settings.now.start) (m.declared_names k) 0) code in
     let same = c.new-held.ensures c.args.target.now w ∙ start_is c.args.settings.now.turn_us set (variables_of c.args.settings.now.start) _ c.args.target.now w all in
-    let gives = subst (λ s. MeansDirect c.run_all-ended.new.held.end c.run_all-ended.result (seen known c.run_all-ended.new.held c.run_all-ended.new.target (g.K.Sink.written c.run_all-ended.new.sink)) (m.run_of (direct false) c.args.settings.now.turn_us set c.args.start.now s)) same
+    let gives = subst (λ s. MeansDirect c.run_all-ended.new.held.end c.run_all-ended.result (state_seen known c.run_all-ended.new.held c.run_all-ended.new.target (g.K.Sink.written c.run_all-ended.new.sink)) (m.run_of (direct false) c.args.settings.now.turn_us set c.args.start.now s)) same
     (c.run_all-ended.ensures.gives known knows) in
     let p = program_of (checked_trees c.args.checked.now) c.args.start.now c.args.settings.now in
     let law = are_made (start_world c.args.target.now None) p w in
@@ -39,7 +39,7 @@ returns-clause-part g c = λ known knows.
     let values = c.in-Ok.ensures ∙ ap (λ (l : List Variable). variables_of l) c.as_slice.ensures in
     let all = c.in-Ok-add_declared.ensures ∙ ap (λ bs. with_all_new bs (m.declared_names (code_trees c.as_slice-2.result.now)) 0) values ∙ ap (λ k. with_all_new (variables_of c.args.settings.now.start) (m.declared_names k) 0) code in
     let same = c.new-held.ensures c.args.target.now w ∙ start_is c.args.settings.now.turn_us set (variables_of c.args.settings.now.start) _ c.args.target.now w all in
-    let gives = subst (λ s. MeansDirect c.run_all-ended.new.held.end c.run_all-ended.result (seen known c.run_all-ended.new.held c.run_all-ended.new.target (g.K.Sink.written c.run_all-ended.new.sink)) (m.run_of (direct false) c.args.settings.now.turn_us set c.args.start.now s)) same
+    let gives = subst (λ s. MeansDirect c.run_all-ended.new.held.end c.run_all-ended.result (state_seen known c.run_all-ended.new.held c.run_all-ended.new.target (g.K.Sink.written c.run_all-ended.new.sink)) (m.run_of (direct false) c.args.settings.now.turn_us set c.args.start.now s)) same
     (c.run_all-ended.ensures.gives known knows) in
     let p = program_of (checked_trees c.args.checked.now) c.args.start.now c.args.settings.now in
     let law = are_made (start_world c.args.target.now None) p w in

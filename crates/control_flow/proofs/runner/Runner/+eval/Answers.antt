@@ -12,8 +12,8 @@ use Rattle.sequence_rules.proofs.Made.{no_cost}
 use Rattle.sequence_rules.specs.Values as v
 use Rattle.sequence_rules.specs.Values.{all_used, appended, assigned, call_of, call_result, choice, conjunction, disjunction, numbers_of, of_unary, operands, strict_binary, truth_of, used_now, value}
 use Rattle.sequence_rules.specs.Known.{known_part}
-use Rattle.function_calls.specs.Frame.{IsReady}
-use Rattle.function_calls.specs.Held.{seen, state_of}
+use Rattle.function_calls.specs.Frame.{IsReadyToCall}
+use Rattle.function_calls.specs.Held.{late_state_of, late_state_seen}
 use Rattle.code_check.proofs.TreeLemmas.{tree-Number, tree-Name, tree-Call}
 use Rattle.function_calls.proofs.FrameLemmas.{call_changes, call_refused, call_same, ends_after, ends_moved, ends_passed, ready_after, writing_as, writing_by_call, writing_end, writing_on, writing_use}
 use Rattle.function_calls.proofs.Leaves.{err_by, later_all_used, later_bind, later_both, later_cond, later_ok, later_use, passed, passed_by}
@@ -32,7 +32,7 @@ evaluate-returns-in-Number g t c =
 pub evaluate-returns-in-Name : goal.evaluate-returns-in-Name
 evaluate-returns-in-Name g t c =
     rw c.in-Name.is (rw (tree-Name c.in-Name.name) (writing_by_call (call_changes c.requires.ready refl (λ w asks written.
-    let s = state_of c.args.held.now asks written in
+    let s = late_state_of c.args.held.now asks written in
     name_on g.A.Access.cost w (late_calls_of (late g.A.Access.cost w) c.args.self.now c.args.depth) c.in-Name.name.value c.get_visible.result s (rw (c.as_str.ensures, c.deref.ensures) at (c.get_visible.ensures s refl refl))))))
 
 pub evaluate_operand-returns-in-Number : goal.evaluate_operand-returns-in-Number
@@ -42,7 +42,7 @@ evaluate_operand-returns-in-Number g t c =
 pub evaluate_operand-returns-in-Name : goal.evaluate_operand-returns-in-Name
 evaluate_operand-returns-in-Name g t c =
     rw c.in-Name.is (rw (tree-Name c.in-Name.name) (writing_by_call (call_changes c.requires.ready refl (λ w asks written.
-    let s = state_of c.args.held.now asks written in
+    let s = late_state_of c.args.held.now asks written in
     name_on g.A.Access.cost w (late_calls_of (late g.A.Access.cost w) c.args.self.now c.args.depth) c.in-Name.name.value c.get_visible.result s (rw (c.as_str.ensures, c.deref.ensures) at (c.get_visible.ensures s refl refl))))))
 
 pub evaluate-returns-in-Call : goal.evaluate-returns-in-Call
@@ -274,7 +274,7 @@ run_named-returns g t c = record {
 
 pub run_named-returns-then-depth-eq0 : goal.run_named-returns-then-depth-eq0
 run_named-returns-then-depth-eq0 g t c =
-    let ready : IsReady c.args.held.now.units (g.A.Access.reported c.args.access.now) = Prim.search rules in
+    let ready : IsReadyToCall c.args.held.now.units (g.A.Access.reported c.args.access.now) = Prim.search rules in
     writing_by_call (call_same ready (λ w s. sequence_none g.A.Access.cost w c.args.self.now.turn_us (checked_trees c.args.self.now.set.now) c.args.depth c.args.name.now s c.if-depth-eq0.true))
 
 pub run_turn-returns-in_err-number : goal.run_turn-returns-in_err-number
@@ -305,7 +305,7 @@ declare-returns-in_err-value g t c =
 
 pub call_function-returns-in-None : goal.call_function-returns-in-None
 call_function-returns-in-None g t c =
-    let ready : IsReady c.args.held.now.units (g.A.Access.reported c.args.access.now) = Prim.search rules in
+    let ready : IsReadyToCall c.args.held.now.units (g.A.Access.reported c.args.access.now) = Prim.search rules in
     rw c.in-None.is (writing_by_call (call_same ready (λ w s. called_none g.A.Access.cost w (late_calls_of (late g.A.Access.cost w) c.args.self.now c.args.depth) c.args.text.now c.args.numbers.now s)))
 
 pub run_control-returns-in_err-test_condition : goal.run_control-returns-in_err-test_condition
@@ -324,7 +324,7 @@ run_inside-returns g t c = record {
 pub repeat_steps-returns-in-Some : goal.repeat_steps-returns-in-Some
 repeat_steps-returns-in-Some g t c = record {
   gives = λ m answered known b l knows.
-      rw c.in-Some.is (repeated_on g.A.Access.cost (world_from m answered) (late_calls_of (late g.A.Access.cost (world_from m answered)) c.args.self.now c.args.depth) _ c.args.self.now.turn_us _ c.args.timeout _ (steps_tree c.args.steps.now) _ (seen known c.args.held.now (g.A.Access.reported c.args.access.now).asks (g.K.Sink.written c.args.sink.now)) _ c.run_loop.result c.turn_count.ensures.answer (c.run_loop.ensures.gives m answered known b l knows));
+      rw c.in-Some.is (repeated_on g.A.Access.cost (world_from m answered) (late_calls_of (late g.A.Access.cost (world_from m answered)) c.args.self.now c.args.depth) _ c.args.self.now.turn_us _ c.args.timeout _ (steps_tree c.args.steps.now) _ (late_state_seen known c.args.held.now (g.A.Access.reported c.args.access.now).asks (g.K.Sink.written c.args.sink.now)) _ c.run_loop.result c.turn_count.ensures.answer (c.run_loop.ensures.gives m answered known b l knows));
   keeps = c.run_loop.ensures.keeps;
   ends = c.run_loop.ensures.ends;
 }

@@ -2,14 +2,14 @@ use Rattle.std.proofs.Common.{◌≡◌, ℕ, ◌+◌, ◌*◌, Bool, Option, op
 use Rattle.probe_core.specs.Bench.{BenchState}
 use Rattle.access_calls.specs.Left.{IsLeft}
 use Rattle.access_calls.specs.Reported.{world_from}
-use Rattle.access_calls.specs.Keeps.{Keeps}
+use Rattle.access_calls.specs.Keeps.{KeepsAccess}
 use Rattle.expr_grammar.specs.Tree.{tree, arg_tree, arg_trees, stmt_tree, code_trees}
 use Rattle.seq_check.specs.Answers.{checked_trees}
 use Rattle.sequence_trees.specs.Trees.{step_tree, steps_tree}
 use Rattle.sequence_rules.specs.Late.{late}
 use Rattle.sequence_rules.specs.Known.{Knows}
 use Rattle.function_calls.specs.Frame.{EndsWriting}
-use Rattle.function_calls.specs.Held.{seen}
+use Rattle.function_calls.specs.Held.{late_state_seen}
 use Rattle.control_flow.specs.Calls.{late_calls_of}
 use Rattle.sequence_rules.specs.Steps as st
 use Rattle.sequence_rules.specs.Values as v
@@ -130,32 +130,32 @@ decreases-evaluate_truth g l = budget l.depth (10 * all_size (checked_trees l.se
 abbrev pub invariant-evaluate_arguments-loop-arg : goal.invariant-evaluate_arguments-loop-arg
 invariant-evaluate_arguments-loop-arg g l = record {
   same : (m : BenchState) (answered : Option ℕ) (known : Bool) → g.A.Access.begun l.fn.access m → IsLeft (g.A.Access.reported l.access) answered → Knows known (g.K.Sink.written l.fn.sink)
-      → v.arguments (late g.A.Access.cost (world_from m answered)) (late_calls_of (late g.A.Access.cost (world_from m answered)) l.self l.depth) (arg_trees l.args) l.fn.values.items (seen known l.fn.held (g.A.Access.reported l.fn.access).asks (g.K.Sink.written l.fn.sink)) ≡ v.arguments (late g.A.Access.cost (world_from m answered)) (late_calls_of (late g.A.Access.cost (world_from m answered)) l.self l.depth) (arg_trees (drop l.arg-index l.args)) l.values.items (seen known l.held (g.A.Access.reported l.access).asks (g.K.Sink.written l.sink));
-  keeps : Keeps g.A.Access.begun g.A.Access.reported g.A.Access.identity l.fn.access l.access;
+      → v.arguments (late g.A.Access.cost (world_from m answered)) (late_calls_of (late g.A.Access.cost (world_from m answered)) l.self l.depth) (arg_trees l.args) l.fn.values.items (late_state_seen known l.fn.held (g.A.Access.reported l.fn.access).asks (g.K.Sink.written l.fn.sink)) ≡ v.arguments (late g.A.Access.cost (world_from m answered)) (late_calls_of (late g.A.Access.cost (world_from m answered)) l.self l.depth) (arg_trees (drop l.arg-index l.args)) l.values.items (late_state_seen known l.held (g.A.Access.reported l.access).asks (g.K.Sink.written l.sink));
+  keeps : KeepsAccess g.A.Access.begun g.A.Access.reported g.A.Access.identity l.fn.access l.access;
   ends : EndsWriting {T = Unit {0}} g.K.Sink.written g.K.Sink.faults (Ok tt) l.held.units (g.A.Access.reported l.access) l.fn.sink l.sink;
 }
 
 abbrev pub invariant-run_block-loop-one : goal.invariant-run_block-loop-one
 invariant-run_block-loop-one g l = record {
   same : (m : BenchState) (answered : Option ℕ) (known : Bool) → g.A.Access.begun l.fn.access m → IsLeft (g.A.Access.reported l.access) answered → Knows known (g.K.Sink.written l.fn.sink)
-      → st.block (late g.A.Access.cost (world_from m answered)) l.self.turn_us (late_calls_of (late g.A.Access.cost (world_from m answered)) l.self l.depth) (code_trees l.code) (seen known l.fn.held (g.A.Access.reported l.fn.access).asks (g.K.Sink.written l.fn.sink)) ≡ st.block (late g.A.Access.cost (world_from m answered)) l.self.turn_us (late_calls_of (late g.A.Access.cost (world_from m answered)) l.self l.depth) (code_trees (drop l.one-index l.code)) (seen known l.held (g.A.Access.reported l.access).asks (g.K.Sink.written l.sink));
-  keeps : Keeps g.A.Access.begun g.A.Access.reported g.A.Access.identity l.fn.access l.access;
+      → st.block (late g.A.Access.cost (world_from m answered)) l.self.turn_us (late_calls_of (late g.A.Access.cost (world_from m answered)) l.self l.depth) (code_trees l.code) (late_state_seen known l.fn.held (g.A.Access.reported l.fn.access).asks (g.K.Sink.written l.fn.sink)) ≡ st.block (late g.A.Access.cost (world_from m answered)) l.self.turn_us (late_calls_of (late g.A.Access.cost (world_from m answered)) l.self l.depth) (code_trees (drop l.one-index l.code)) (late_state_seen known l.held (g.A.Access.reported l.access).asks (g.K.Sink.written l.sink));
+  keeps : KeepsAccess g.A.Access.begun g.A.Access.reported g.A.Access.identity l.fn.access l.access;
   ends : EndsWriting {T = Unit {0}} g.K.Sink.written g.K.Sink.faults (Ok tt) l.held.units (g.A.Access.reported l.access) l.fn.sink l.sink;
 }
 
 abbrev pub invariant-run_steps-loop-one : goal.invariant-run_steps-loop-one
 invariant-run_steps-loop-one g l = record {
   same : (m : BenchState) (answered : Option ℕ) (known : Bool) → g.A.Access.begun l.fn.access m → IsLeft (g.A.Access.reported l.access) answered → Knows known (g.K.Sink.written l.fn.sink)
-      → st.steps_result (late g.A.Access.cost (world_from m answered)) l.self.turn_us (late_calls_of (late g.A.Access.cost (world_from m answered)) l.self l.depth) (steps_tree l.steps) (seen known l.fn.held (g.A.Access.reported l.fn.access).asks (g.K.Sink.written l.fn.sink)) ≡ st.steps_result (late g.A.Access.cost (world_from m answered)) l.self.turn_us (late_calls_of (late g.A.Access.cost (world_from m answered)) l.self l.depth) (steps_tree (drop l.one-index l.steps)) (seen known l.held (g.A.Access.reported l.access).asks (g.K.Sink.written l.sink));
-  keeps : Keeps g.A.Access.begun g.A.Access.reported g.A.Access.identity l.fn.access l.access;
+      → st.steps_result (late g.A.Access.cost (world_from m answered)) l.self.turn_us (late_calls_of (late g.A.Access.cost (world_from m answered)) l.self l.depth) (steps_tree l.steps) (late_state_seen known l.fn.held (g.A.Access.reported l.fn.access).asks (g.K.Sink.written l.fn.sink)) ≡ st.steps_result (late g.A.Access.cost (world_from m answered)) l.self.turn_us (late_calls_of (late g.A.Access.cost (world_from m answered)) l.self l.depth) (steps_tree (drop l.one-index l.steps)) (late_state_seen known l.held (g.A.Access.reported l.access).asks (g.K.Sink.written l.sink));
+  keeps : KeepsAccess g.A.Access.begun g.A.Access.reported g.A.Access.identity l.fn.access l.access;
   ends : EndsWriting {T = Unit {0}} g.K.Sink.written g.K.Sink.faults (Ok tt) l.held.units (g.A.Access.reported l.access) l.fn.sink l.sink;
 }
 
 abbrev pub invariant-run_turns-loop-left : goal.invariant-run_turns-loop-left
 invariant-run_turns-loop-left g l = record {
   same : (m : BenchState) (answered : Option ℕ) (known : Bool) → g.A.Access.begun l.fn.access m → IsLeft (g.A.Access.reported l.access) answered → Knows known (g.K.Sink.written l.fn.sink)
-      → st.turns (late g.A.Access.cost (world_from m answered)) (λ r. v.value (late g.A.Access.cost (world_from m answered)) (late_calls_of (late g.A.Access.cost (world_from m answered)) l.self l.depth) (tree l.expr) r) (λ r. st.inside (late g.A.Access.cost (world_from m answered)) (λ q. st.steps_result (late g.A.Access.cost (world_from m answered)) l.self.turn_us (late_calls_of (late g.A.Access.cost (world_from m answered)) l.self l.depth) (steps_tree l.steps) q) r) l.count (seen known l.fn.held (g.A.Access.reported l.fn.access).asks (g.K.Sink.written l.fn.sink)) ≡ st.turns (late g.A.Access.cost (world_from m answered)) (λ r. v.value (late g.A.Access.cost (world_from m answered)) (late_calls_of (late g.A.Access.cost (world_from m answered)) l.self l.depth) (tree l.expr) r) (λ r. st.inside (late g.A.Access.cost (world_from m answered)) (λ q. st.steps_result (late g.A.Access.cost (world_from m answered)) l.self.turn_us (late_calls_of (late g.A.Access.cost (world_from m answered)) l.self l.depth) (steps_tree l.steps) q) r) l.left (seen known l.held (g.A.Access.reported l.access).asks (g.K.Sink.written l.sink));
-  keeps : Keeps g.A.Access.begun g.A.Access.reported g.A.Access.identity l.fn.access l.access;
+      → st.turns (late g.A.Access.cost (world_from m answered)) (λ r. v.value (late g.A.Access.cost (world_from m answered)) (late_calls_of (late g.A.Access.cost (world_from m answered)) l.self l.depth) (tree l.expr) r) (λ r. st.inside (late g.A.Access.cost (world_from m answered)) (λ q. st.steps_result (late g.A.Access.cost (world_from m answered)) l.self.turn_us (late_calls_of (late g.A.Access.cost (world_from m answered)) l.self l.depth) (steps_tree l.steps) q) r) l.count (late_state_seen known l.fn.held (g.A.Access.reported l.fn.access).asks (g.K.Sink.written l.fn.sink)) ≡ st.turns (late g.A.Access.cost (world_from m answered)) (λ r. v.value (late g.A.Access.cost (world_from m answered)) (late_calls_of (late g.A.Access.cost (world_from m answered)) l.self l.depth) (tree l.expr) r) (λ r. st.inside (late g.A.Access.cost (world_from m answered)) (λ q. st.steps_result (late g.A.Access.cost (world_from m answered)) l.self.turn_us (late_calls_of (late g.A.Access.cost (world_from m answered)) l.self l.depth) (steps_tree l.steps) q) r) l.left (late_state_seen known l.held (g.A.Access.reported l.access).asks (g.K.Sink.written l.sink));
+  keeps : KeepsAccess g.A.Access.begun g.A.Access.reported g.A.Access.identity l.fn.access l.access;
   ends : EndsWriting {T = Unit {0}} g.K.Sink.written g.K.Sink.faults (Ok tt) l.held.units (g.A.Access.reported l.access) l.fn.sink l.sink;
 }
 

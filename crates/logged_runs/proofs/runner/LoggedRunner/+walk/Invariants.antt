@@ -10,8 +10,8 @@ use Rattle.sequence_rules.specs.Direct.{direct}
 use Rattle.sequence_rules.specs.Steps as m
 use Rattle.sequence_rules.specs.Values as v
 use Rattle.sequence_rules.proofs.Sizes.{size, arg_size, args_size, stmt_size, block_size, cond_size, step_size, steps_size, all_size, budget}
-use Rattle.logged_runs.specs.Seen.{Notes, SeenSoFar}
-use Rattle.logged_runs.specs.Walk.{calls_of, events_of, now, seen, step_at}
+use Rattle.logged_runs.specs.Seen.{NotesByTurns, SeenSoFar}
+use Rattle.logged_runs.specs.Walk.{calls_in_walk, events_in_walk, now, seen_so_far, step_on_path}
 use Rattle.logged_runs.proofs.Turns.{going}
 use Rattle.logged_runs.proofs.runner.LoggedRunner.+walk.Given as goal
 
@@ -122,26 +122,26 @@ decreases-run_inside l = budget l.depth (10 * all_size (checked_trees l.self.now
 
 abbrev pub invariant-evaluate_arguments-loop-arg : goal.invariant-evaluate_arguments-loop-arg
 invariant-evaluate_arguments-loop-arg l = record {
-  same : v.arguments (direct false) (calls_of l.self l.depth) (arg_trees l.args) l.fn.numbers.items (now l.fn.walked l.fn.target) ≡ v.arguments (direct false) (calls_of l.self l.depth) (arg_trees (drop l.arg-index l.args)) l.numbers.items (now l.walked l.target);
-  noted : (c : SeenSoFar) → Notes l.self.turns (seen l.walked) c (λ shows. o.arguments_events (calls_of l.self l.depth) (events_of shows l.self l.depth) (arg_trees (drop l.arg-index l.args)) l.numbers.items (now l.walked l.target)) → Notes l.self.turns (seen l.fn.walked) c (λ shows. o.arguments_events (calls_of l.self l.depth) (events_of shows l.self l.depth) (arg_trees l.args) l.fn.numbers.items (now l.fn.walked l.fn.target));
+  same : v.arguments (direct false) (calls_in_walk l.self l.depth) (arg_trees l.args) l.fn.numbers.items (now l.fn.walked l.fn.target) ≡ v.arguments (direct false) (calls_in_walk l.self l.depth) (arg_trees (drop l.arg-index l.args)) l.numbers.items (now l.walked l.target);
+  noted : (c : SeenSoFar) → NotesByTurns l.self.turns (seen_so_far l.walked) c (λ shows. o.arguments_events (calls_in_walk l.self l.depth) (events_in_walk shows l.self l.depth) (arg_trees (drop l.arg-index l.args)) l.numbers.items (now l.walked l.target)) → NotesByTurns l.self.turns (seen_so_far l.fn.walked) c (λ shows. o.arguments_events (calls_in_walk l.self l.depth) (events_in_walk shows l.self l.depth) (arg_trees l.args) l.fn.numbers.items (now l.fn.walked l.fn.target));
 }
 
 abbrev pub invariant-run_block-loop-one : goal.invariant-run_block-loop-one
 invariant-run_block-loop-one l = record {
-  same : m.block (direct false) l.self.turn_us (calls_of l.self l.depth) (code_trees l.code) (now l.fn.walked l.fn.target) ≡ m.block (direct false) l.self.turn_us (calls_of l.self l.depth) (code_trees (drop l.one-index l.code)) (now l.walked l.target);
-  noted : (c : SeenSoFar) → Notes l.self.turns (seen l.walked) c (λ shows. os.block_events shows l.self.turn_us (calls_of l.self l.depth) (events_of shows l.self l.depth) (step_at l.sequence l.path) (code_trees (drop l.one-index l.code)) (now l.walked l.target)) → Notes l.self.turns (seen l.fn.walked) c (λ shows. os.block_events shows l.self.turn_us (calls_of l.self l.depth) (events_of shows l.self l.depth) (step_at l.sequence l.path) (code_trees l.code) (now l.fn.walked l.fn.target));
+  same : m.block (direct false) l.self.turn_us (calls_in_walk l.self l.depth) (code_trees l.code) (now l.fn.walked l.fn.target) ≡ m.block (direct false) l.self.turn_us (calls_in_walk l.self l.depth) (code_trees (drop l.one-index l.code)) (now l.walked l.target);
+  noted : (c : SeenSoFar) → NotesByTurns l.self.turns (seen_so_far l.walked) c (λ shows. os.block_events shows l.self.turn_us (calls_in_walk l.self l.depth) (events_in_walk shows l.self l.depth) (step_on_path l.sequence l.path) (code_trees (drop l.one-index l.code)) (now l.walked l.target)) → NotesByTurns l.self.turns (seen_so_far l.fn.walked) c (λ shows. os.block_events shows l.self.turn_us (calls_in_walk l.self l.depth) (events_in_walk shows l.self l.depth) (step_on_path l.sequence l.path) (code_trees l.code) (now l.fn.walked l.fn.target));
 }
 
 abbrev pub invariant-run_steps-loop-number : goal.invariant-run_steps-loop-number
 invariant-run_steps-loop-number l = record {
-  same : m.steps_result (direct false) l.self.turn_us (calls_of l.self l.depth) (steps_tree l.steps) (now l.fn.walked l.fn.target) ≡ m.steps_result (direct false) l.self.turn_us (calls_of l.self l.depth) (steps_tree (drop l.number l.steps)) (now l.walked l.target);
-  noted : (c : SeenSoFar) → Notes l.self.turns (seen l.walked) c (λ shows. os.steps_events shows l.self.turn_us (calls_of l.self l.depth) (events_of shows l.self l.depth) (step_at l.sequence l.path) l.number (steps_tree (drop l.number l.steps)) (now l.walked l.target)) → Notes l.self.turns (seen l.fn.walked) c (λ shows. os.steps_events shows l.self.turn_us (calls_of l.self l.depth) (events_of shows l.self l.depth) (step_at l.sequence l.path) 0 (steps_tree l.steps) (now l.fn.walked l.fn.target));
+  same : m.steps_result (direct false) l.self.turn_us (calls_in_walk l.self l.depth) (steps_tree l.steps) (now l.fn.walked l.fn.target) ≡ m.steps_result (direct false) l.self.turn_us (calls_in_walk l.self l.depth) (steps_tree (drop l.number l.steps)) (now l.walked l.target);
+  noted : (c : SeenSoFar) → NotesByTurns l.self.turns (seen_so_far l.walked) c (λ shows. os.steps_events shows l.self.turn_us (calls_in_walk l.self l.depth) (events_in_walk shows l.self l.depth) (step_on_path l.sequence l.path) l.number (steps_tree (drop l.number l.steps)) (now l.walked l.target)) → NotesByTurns l.self.turns (seen_so_far l.fn.walked) c (λ shows. os.steps_events shows l.self.turn_us (calls_in_walk l.self l.depth) (events_in_walk shows l.self l.depth) (step_on_path l.sequence l.path) 0 (steps_tree l.steps) (now l.fn.walked l.fn.target));
 }
 
 abbrev pub invariant-run_turns-loop-made : goal.invariant-run_turns-loop-made
 invariant-run_turns-loop-made l = record {
-  same : m.turns (direct false) (λ r. v.value (direct false) (calls_of l.self l.depth) (tree l.expr) r) (λ r. m.inside (direct false) (λ q. m.steps_result (direct false) l.self.turn_us (calls_of l.self l.depth) (steps_tree l.steps) q) r) l.count (now l.fn.walked l.fn.target) ≡ m.turns (direct false) (λ r. v.value (direct false) (calls_of l.self l.depth) (tree l.expr) r) (λ r. m.inside (direct false) (λ q. m.steps_result (direct false) l.self.turn_us (calls_of l.self l.depth) (steps_tree l.steps) q) r) (l.count - l.made) (now l.walked l.target);
-  noted : (c : SeenSoFar) → Notes l.self.turns (going l.self.turns (l.count - l.made) l.made l.mark (seen l.walked)) c (λ shows. os.turns_events shows (condition_spot l.sequence l.path part.While) (λ r. v.value (direct false) (calls_of l.self l.depth) (tree l.expr) r) (λ r. o.value_events (calls_of l.self l.depth) (events_of shows l.self l.depth) (tree l.expr) r) (λ r. m.inside (direct false) (λ q. m.steps_result (direct false) l.self.turn_us (calls_of l.self l.depth) (steps_tree l.steps) q) r) (λ r. os.steps_events shows l.self.turn_us (calls_of l.self l.depth) (events_of shows l.self l.depth) (step_at l.sequence l.path) 0 (steps_tree l.steps) r) l.made (l.count - l.made) (now l.walked l.target)) → Notes l.self.turns (seen l.fn.walked) c (λ shows. os.turns_events shows (condition_spot l.sequence l.path part.While) (λ r. v.value (direct false) (calls_of l.self l.depth) (tree l.expr) r) (λ r. o.value_events (calls_of l.self l.depth) (events_of shows l.self l.depth) (tree l.expr) r) (λ r. m.inside (direct false) (λ q. m.steps_result (direct false) l.self.turn_us (calls_of l.self l.depth) (steps_tree l.steps) q) r) (λ r. os.steps_events shows l.self.turn_us (calls_of l.self l.depth) (events_of shows l.self l.depth) (step_at l.sequence l.path) 0 (steps_tree l.steps) r) 0 l.count (now l.fn.walked l.fn.target));
+  same : m.turns (direct false) (λ r. v.value (direct false) (calls_in_walk l.self l.depth) (tree l.expr) r) (λ r. m.inside (direct false) (λ q. m.steps_result (direct false) l.self.turn_us (calls_in_walk l.self l.depth) (steps_tree l.steps) q) r) l.count (now l.fn.walked l.fn.target) ≡ m.turns (direct false) (λ r. v.value (direct false) (calls_in_walk l.self l.depth) (tree l.expr) r) (λ r. m.inside (direct false) (λ q. m.steps_result (direct false) l.self.turn_us (calls_in_walk l.self l.depth) (steps_tree l.steps) q) r) (l.count - l.made) (now l.walked l.target);
+  noted : (c : SeenSoFar) → NotesByTurns l.self.turns (going l.self.turns (l.count - l.made) l.made l.mark (seen_so_far l.walked)) c (λ shows. os.turns_events shows (condition_spot l.sequence l.path part.While) (λ r. v.value (direct false) (calls_in_walk l.self l.depth) (tree l.expr) r) (λ r. o.value_events (calls_in_walk l.self l.depth) (events_in_walk shows l.self l.depth) (tree l.expr) r) (λ r. m.inside (direct false) (λ q. m.steps_result (direct false) l.self.turn_us (calls_in_walk l.self l.depth) (steps_tree l.steps) q) r) (λ r. os.steps_events shows l.self.turn_us (calls_in_walk l.self l.depth) (events_in_walk shows l.self l.depth) (step_on_path l.sequence l.path) 0 (steps_tree l.steps) r) l.made (l.count - l.made) (now l.walked l.target)) → NotesByTurns l.self.turns (seen_so_far l.fn.walked) c (λ shows. os.turns_events shows (condition_spot l.sequence l.path part.While) (λ r. v.value (direct false) (calls_in_walk l.self l.depth) (tree l.expr) r) (λ r. o.value_events (calls_in_walk l.self l.depth) (events_in_walk shows l.self l.depth) (tree l.expr) r) (λ r. m.inside (direct false) (λ q. m.steps_result (direct false) l.self.turn_us (calls_in_walk l.self l.depth) (steps_tree l.steps) q) r) (λ r. os.steps_events shows l.self.turn_us (calls_in_walk l.self l.depth) (events_in_walk shows l.self l.depth) (step_on_path l.sequence l.path) 0 (steps_tree l.steps) r) 0 l.count (now l.fn.walked l.fn.target));
   within : l.made ≤ l.count;
 }
 

@@ -2,8 +2,8 @@ use Rattle.std.proofs.Common.{◌∙◌, ℕ, List, [], ◌∷◌, OnOk, ap, sub
 use Rattle.expr_grammar.specs.Tree.{tree}
 use Rattle.run_events.specs.Events as e
 use Rattle.sequence_rules.specs.Variables.{set_visible}
-use Rattle.logged_runs.specs.Seen.{Notes}
-use Rattle.logged_runs.specs.Walk.{now, seen}
+use Rattle.logged_runs.specs.Seen.{NotesByTurns}
+use Rattle.logged_runs.specs.Walk.{now, seen_so_far}
 use Rattle.logged_runs.proofs.NoteLemmas.{or_refused, unless_from, value_then}
 use Rattle.logged_runs.proofs.RunLemmas.{defined_on}
 use Rattle.logged_runs.proofs.WalkLemmas.{left_gives}
@@ -20,4 +20,4 @@ pub returns-clause-noted : goal.returns-clause-noted
 returns-clause-noted c =
     value_then {A = ℕ} {B = Unit {0}} c.args.self.now.turns _ _ _ _ _ c.assign.new.self.held.end c.assign.result _ c.in-Ok.number _ c.in-Ok.ensures.gives c.in-Ok.ensures.noted
     (unless_from c.args.self.now.turns _ _ _ _ c.assign.new.self.held.end c.assign.result c.store.ensures.seen (or_refused _ c.assign.new.self.held.end c.assign.result
-    (subst (λ (n : List ℕ). OnOk c.assign.result (Notes c.args.self.now.turns (seen c.store.new.self) (seen c.assign.new.self) (λ shows. e.Assigns n c.in-Ok.number ∷ []))) c.as_str-2.ensures (c.assign.ensures.noted c.args.self.now.turns)) c.assign.ensures.refused))
+    (subst (λ (n : List ℕ). OnOk c.assign.result (NotesByTurns c.args.self.now.turns (seen_so_far c.store.new.self) (seen_so_far c.assign.new.self) (λ shows. e.Assigns n c.in-Ok.number ∷ []))) c.as_str-2.ensures (c.assign.ensures.noted c.args.self.now.turns)) c.assign.ensures.refused))

@@ -6,7 +6,7 @@ use Rattle.packed_access.proofs.FinishLemmas.{begun_finished, begun_marked, fini
 use Rattle.packed_access.proofs.NeedLemmas.{begun_needs, left_needs, needs_new}
 use Rattle.packed_access.proofs.NeededLemmas.{needed_finished}
 use Rattle.packed_access.proofs.PaidLemmas.{paid_flushed, paid_marked, sparing_ended}
-use Rattle.packed_access.specs.Sparing.{left_of}
+use Rattle.packed_access.specs.Sparing.{points_left}
 use Rattle.packed_access.proofs.calls.PackedAccessAccess.finish.Goals as goal
 
 pub returns-in-Err-clause-stops : goal.returns-in-Err-clause-stops
@@ -93,7 +93,7 @@ returns-in-Ok-send-clause-ends g c = record {
         let end : new.log.end ≡ None = ap (λ (l : LogState). l.end) c.in-Ok-send.ensures.log ∙ c.in-Ok.ensures.further.so.end in
         let whole : new.log.whole ≡ length new.log.calls = search rules in
         let came : new.log.came ≡ length new.log.calls = search rules in
-        let paid = paid_marked g.F.Flights.planner _ _ _ old.log c.mark.new.self (left_of old.log) m (h.sparing.paid none) c.mark.ensures.answer in
+        let paid = paid_marked g.F.Flights.planner _ _ _ old.log c.mark.new.self (points_left old.log) m (h.sparing.paid none) c.mark.ensures.answer in
         let sent = c.in-Ok-send.ensures.gives.spare m [] paid.paid (c.in-Ok.ensures.gives.on m [] there) (c.in-Ok.ensures.gives.spare m [] paid.paid there paid.spared) in
         let noted = needs_new new.log c.need.new.self 1 c.count-count.result c.need.ensures.answer.so in
         let known : new.log.known ≡ length new.log.calls = search rules in
@@ -102,7 +102,7 @@ returns-in-Ok-send-clause-ends g c = record {
             begun = begun_needs g.F.Flights.planner _ _ new.log c.need.new.self _ _ _ _ _ _ m
                 (begun_finished g.F.Flights.planner _ _ _ _ old.log new.log _ _ _ _ _ _ _ _ m h.sparing.begun none came_there (same ∙ marked) end whole came (c.send.ensures.exchanges.managed ∙ c.settle.ensures.further.managed) c.send.ensures.empty)
                 refl refl noted;
-            paid = λ open_. paid_flushed g.F.Flights.planner _ _ _ new.log c.need.new.self c.mark.new.self.needs paid.paid 1 c.count-count.result (left_of old.log) m sent paid.covers
+            paid = λ open_. paid_flushed g.F.Flights.planner _ _ _ new.log c.need.new.self c.mark.new.self.needs paid.paid 1 c.count-count.result (points_left old.log) m sent paid.covers
                 (ap (λ (l : LogState). l.needs) c.in-Ok-send.ensures.log ∙ c.in-Ok.ensures.further.so.needs) c.need.ensures.answer.so (known ∙ sym (ap (λ (l : LogState). length l.calls) noted)) c.need.ensures.answer.sound.fence_within (ap (λ (l : LogState). l.known) noted);
             needed = λ open_. needed_finished g.F.Flights.planner (target_of m.probe) (asks_of old.log) new.log c.need.new.self c.count-count.result (h.sparing.needed none) (same ∙ marked)
                 (ap (λ (l : LogState). l.needs) c.in-Ok-send.ensures.log ∙ c.in-Ok.ensures.further.so.needs ∙ ap (λ (l : LogState). l.needs) c.mark.ensures.answer) c.need.ensures.answer.so;

@@ -5,7 +5,7 @@ use Rattle.packed_access.proofs.BegunLemmas.{begun_flushed, begun_issued, flushe
 use Rattle.packed_access.proofs.NeedLemmas.{begun_needs, left_needs, needs_new}
 use Rattle.packed_access.proofs.NeededLemmas.{needed_points}
 use Rattle.packed_access.proofs.PaidLemmas.{paid_flushed, sparing_ended}
-use Rattle.packed_access.specs.Sparing.{left_of}
+use Rattle.packed_access.specs.Sparing.{points_left}
 use Rattle.packed_access.proofs.calls.PackedAccessAccess.flush.Goals as goal
 
 pub returns-in-Ok-clause-ends : goal.returns-in-Ok-clause-ends
@@ -30,7 +30,7 @@ returns-in-Ok-clause-ends g c = record {
             begun = begun_needs g.F.Flights.planner _ _ mid c.need.new.self _ _ _ _ _ _ m
                 (begun_flushed g.F.Flights.planner _ _ _ _ old.log mid _ _ _ _ _ _ _ _ _ m h.sparing.begun none whole there c.in-Ok.ensures.log c.send.ensures.empty c.send.ensures.exchanges.managed)
                 refl refl noted;
-            paid = λ open_. paid_flushed g.F.Flights.planner _ _ _ mid c.need.new.self old.log.needs paid.paid 1 c.count-count.result (left_of old.log) m
+            paid = λ open_. paid_flushed g.F.Flights.planner _ _ _ mid c.need.new.self old.log.needs paid.paid 1 c.count-count.result (points_left old.log) m
                 (c.in-Ok.ensures.gives.spare m [] paid.paid (begun_issued g.F.Flights.planner _ _ old.log _ _ _ _ m h.sparing.begun none) paid.spared) paid.covers (ap (λ (l : LogState). l.needs) c.in-Ok.ensures.log) c.need.ensures.answer.so known c.need.ensures.answer.sound.fence_within (ap (λ (l : LogState). l.known) noted);
             needed = λ open_. needed_points g.F.Flights.planner (target_of m.probe) (asks_of old.log) mid c.need.new.self 1 c.count-count.result (h.sparing.needed none) (ap (λ (l : LogState). l.calls) c.in-Ok.ensures.log) (ap (λ (l : LogState). l.needs) c.in-Ok.ensures.log) c.need.ensures.answer.so;
           };

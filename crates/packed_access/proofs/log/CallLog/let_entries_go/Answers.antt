@@ -1,6 +1,6 @@
 use Rattle.std.proofs.Common.{rules, ◌∙◌, List, ◌++◌, take, subst}
 use Rattle.access_calls.specs.declared.issued.Issued.{Issued}
-use Rattle.packed_access.specs.Counted.{IsCountOf}
+use Rattle.packed_access.specs.Counted.{CountsConfirmed}
 use Rattle.packed_access.proofs.CountedLemmas.{counted_few}
 use Rattle.packed_access.proofs.LogLemmas.{sound_settled, sound_state}
 use Rattle.packed_access.proofs.log.CallLog.let_entries_go.Goals as goal
@@ -12,7 +12,7 @@ pub invariant_of-self : goal.invariant_of-self
 invariant_of-self c =
     sound_settled _ _ _ _ c.self.inside.entries.all c.self.inside.entries.gone _ _ _ _ _ _ _ _ c.self.inside.confirmed c.let_go.new.self.all c.let_go.new.self.gone _ c.add.new.self c.self.invariant
     c.let_go.ensures.all (c.let_go.ensures.gone ∙ c.len-count.ensures) c.let_go.ensures.longer
-    (subst (λ (l : List Issued). IsCountOf c.add.new.self (take c.self.inside.entries.gone c.self.inside.entries.all ++ l)) c.kept_items.ensures
+    (subst (λ (l : List Issued). CountsConfirmed c.add.new.self (take c.self.inside.entries.gone c.self.inside.entries.all ++ l)) c.kept_items.ensures
     (c.add.ensures (take c.self.inside.entries.gone c.self.inside.entries.all) c.self.invariant.counts))
 
 pub returns : goal.returns

@@ -10,8 +10,8 @@ use Rattle.access_regs.specs.Costs.{cost_by}
 use Rattle.access_regs.specs.Journal.{large_of}
 use Rattle.access_regs.specs.Kept.{Kept, forget}
 use Rattle.access_regs.specs.Plan.{settled}
-use Rattle.packed_access.specs.Begun.{StopsThere}
-use Rattle.packed_access.specs.Forgiving.{HasTried, IsDoneBy}
+use Rattle.packed_access.specs.Begun.{StopsAfterLines}
+use Rattle.packed_access.specs.Forgiving.{IsDoneBy, LogHasTried}
 use Rattle.packed_access.specs.Logs.{LogState, asks_of}
 use Rattle.packed_access.proofs.NeedLemmas.{begun_needs, needs_new}
 use Rattle.packed_access.proofs.TryBeginLemmas.{begin_settling, begin_trying, is_before, settled_table, target_settled}
@@ -55,7 +55,7 @@ returns-in-Err-send-clause-gives g c =
           let u_is : 0 < length calls → c.max.result ≡ length calls = λ some. (let a = c.max.ensures in let b = c.count-count.ensures in let l = ap length h.are ∙ length-append calls (ask ∷ []) in omega (arith, a, b, l, some)) in
           let there = begin_settling g.F.Flights.planner c.args.forgive _ old.log _ old.managed calls ask c.args.unit.now m0 c.max.result h same c.requires.alone.alone c.requires.alone.may u_is in
           let there2 = c.in-Ok.ensures.gives.on m0 _ there in
-          subst (λ (l : List Ask). StopsThere m0 answered l c.send.new.self.log.lines c.in-Err-send.stop) c.in-Ok.ensures.further.so.calls (c.in-Err-send.ensures.gives.stops m0 _ answered there2 left);
+          subst (λ (l : List Ask). StopsAfterLines m0 answered l c.send.new.self.log.lines c.in-Err-send.stop) c.in-Ok.ensures.further.so.calls (c.in-Err-send.ensures.gives.stops m0 _ answered there2 left);
     }
 
 pub returns-in-Err-try_unit-clause-gives : goal.returns-in-Err-try_unit-clause-gives
@@ -79,7 +79,7 @@ returns-in-Err-try_unit-clause-gives g c =
           let whole3 : sent.log.whole ≡ length calls = (let w = ap (λ (l : LogState). l.whole) c.in-Ok-send.ensures.log in let f = c.in-Ok.ensures.further.so.whole in let o = c.requires.ready.whole in let l = ap length h.are ∙ length-append calls (ask ∷ []) in omega (arith, w, f, o, l)) in
           let came3 : sent.log.came ≡ length calls = (let w = ap (λ (l : LogState). l.came) c.in-Ok-send.ensures.log in let f = c.in-Ok.ensures.further.so.whole in let o = c.requires.ready.whole in let l = ap length h.are ∙ length-append calls (ask ∷ []) in omega (arith, w, f, o, l)) in
           let b = is_before g.F.Flights.planner _ sent.log calls (unit_ask c.args.unit.now c.args.forgive) _ m0 there3 calls3 came3 in
-          let tried = subst (λ (q : Kept). HasTried g.F.Flights.planner c.args.forgive (g.F.Flights.state sent.flights) sent.log c.args.unit.now q (target_settled g.F.Flights.planner (target_of m0.probe) calls old.managed) [] (call_actions (target_settled g.F.Flights.planner (target_of m0.probe) calls old.managed) (large_of (settled old.managed) c.args.unit.now) (Access c.args.unit.now)) m0) (sym managed3)
+          let tried = subst (λ (q : Kept). LogHasTried g.F.Flights.planner c.args.forgive (g.F.Flights.state sent.flights) sent.log c.args.unit.now q (target_settled g.F.Flights.planner (target_of m0.probe) calls old.managed) [] (call_actions (target_settled g.F.Flights.planner (target_of m0.probe) calls old.managed) (large_of (settled old.managed) c.args.unit.now) (Access c.args.unit.now)) m0) (sym managed3)
           (begin_trying g.F.Flights.planner c.args.forgive _ sent.log old.managed calls c.args.unit.now m0 h.kept_is c.requires.alone.alone may calls3 there3) in
           let table : length sent.managed.ports ≡ 256 = subst (λ (q : Kept). length q.ports ≡ 256) (sym managed3) (settled_table g.F.Flights.planner (target_of m0.probe) old.managed calls (unit_ask c.args.unit.now c.args.forgive) h.kept_is b) in
           record { so = (c.in-Err-try_unit.ensures.broke m0 _ _ table tried).ended };
@@ -93,10 +93,10 @@ returns-in-Err-try_unit-clause-gives g c =
           let whole3 : sent.log.whole ≡ length calls = (let w = ap (λ (l : LogState). l.whole) c.in-Ok-send.ensures.log in let f = c.in-Ok.ensures.further.so.whole in let o = c.requires.ready.whole in let l = ap length h.are ∙ length-append calls (ask ∷ []) in omega (arith, w, f, o, l)) in
           let came3 : sent.log.came ≡ length calls = (let w = ap (λ (l : LogState). l.came) c.in-Ok-send.ensures.log in let f = c.in-Ok.ensures.further.so.whole in let o = c.requires.ready.whole in let l = ap length h.are ∙ length-append calls (ask ∷ []) in omega (arith, w, f, o, l)) in
           let b = is_before g.F.Flights.planner _ sent.log calls (unit_ask c.args.unit.now c.args.forgive) _ m0 there3 calls3 came3 in
-          let tried = subst (λ (q : Kept). HasTried g.F.Flights.planner c.args.forgive (g.F.Flights.state sent.flights) sent.log c.args.unit.now q (target_settled g.F.Flights.planner (target_of m0.probe) calls old.managed) [] (call_actions (target_settled g.F.Flights.planner (target_of m0.probe) calls old.managed) (large_of (settled old.managed) c.args.unit.now) (Access c.args.unit.now)) m0) (sym managed3)
+          let tried = subst (λ (q : Kept). LogHasTried g.F.Flights.planner c.args.forgive (g.F.Flights.state sent.flights) sent.log c.args.unit.now q (target_settled g.F.Flights.planner (target_of m0.probe) calls old.managed) [] (call_actions (target_settled g.F.Flights.planner (target_of m0.probe) calls old.managed) (large_of (settled old.managed) c.args.unit.now) (Access c.args.unit.now)) m0) (sym managed3)
           (begin_trying g.F.Flights.planner c.args.forgive _ sent.log old.managed calls c.args.unit.now m0 h.kept_is c.requires.alone.alone may calls3 there3) in
           let table : length sent.managed.ports ≡ 256 = subst (λ (q : Kept). length q.ports ≡ 256) (sym managed3) (settled_table g.F.Flights.planner (target_of m0.probe) old.managed calls (unit_ask c.args.unit.now c.args.forgive) h.kept_is b) in
-          subst (λ (l : List Ask). StopsThere m0 answered l c.try_unit.new.self.log.lines c.in-Err-try_unit.stop) calls_same ((c.in-Err-try_unit.ensures.broke m0 _ _ table tried).stops answered left);
+          subst (λ (l : List Ask). StopsAfterLines m0 answered l c.try_unit.new.self.log.lines c.in-Err-try_unit.stop) calls_same ((c.in-Err-try_unit.ensures.broke m0 _ _ table tried).stops answered left);
     }
 
 pub returns-in-Ok-try_unit-clause-gives : goal.returns-in-Ok-try_unit-clause-gives
@@ -124,7 +124,7 @@ returns-in-Ok-try_unit-clause-gives g c =
           let whole3 : sent.log.whole ≡ length calls = (let w = ap (λ (l : LogState). l.whole) c.in-Ok-send.ensures.log in let f = c.in-Ok.ensures.further.so.whole in let o = c.requires.ready.whole in let l = ap length h.are ∙ length-append calls (ask ∷ []) in omega (arith, w, f, o, l)) in
           let came3 : sent.log.came ≡ length calls = (let w = ap (λ (l : LogState). l.came) c.in-Ok-send.ensures.log in let f = c.in-Ok.ensures.further.so.whole in let o = c.requires.ready.whole in let l = ap length h.are ∙ length-append calls (ask ∷ []) in omega (arith, w, f, o, l)) in
           let b = is_before g.F.Flights.planner _ sent.log calls (unit_ask c.args.unit.now c.args.forgive) _ m0 there3 calls3 came3 in
-          let tried = subst (λ (q : Kept). HasTried g.F.Flights.planner c.args.forgive (g.F.Flights.state sent.flights) sent.log c.args.unit.now q (target_settled g.F.Flights.planner (target_of m0.probe) calls old.managed) [] (call_actions (target_settled g.F.Flights.planner (target_of m0.probe) calls old.managed) (large_of (settled old.managed) c.args.unit.now) (Access c.args.unit.now)) m0) (sym managed3)
+          let tried = subst (λ (q : Kept). LogHasTried g.F.Flights.planner c.args.forgive (g.F.Flights.state sent.flights) sent.log c.args.unit.now q (target_settled g.F.Flights.planner (target_of m0.probe) calls old.managed) [] (call_actions (target_settled g.F.Flights.planner (target_of m0.probe) calls old.managed) (large_of (settled old.managed) c.args.unit.now) (Access c.args.unit.now)) m0) (sym managed3)
           (begin_trying g.F.Flights.planner c.args.forgive _ sent.log old.managed calls c.args.unit.now m0 h.kept_is c.requires.alone.alone may calls3 there3) in
           let table : length sent.managed.ports ≡ 256 = subst (λ (q : Kept). length q.ports ≡ 256) (sym managed3) (settled_table g.F.Flights.planner (target_of m0.probe) old.managed calls (unit_ask c.args.unit.now c.args.forgive) h.kept_is b) in
           let done = subst (λ (q : Kept). IsDoneBy g.F.Flights.planner c.args.forgive c.in-Ok-try_unit.tried.small c.in-Ok-try_unit.tried.word c.in-Ok-try_unit.tried.reads unit_done.managed (g.F.Flights.state unit_done.flights) unit_done.log c.args.unit.now q (target_settled g.F.Flights.planner (target_of m0.probe) calls old.managed) m0) managed3
@@ -155,7 +155,7 @@ returns-in-Ok-try_unit-clause-gives g c =
           let whole3 : sent.log.whole ≡ length calls = (let w = ap (λ (l : LogState). l.whole) c.in-Ok-send.ensures.log in let f = c.in-Ok.ensures.further.so.whole in let o = c.requires.ready.whole in let l = ap length h.are ∙ length-append calls (ask ∷ []) in omega (arith, w, f, o, l)) in
           let came3 : sent.log.came ≡ length calls = (let w = ap (λ (l : LogState). l.came) c.in-Ok-send.ensures.log in let f = c.in-Ok.ensures.further.so.whole in let o = c.requires.ready.whole in let l = ap length h.are ∙ length-append calls (ask ∷ []) in omega (arith, w, f, o, l)) in
           let b = is_before g.F.Flights.planner _ sent.log calls (unit_ask c.args.unit.now c.args.forgive) _ m0 there3 calls3 came3 in
-          let tried = subst (λ (q : Kept). HasTried g.F.Flights.planner c.args.forgive (g.F.Flights.state sent.flights) sent.log c.args.unit.now q (target_settled g.F.Flights.planner (target_of m0.probe) calls old.managed) [] (call_actions (target_settled g.F.Flights.planner (target_of m0.probe) calls old.managed) (large_of (settled old.managed) c.args.unit.now) (Access c.args.unit.now)) m0) (sym managed3)
+          let tried = subst (λ (q : Kept). LogHasTried g.F.Flights.planner c.args.forgive (g.F.Flights.state sent.flights) sent.log c.args.unit.now q (target_settled g.F.Flights.planner (target_of m0.probe) calls old.managed) [] (call_actions (target_settled g.F.Flights.planner (target_of m0.probe) calls old.managed) (large_of (settled old.managed) c.args.unit.now) (Access c.args.unit.now)) m0) (sym managed3)
           (begin_trying g.F.Flights.planner c.args.forgive _ sent.log old.managed calls c.args.unit.now m0 h.kept_is c.requires.alone.alone may calls3 there3) in
           let table : length sent.managed.ports ≡ 256 = subst (λ (q : Kept). length q.ports ≡ 256) (sym managed3) (settled_table g.F.Flights.planner (target_of m0.probe) old.managed calls (unit_ask c.args.unit.now c.args.forgive) h.kept_is b) in
           let done = subst (λ (q : Kept). IsDoneBy g.F.Flights.planner c.args.forgive c.in-Ok-try_unit.tried.small c.in-Ok-try_unit.tried.word c.in-Ok-try_unit.tried.reads unit_done.managed (g.F.Flights.state unit_done.flights) unit_done.log c.args.unit.now q (target_settled g.F.Flights.planner (target_of m0.probe) calls old.managed) m0) managed3
@@ -186,7 +186,7 @@ returns-in-Ok-try_unit-clause-small g c = λ m0 calls ask same h.
     let whole3 : sent.log.whole ≡ length calls = (let w = ap (λ (l : LogState). l.whole) c.in-Ok-send.ensures.log in let f = c.in-Ok.ensures.further.so.whole in let o = c.requires.ready.whole in let l = ap length h.are ∙ length-append calls (ask ∷ []) in omega (arith, w, f, o, l)) in
     let came3 : sent.log.came ≡ length calls = (let w = ap (λ (l : LogState). l.came) c.in-Ok-send.ensures.log in let f = c.in-Ok.ensures.further.so.whole in let o = c.requires.ready.whole in let l = ap length h.are ∙ length-append calls (ask ∷ []) in omega (arith, w, f, o, l)) in
     let b = is_before g.F.Flights.planner _ sent.log calls (unit_ask c.args.unit.now c.args.forgive) _ m0 there3 calls3 came3 in
-    let tried = subst (λ (q : Kept). HasTried g.F.Flights.planner c.args.forgive (g.F.Flights.state sent.flights) sent.log c.args.unit.now q (target_settled g.F.Flights.planner (target_of m0.probe) calls old.managed) [] (call_actions (target_settled g.F.Flights.planner (target_of m0.probe) calls old.managed) (large_of (settled old.managed) c.args.unit.now) (Access c.args.unit.now)) m0) (sym managed3)
+    let tried = subst (λ (q : Kept). LogHasTried g.F.Flights.planner c.args.forgive (g.F.Flights.state sent.flights) sent.log c.args.unit.now q (target_settled g.F.Flights.planner (target_of m0.probe) calls old.managed) [] (call_actions (target_settled g.F.Flights.planner (target_of m0.probe) calls old.managed) (large_of (settled old.managed) c.args.unit.now) (Access c.args.unit.now)) m0) (sym managed3)
     (begin_trying g.F.Flights.planner c.args.forgive _ sent.log old.managed calls c.args.unit.now m0 h.kept_is c.requires.alone.alone may calls3 there3) in
     let table : length sent.managed.ports ≡ 256 = subst (λ (q : Kept). length q.ports ≡ 256) (sym managed3) (settled_table g.F.Flights.planner (target_of m0.probe) old.managed calls (unit_ask c.args.unit.now c.args.forgive) h.kept_is b) in
     let unit_done = c.try_unit.new.self in

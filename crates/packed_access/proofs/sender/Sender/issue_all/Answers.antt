@@ -5,7 +5,7 @@ use Rattle.target_machine.specs.declared.access.RegAccess.{RegAccess}
 use Rattle.target_calls.specs.Journal.{Entry}
 use Rattle.target_calls.specs.declared.calls.Ask.{Ask}
 use Rattle.access_calls.proofs.KeepLemmas.{goes_trans}
-use Rattle.packed_access.specs.Begun.{HasIssued, StopsThere, entries_of}
+use Rattle.packed_access.specs.Begun.{HasIssued, StopsAfterLines, strict_entries}
 use Rattle.packed_access.proofs.FrameLemmas.{asks_further, further_then}
 use Rattle.packed_access.proofs.sender.Sender.issue_all.Goals as goal
 
@@ -15,7 +15,7 @@ returns-in-Err-clause-gives g c = record {
   spare = λ m0 rest points h s. tt;
   broke = λ m0 rest h. c.in-Err.ensures.broke m0 _ (c.loop-access.invariant.on m0 rest h);
   stops = λ m0 rest answered h left.
-      subst (λ (calls : List Ask). StopsThere m0 answered calls c.issue.new.self.log.lines c.in-Err.stop) c.loop-access.invariant.further.calls
+      subst (λ (calls : List Ask). StopsAfterLines m0 answered calls c.issue.new.self.log.lines c.in-Err.stop) c.loop-access.invariant.further.calls
       (c.in-Err.ensures.stops m0 _ answered (c.loop-access.invariant.on m0 rest h) left);
 }
 
@@ -50,13 +50,13 @@ loop-access-preserved g c =
     let now = c.in-Ok.ensures in
     record {
       on = λ m0 rest h.
-          let there = at_drop_more (λ (l : List RegAccess). entries_of c.args.unit c.args.part l ++ rest) accesses i (record { ap = false; read = false; addr = 0; value = 0 }) c.loop-access-test.true in
+          let there = at_drop_more (λ (l : List RegAccess). strict_entries c.args.unit c.args.part l ++ rest) accesses i (record { ap = false; read = false; addr = 0; value = 0 }) c.loop-access-test.true in
           let due = subst (λ (l : List Entry). HasIssued g.F.Flights.planner (g.F.Flights.state mid.flights) mid.log (g.F.Flights.accesses mid.flights) l m0) there (before.on m0 rest h) in
-          now.on m0 entry (entries_of c.args.unit c.args.part (drop (i + 1) accesses) ++ rest) due refl refl refl;
+          now.on m0 entry (strict_entries c.args.unit c.args.part (drop (i + 1) accesses) ++ rest) due refl refl refl;
       spare = λ m0 rest points h s.
-          let there = at_drop_more (λ (l : List RegAccess). entries_of c.args.unit c.args.part l ++ rest) accesses i (record { ap = false; read = false; addr = 0; value = 0 }) c.loop-access-test.true in
+          let there = at_drop_more (λ (l : List RegAccess). strict_entries c.args.unit c.args.part l ++ rest) accesses i (record { ap = false; read = false; addr = 0; value = 0 }) c.loop-access-test.true in
           let due = subst (λ (l : List Entry). HasIssued g.F.Flights.planner (g.F.Flights.state mid.flights) mid.log (g.F.Flights.accesses mid.flights) l m0) there (before.on m0 rest h) in
-          now.spare m0 entry (entries_of c.args.unit c.args.part (drop (i + 1) accesses) ++ rest) points due refl (before.spare m0 rest points h s);
+          now.spare m0 entry (strict_entries c.args.unit c.args.part (drop (i + 1) accesses) ++ rest) points due refl (before.spare m0 rest points h s);
       goes = goes_trans _ _ _ before.goes c.issue.ensures.further.step.keeps.goes;
       entries = (let a = before.entries in let n = ap length now.entries ∙ length-append mid.log.entries (record { unit = c.args.unit; part = c.args.part } ∷ []) in omega (arith, a, n));
       further = further_then _ _ _ before.further now.further.so;

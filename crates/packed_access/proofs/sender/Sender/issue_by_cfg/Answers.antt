@@ -3,7 +3,7 @@ use Rattle.dap_base.specs.Bits.{has_bit}
 use Rattle.target_calls.specs.declared.calls.Ask.{Ask}
 use Rattle.access_regs.specs.Journal.{gives, port_of}
 use Rattle.access_regs.specs.Plan.{cfg_plan, needs_cfg, needs_csw}
-use Rattle.packed_access.specs.Begun.{StopsThere, target_issued}
+use Rattle.packed_access.specs.Begun.{StopsAfterLines, target_issued}
 use Rattle.packed_access.specs.Logs.{asks_of, with_needs}
 use Rattle.packed_access.proofs.FrameLemmas.{keeps_on}
 use Rattle.packed_access.proofs.CfgLemmas.{came_good, cfg_left, large_left, needs_both, none_kept, none_left, reads_large, reads_small, rest_whole, shown_by}
@@ -135,7 +135,7 @@ returns-in-Err-issue_by_csw-clause-gives g c =
           let first = cfg_left g.F.Flights.planner _ old.log _ (target_issued g.F.Flights.planner old.log m0) old.managed c.args.unit.now m0 c.requires.ready.whole needs h in
           let bit : has_bit (gives (target_issued g.F.Flights.planner old.log m0) (cfg_plan old.managed (port_of c.args.unit.now))) 2 ≡ true = sym (c.in-Ok-read_cfg.ensures.large m0 _ first) ∙ c.if-not-large.false in
           let l = large_left g.F.Flights.planner _ _ old.log mid.log _ _ old.managed mid.managed c.args.unit.now m0 needs bit first (c.in-Ok-read_cfg.ensures.gives.on m0 _ first) c.in-Ok-read_cfg.ensures.issues.step.keeps.calls c.in-Ok-read_cfg.ensures.empty (c.in-Ok-read_cfg.ensures.gives.kept m0 _ first) in
-          subst (λ (calls : List Ask). StopsThere m0 answered calls c.issue_by_csw-2.new.self.log.lines c.in-Err-issue_by_csw.stop) c.in-Ok-read_cfg.ensures.issues.step.keeps.calls (c.in-Err-issue_by_csw.ensures.gives.stops m0 answered l.left left);
+          subst (λ (calls : List Ask). StopsAfterLines m0 answered calls c.issue_by_csw-2.new.self.log.lines c.in-Err-issue_by_csw.stop) c.in-Ok-read_cfg.ensures.issues.step.keeps.calls (c.in-Err-issue_by_csw.ensures.gives.stops m0 answered l.left left);
     }
 
 pub returns-then-not-large-clause-issues : goal.returns-then-not-large-clause-issues

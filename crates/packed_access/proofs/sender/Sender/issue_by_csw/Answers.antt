@@ -6,7 +6,7 @@ use Rattle.target_calls.specs.declared.journal.Part.TheVariants.{Leads}
 use Rattle.access_regs.specs.Journal.{by_csw, gives, port_of}
 use Rattle.access_regs.specs.Kept.{Kept}
 use Rattle.access_regs.specs.Plan.{first_plan, learned, made, needs_csw}
-use Rattle.packed_access.specs.Begun.{HasIssued, StopsThere, entries_of, target_issued}
+use Rattle.packed_access.specs.Begun.{HasIssued, StopsAfterLines, strict_entries, target_issued}
 use Rattle.packed_access.proofs.FrameLemmas.{keeps_on}
 use Rattle.packed_access.proofs.PlannedLemmas.{csw_left, csw_steps, plain_left, plan_entries, plan_now}
 use Rattle.packed_access.proofs.SparingLemmas.{never_past, spared_further, still_past}
@@ -52,12 +52,12 @@ returns-in-Ok-clause-gives g c =
     record {
       on = λ m0 h.
           let k : Kept = learned old.managed (port_of c.args.unit.now) (gives (target_issued g.F.Flights.planner old.log m0) (first_plan old.managed (port_of c.args.unit.now))) in
-          let first : HasIssued g.F.Flights.planner (g.F.Flights.state old.flights) old.log (g.F.Flights.accesses old.flights) (entries_of (length old.log.calls) Leads (first_plan old.managed (port_of c.args.unit.now)) ++ plan_entries (length old.log.calls) k c.args.unit.now) m0 =
+          let first : HasIssued g.F.Flights.planner (g.F.Flights.state old.flights) old.log (g.F.Flights.accesses old.flights) (strict_entries (length old.log.calls) Leads (first_plan old.managed (port_of c.args.unit.now)) ++ plan_entries (length old.log.calls) k c.args.unit.now) m0 =
           subst (λ (l : List Entry). HasIssued g.F.Flights.planner (g.F.Flights.state old.flights) old.log (g.F.Flights.accesses old.flights) l m0) (csw_left (length old.log.calls) (target_issued g.F.Flights.planner old.log m0) old.managed c.args.unit.now some c.requires.sound.no_poll needs) h in
           c.issue_unit-in-Ok.ensures.gives.on m0 [] (plan_now g.F.Flights.planner _ mid.log _ _ k mid.managed c.args.unit.now (length old.log.calls) m0 (c.in-Ok.ensures.gives.on m0 _ first) c.in-Ok.ensures.empty (c.in-Ok.ensures.gives.kept m0 _ first) (ap length c.read_csw.ensures.issues.step.keeps.calls));
       spare = λ m0 left h s.
           let k : Kept = learned old.managed (port_of c.args.unit.now) (gives (target_issued g.F.Flights.planner old.log m0) (first_plan old.managed (port_of c.args.unit.now))) in
-          let first : HasIssued g.F.Flights.planner (g.F.Flights.state old.flights) old.log (g.F.Flights.accesses old.flights) (entries_of (length old.log.calls) Leads (first_plan old.managed (port_of c.args.unit.now)) ++ plan_entries (length old.log.calls) k c.args.unit.now) m0 =
+          let first : HasIssued g.F.Flights.planner (g.F.Flights.state old.flights) old.log (g.F.Flights.accesses old.flights) (strict_entries (length old.log.calls) Leads (first_plan old.managed (port_of c.args.unit.now)) ++ plan_entries (length old.log.calls) k c.args.unit.now) m0 =
           subst (λ (l : List Entry). HasIssued g.F.Flights.planner (g.F.Flights.state old.flights) old.log (g.F.Flights.accesses old.flights) l m0) (csw_left (length old.log.calls) (target_issued g.F.Flights.planner old.log m0) old.managed c.args.unit.now some c.requires.sound.no_poll needs) h in
           let there = plan_now g.F.Flights.planner _ mid.log _ _ k mid.managed c.args.unit.now (length old.log.calls) m0 (c.in-Ok.ensures.gives.on m0 _ first) c.in-Ok.ensures.empty (c.in-Ok.ensures.gives.kept m0 _ first) (ap length c.read_csw.ensures.issues.step.keeps.calls) in
           let read = c.in-Ok.ensures.spare m0 _ left first s in
@@ -65,14 +65,14 @@ returns-in-Ok-clause-gives g c =
           (c.issue_unit-in-Ok.ensures.gives.spare m0 [] read.paid there read.spared);
       broke = λ m0 h.
           let k : Kept = learned old.managed (port_of c.args.unit.now) (gives (target_issued g.F.Flights.planner old.log m0) (first_plan old.managed (port_of c.args.unit.now))) in
-          let first : HasIssued g.F.Flights.planner (g.F.Flights.state old.flights) old.log (g.F.Flights.accesses old.flights) (entries_of (length old.log.calls) Leads (first_plan old.managed (port_of c.args.unit.now)) ++ plan_entries (length old.log.calls) k c.args.unit.now) m0 =
+          let first : HasIssued g.F.Flights.planner (g.F.Flights.state old.flights) old.log (g.F.Flights.accesses old.flights) (strict_entries (length old.log.calls) Leads (first_plan old.managed (port_of c.args.unit.now)) ++ plan_entries (length old.log.calls) k c.args.unit.now) m0 =
           subst (λ (l : List Entry). HasIssued g.F.Flights.planner (g.F.Flights.state old.flights) old.log (g.F.Flights.accesses old.flights) l m0) (csw_left (length old.log.calls) (target_issued g.F.Flights.planner old.log m0) old.managed c.args.unit.now some c.requires.sound.no_poll needs) h in
           c.issue_unit-in-Ok.ensures.gives.broke m0 [] (plan_now g.F.Flights.planner _ mid.log _ _ k mid.managed c.args.unit.now (length old.log.calls) m0 (c.in-Ok.ensures.gives.on m0 _ first) c.in-Ok.ensures.empty (c.in-Ok.ensures.gives.kept m0 _ first) (ap length c.read_csw.ensures.issues.step.keeps.calls));
       stops = λ m0 answered h left.
           let k : Kept = learned old.managed (port_of c.args.unit.now) (gives (target_issued g.F.Flights.planner old.log m0) (first_plan old.managed (port_of c.args.unit.now))) in
-          let first : HasIssued g.F.Flights.planner (g.F.Flights.state old.flights) old.log (g.F.Flights.accesses old.flights) (entries_of (length old.log.calls) Leads (first_plan old.managed (port_of c.args.unit.now)) ++ plan_entries (length old.log.calls) k c.args.unit.now) m0 =
+          let first : HasIssued g.F.Flights.planner (g.F.Flights.state old.flights) old.log (g.F.Flights.accesses old.flights) (strict_entries (length old.log.calls) Leads (first_plan old.managed (port_of c.args.unit.now)) ++ plan_entries (length old.log.calls) k c.args.unit.now) m0 =
           subst (λ (l : List Entry). HasIssued g.F.Flights.planner (g.F.Flights.state old.flights) old.log (g.F.Flights.accesses old.flights) l m0) (csw_left (length old.log.calls) (target_issued g.F.Flights.planner old.log m0) old.managed c.args.unit.now some c.requires.sound.no_poll needs) h in
-          subst (λ (calls : List Ask). IfErr c.issue_unit-in-Ok.result (StopsThere m0 answered calls c.issue_unit-in-Ok.new.self.log.lines)) c.read_csw.ensures.issues.step.keeps.calls
+          subst (λ (calls : List Ask). IfErr c.issue_unit-in-Ok.result (StopsAfterLines m0 answered calls c.issue_unit-in-Ok.new.self.log.lines)) c.read_csw.ensures.issues.step.keeps.calls
           (c.issue_unit-in-Ok.ensures.gives.stops m0 [] answered (plan_now g.F.Flights.planner _ mid.log _ _ k mid.managed c.args.unit.now (length old.log.calls) m0 (c.in-Ok.ensures.gives.on m0 _ first) c.in-Ok.ensures.empty (c.in-Ok.ensures.gives.kept m0 _ first) (ap length c.read_csw.ensures.issues.step.keeps.calls)) left);
     }
 
@@ -83,7 +83,7 @@ returns-in-Ok-clause-kept g c = λ m0 h.
     let some : 0 < length old.log.calls = (let w = c.requires.ready.whole in omega (arith, w)) in
     let needs : needs_csw old.managed c.args.unit.now ≡ true = search rules in
     let k : Kept = learned old.managed (port_of c.args.unit.now) (gives (target_issued g.F.Flights.planner old.log m0) (first_plan old.managed (port_of c.args.unit.now))) in
-    let first : HasIssued g.F.Flights.planner (g.F.Flights.state old.flights) old.log (g.F.Flights.accesses old.flights) (entries_of (length old.log.calls) Leads (first_plan old.managed (port_of c.args.unit.now)) ++ plan_entries (length old.log.calls) k c.args.unit.now) m0 =
+    let first : HasIssued g.F.Flights.planner (g.F.Flights.state old.flights) old.log (g.F.Flights.accesses old.flights) (strict_entries (length old.log.calls) Leads (first_plan old.managed (port_of c.args.unit.now)) ++ plan_entries (length old.log.calls) k c.args.unit.now) m0 =
     subst (λ (l : List Entry). HasIssued g.F.Flights.planner (g.F.Flights.state old.flights) old.log (g.F.Flights.accesses old.flights) l m0) (csw_left (length old.log.calls) (target_issued g.F.Flights.planner old.log m0) old.managed c.args.unit.now some c.requires.sound.no_poll needs) h in
     let is : c.issue_unit-in-Ok.new.self.managed ≡ (by_csw (target_issued g.F.Flights.planner old.log m0) old.managed c.args.unit.now).kept =
     c.issue_unit-in-Ok.ensures.further.managed ∙ ap (λ (q : Kept). made q c.args.unit.now) (c.in-Ok.ensures.gives.kept m0 _ first) ∙ sym (csw_steps 0 (target_issued g.F.Flights.planner old.log m0) old.managed c.args.unit.now needs).1 in

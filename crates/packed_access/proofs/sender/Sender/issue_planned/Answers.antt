@@ -2,7 +2,7 @@ use Rattle.std.proofs.Common.{rules, ◌≡◌, ◌∙◌, ℕ, ◌-◌, List, l
 use Rattle.std.specs.Prelude.{IfErr}
 use Rattle.target_calls.specs.declared.calls.Ask.{Ask}
 use Rattle.access_regs.specs.Plan.{needs_settle}
-use Rattle.packed_access.specs.Begun.{StopsThere}
+use Rattle.packed_access.specs.Begun.{StopsAfterLines}
 use Rattle.packed_access.proofs.FrameLemmas.{keeps_on}
 use Rattle.packed_access.proofs.AskedLemmas.{at_ok_then, first_calm, kept_is, needs_is, ok_then, plain_ready, planned_left, settle_left, settled_ready, small_is}
 use Rattle.packed_access.proofs.SparingLemmas.{past_before, spared_same}
@@ -110,7 +110,7 @@ returns-in-Ok-clause-gives g c =
           let asked = c.args.unit.now in
           let first = settle_left g.F.Flights.planner _ old.log _ _ old.managed c.args.unit.now _ m0 before needs (planned_left g.F.Flights.planner _ old.log _ old.managed calls ask c.args.unit.now m0 is mild c.requires.planned h) in
           let r = settled_ready g.F.Flights.planner _ _ old.log mid.log _ _ old.managed mid.managed c.args.unit.now _ m0 needs first (c.in-Ok.ensures.gives.on m0 _ first) c.in-Ok.ensures.further.so.calls c.settle.ensures.further.managed in
-          subst (λ (l : List Ask). IfErr c.issue_by_cfg-in-Ok.result (StopsThere m0 answered l new.log.lines)) c.in-Ok.ensures.further.so.calls (c.issue_by_cfg-in-Ok.ensures.gives.stops m0 answered r.left left);
+          subst (λ (l : List Ask). IfErr c.issue_by_cfg-in-Ok.result (StopsAfterLines m0 answered l new.log.lines)) c.in-Ok.ensures.further.so.calls (c.issue_by_cfg-in-Ok.ensures.gives.stops m0 answered r.left left);
     }
 
 pub returns-in-Ok-clause-kept : goal.returns-in-Ok-clause-kept

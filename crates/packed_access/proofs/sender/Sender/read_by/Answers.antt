@@ -5,7 +5,7 @@ use Rattle.target_machine.specs.declared.access.RegAccess.{RegAccess}
 use Rattle.probe_core.specs.Probe.{target_of}
 use Rattle.target_calls.specs.declared.journal.Part.TheVariants.{Leads}
 use Rattle.access_regs.specs.Journal.{gives, issued}
-use Rattle.packed_access.specs.Begun.{HasIssued, entries_of, target_issued}
+use Rattle.packed_access.specs.Begun.{HasIssued, strict_entries, target_issued}
 use Rattle.packed_access.specs.Logs.{LogState}
 use Rattle.packed_access.proofs.ReadLemmas.{IsReadAt, read_gives}
 use Rattle.packed_access.proofs.sender.Sender.read_by.Goals as goal
@@ -16,7 +16,7 @@ returns-in-Ok-send-clause-value g c = λ m0 lead a rest is h.
     let mid = c.issue_all.new.self in
     let new = c.send.new.self in
     let plan = c.args.accesses.now in
-    let h' = subst (λ (l : List RegAccess). HasIssued g.F.Flights.planner (g.F.Flights.state old.flights) old.log (g.F.Flights.accesses old.flights) (entries_of c.args.unit Leads l ++ rest) m0) is h in
+    let h' = subst (λ (l : List RegAccess). HasIssued g.F.Flights.planner (g.F.Flights.state old.flights) old.log (g.F.Flights.accesses old.flights) (strict_entries c.args.unit Leads l ++ rest) m0) is h in
     let there = c.in-Ok.ensures.gives.on m0 rest h in
     let after = c.in-Ok-send.ensures.gives.on m0 rest there in
     let mid_calls : mid.log.calls ≡ old.log.calls = c.in-Ok.ensures.further.so.calls in

@@ -3,7 +3,7 @@ use Rattle.target_machine.specs.declared.access.RegAccess.{RegAccess}
 use Rattle.target_calls.specs.declared.journal.Part.TheVariants.{Leads}
 use Rattle.access_regs.specs.Journal.{port_of}
 use Rattle.access_regs.specs.Plan.{cfg_plan}
-use Rattle.packed_access.specs.Begun.{HasIssued, entries_of}
+use Rattle.packed_access.specs.Begun.{HasIssued, strict_entries}
 use Rattle.packed_access.specs.Logs.{LogState}
 use Rattle.packed_access.proofs.FrameLemmas.{keeps_on}
 use Rattle.packed_access.proofs.SparingLemmas.{has_paid}
@@ -13,9 +13,9 @@ pub returns-in-Ok-clause-spare : goal.returns-in-Ok-clause-spare
 returns-in-Ok-clause-spare g c = λ m0 rest left h s.
     let old = c.args.self.now in
     let plan : c.list_accesses.result.now ≡ cfg_plan old.managed (port_of c.args.unit.now) = search rules in
-    let here : HasIssued g.F.Flights.planner (g.F.Flights.state old.flights) old.log (g.F.Flights.accesses old.flights) (entries_of c.count-number.result Leads c.list_accesses.result.now ++ rest) m0 =
-    subst (λ (l : List RegAccess). HasIssued g.F.Flights.planner (g.F.Flights.state old.flights) old.log (g.F.Flights.accesses old.flights) (entries_of c.count-number.result Leads l ++ rest) m0) (sym plan)
-    (subst (λ (n : ℕ). HasIssued g.F.Flights.planner (g.F.Flights.state old.flights) old.log (g.F.Flights.accesses old.flights) (entries_of n Leads (cfg_plan old.managed (port_of c.args.unit.now)) ++ rest) m0) (sym c.count-number.ensures) h) in
+    let here : HasIssued g.F.Flights.planner (g.F.Flights.state old.flights) old.log (g.F.Flights.accesses old.flights) (strict_entries c.count-number.result Leads c.list_accesses.result.now ++ rest) m0 =
+    subst (λ (l : List RegAccess). HasIssued g.F.Flights.planner (g.F.Flights.state old.flights) old.log (g.F.Flights.accesses old.flights) (strict_entries c.count-number.result Leads l ++ rest) m0) (sym plan)
+    (subst (λ (n : ℕ). HasIssued g.F.Flights.planner (g.F.Flights.state old.flights) old.log (g.F.Flights.accesses old.flights) (strict_entries n Leads (cfg_plan old.managed (port_of c.args.unit.now)) ++ rest) m0) (sym c.count-number.ensures) h) in
     has_paid g.F.Flights.planner _ _ _ c.read_by.new.self.log c.need.new.self old.log.needs s.paid 1 (c.count-number.result - 1) left m0 (c.in-Ok.ensures.gives.spare m0 rest s.paid here s.spared) s.covers c.in-Ok.ensures.further.so.needs c.need.ensures.answer.so
 
 pub returns-in-Ok-clause-fenced : goal.returns-in-Ok-clause-fenced

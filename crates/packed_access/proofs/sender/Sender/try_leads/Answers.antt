@@ -6,7 +6,7 @@ use Rattle.target_machine.specs.declared.access.RegAccess.{RegAccess}
 use Rattle.flight_forms.specs.Packing.{IsTaken}
 use Rattle.access_regs.specs.Journal.{making}
 use Rattle.access_calls.proofs.KeepLemmas.{goes_trans}
-use Rattle.packed_access.specs.Forgiving.{HasTried, WentTo}
+use Rattle.packed_access.specs.Forgiving.{LogHasTried, WentTo}
 use Rattle.packed_access.proofs.FrameLemmas.{further_then}
 use Rattle.packed_access.proofs.LeadLemmas.{lead_came, lead_next, lead_stays}
 use Rattle.packed_access.proofs.TryMemoryLemmas.{broken_calls}
@@ -20,7 +20,7 @@ returns-in-Ok-None-clause-on g c = λ m0 asked k t made last ends rest more h n.
     let are : leads ≡ take i leads ++ lead ∷ drop (i + 1) leads = sym (take-append-drop i leads) ∙ at_drop_more (λ (l : List RegAccess). take i leads ++ l) leads i (record { ap = false; read = false; addr = 0; value = 0 }) c.loop-lead-test.true in
     let mid = c.loop-lead.self in
     let there = at_drop_more (λ (l : List RegAccess). making (l ++ last ∷ []) ++ more) leads i (record { ap = false; read = false; addr = 0; value = 0 }) c.loop-lead-test.true in
-    let tried = subst (λ (a : List Action). HasTried g.F.Flights.planner c.args.forgive (g.F.Flights.state mid.flights) mid.log asked k t (made ++ take i leads) a m0) there (c.loop-lead.invariant.on m0 asked k t made last ends rest more h n) in
+    let tried = subst (λ (a : List Action). LogHasTried g.F.Flights.planner c.args.forgive (g.F.Flights.state mid.flights) mid.log asked k t (made ++ take i leads) a m0) there (c.loop-lead.invariant.on m0 asked k t made last ends rest more h n) in
     let next = lead_next asked t made leads last ends rest more n (take i leads) lead (drop (i + 1) leads) are in
     let new = c.try_together.new.self in
     let went = subst (λ (w : Option ℕ). WentTo g.F.Flights.planner c.args.forgive w (g.F.Flights.state new.flights) new.log asked k t (made ++ take i leads) [] lead (making (drop (i + 1) leads ++ last ∷ []) ++ more) m0) c.in-Ok-None.field-0-is (c.in-Ok-None.ensures.gives.on m0 asked k t (made ++ take i leads) _ _ tried next) in
@@ -34,7 +34,7 @@ returns-in-Err-clause-broke g c = λ m0 asked k t made last ends rest more h n.
     let are : leads ≡ take i leads ++ lead ∷ drop (i + 1) leads = sym (take-append-drop i leads) ∙ at_drop_more (λ (l : List RegAccess). take i leads ++ l) leads i (record { ap = false; read = false; addr = 0; value = 0 }) c.loop-lead-test.true in
     let mid = c.loop-lead.self in
     let there = at_drop_more (λ (l : List RegAccess). making (l ++ last ∷ []) ++ more) leads i (record { ap = false; read = false; addr = 0; value = 0 }) c.loop-lead-test.true in
-    let tried = subst (λ (a : List Action). HasTried g.F.Flights.planner c.args.forgive (g.F.Flights.state mid.flights) mid.log asked k t (made ++ take i leads) a m0) there (c.loop-lead.invariant.on m0 asked k t made last ends rest more h n) in
+    let tried = subst (λ (a : List Action). LogHasTried g.F.Flights.planner c.args.forgive (g.F.Flights.state mid.flights) mid.log asked k t (made ++ take i leads) a m0) there (c.loop-lead.invariant.on m0 asked k t made last ends rest more h n) in
     let next = lead_next asked t made leads last ends rest more n (take i leads) lead (drop (i + 1) leads) are in
     broken_calls g.F.Flights.planner _ _ c.try_together.new.self.log _ _ m0 c.loop-lead.invariant.further.calls (c.in-Err.ensures.gives.broke m0 asked k t (made ++ take i leads) _ _ tried next)
 
@@ -51,10 +51,10 @@ loop-lead-preserved g c =
       on = λ m0 asked k t made last ends rest more h n.
           let are : leads ≡ take i leads ++ lead ∷ drop (i + 1) leads = sym (take-append-drop i leads) ∙ at_drop_more (λ (l : List RegAccess). take i leads ++ l) leads i (record { ap = false; read = false; addr = 0; value = 0 }) c.loop-lead-test.true in
           let there = at_drop_more (λ (l : List RegAccess). making (l ++ last ∷ []) ++ more) leads i (record { ap = false; read = false; addr = 0; value = 0 }) c.loop-lead-test.true in
-          let tried = subst (λ (a : List Action). HasTried g.F.Flights.planner c.args.forgive (g.F.Flights.state mid.flights) mid.log asked k t (made ++ take i leads) a m0) there (before.on m0 asked k t made last ends rest more h n) in
+          let tried = subst (λ (a : List Action). LogHasTried g.F.Flights.planner c.args.forgive (g.F.Flights.state mid.flights) mid.log asked k t (made ++ take i leads) a m0) there (before.on m0 asked k t made last ends rest more h n) in
           let next = lead_next asked t made leads last ends rest more n (take i leads) lead (drop (i + 1) leads) are in
           let went = subst (λ (w : Option ℕ). WentTo g.F.Flights.planner c.args.forgive w (g.F.Flights.state new.flights) new.log asked k t (made ++ take i leads) [] lead (making (drop (i + 1) leads ++ last ∷ []) ++ more) m0) c.in-Ok-Some.field-0-is (now.gives.on m0 asked k t (made ++ take i leads) _ _ tried next) in
-          subst (λ (l : List RegAccess). HasTried g.F.Flights.planner c.args.forgive (g.F.Flights.state new.flights) new.log asked k t (made ++ l) (making (drop (i + 1) leads ++ last ∷ []) ++ more) m0) (sym (take_more leads i (record { ap = false; read = false; addr = 0; value = 0 }) c.loop-lead-test.true))
+          subst (λ (l : List RegAccess). LogHasTried g.F.Flights.planner c.args.forgive (g.F.Flights.state new.flights) new.log asked k t (made ++ l) (making (drop (i + 1) leads ++ last ∷ []) ++ more) m0) (sym (take_more leads i (record { ap = false; read = false; addr = 0; value = 0 }) c.loop-lead-test.true))
           (lead_came g.F.Flights.planner c.args.forgive _ new.log asked k t made (take i leads) lead _ m0 went.0);
       goes = goes_trans _ _ _ before.goes c.try_together.ensures.tries.step.keeps.goes;
       later = (let a = before.later in let b = now.tries.later in omega (arith, a, b));
@@ -75,8 +75,8 @@ returns-clause-on g c = λ m0 asked k t made last ends rest more h n.
     let i = c.loop-lead.lead-index in
     let mid = c.loop-lead.self in
     let all : length leads ≤ i = (let no = c.loop-lead-test.false in omega (arith, no)) in
-    let tried = subst (λ (l : List RegAccess). HasTried g.F.Flights.planner c.args.forgive (g.F.Flights.state mid.flights) mid.log asked k t (made ++ take i leads) (making (l ++ last ∷ []) ++ more) m0) (drop_all i leads all) (c.loop-lead.invariant.on m0 asked k t made last ends rest more h n) in
-    subst (λ (l : List RegAccess). HasTried g.F.Flights.planner c.args.forgive (g.F.Flights.state mid.flights) mid.log asked k t (made ++ l) (making (last ∷ []) ++ more) m0) (take_all i leads all) tried
+    let tried = subst (λ (l : List RegAccess). LogHasTried g.F.Flights.planner c.args.forgive (g.F.Flights.state mid.flights) mid.log asked k t (made ++ take i leads) (making (l ++ last ∷ []) ++ more) m0) (drop_all i leads all) (c.loop-lead.invariant.on m0 asked k t made last ends rest more h n) in
+    subst (λ (l : List RegAccess). LogHasTried g.F.Flights.planner c.args.forgive (g.F.Flights.state mid.flights) mid.log asked k t (made ++ l) (making (last ∷ []) ++ more) m0) (take_all i leads all) tried
 
 pub returns-in-Ok-None-clause-tries : goal.returns-in-Ok-None-clause-tries
 returns-in-Ok-None-clause-tries g c =

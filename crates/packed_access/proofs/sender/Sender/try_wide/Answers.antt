@@ -6,7 +6,7 @@ use Rattle.target_machine.specs.declared.access.RegAccess.{RegAccess}
 use Rattle.target_machine.specs.declared.unit.Unit.TheVariants as unit
 use Rattle.access_regs.specs.Kept.{Kept, selected}
 use Rattle.access_regs.specs.Plan.{learned_cfg, select_value}
-use Rattle.packed_access.specs.Forgiving.{IsNext, WentTo}
+use Rattle.packed_access.specs.Forgiving.{AreNextAccesses, WentTo}
 use Rattle.packed_access.proofs.TryMemoryLemmas.{broken_calls}
 use Rattle.packed_access.proofs.TryWideLemmas.{cfg_large, cfg_next, cfg_skipped, cfg_small, cfg_tried, done_same, wide_done}
 use Rattle.packed_access.proofs.WentLemmas.{went_most, went_then}
@@ -19,7 +19,7 @@ returns-in-Ok-None-clause-on g c = λ m0 t rest table h.
     let lt : c.args.ap < 256 = c.ranges.ap.fits in
     let access : c.access_ap.result ≡ ap_access_of true 4 0 = c.access_ap.ensures in
     let n = cfg_next g.F.Flights.planner c.args.forgive _ old.log old.managed t rest m0 c.args.size c.args.read c.args.ap c.args.address c.args.value h lt c.requires.wide in
-    let n' = subst (λ (a : RegAccess). IsNext (unit.Memory c.args.size c.args.read c.args.ap c.args.address c.args.value) t [] (select_of c.args.ap 15 ∷ []) a false rest (after_cfg t c.args.size c.args.read c.args.ap c.args.address c.args.value)) (sym access) n in
+    let n' = subst (λ (a : RegAccess). AreNextAccesses (unit.Memory c.args.size c.args.read c.args.ap c.args.address c.args.value) t [] (select_of c.args.ap 15 ∷ []) a false rest (after_cfg t c.args.size c.args.read c.args.ap c.args.address c.args.value)) (sym access) n in
     let went = subst (λ (a : RegAccess). WentTo g.F.Flights.planner c.args.forgive c.in-Ok-None.field-0 (g.F.Flights.state port.flights) port.log (unit.Memory c.args.size c.args.read c.args.ap c.args.address c.args.value) old.managed t [] (select_of c.args.ap 15 ∷ []) a (after_cfg t c.args.size c.args.read c.args.ap c.args.address c.args.value) m0) access (c.in-Ok-None.ensures.gives.on m0 (unit.Memory c.args.size c.args.read c.args.ap c.args.address c.args.value) old.managed t [] rest (after_cfg t c.args.size c.args.read c.args.ap c.args.address c.args.value) h n') in
     done_same g.F.Flights.planner c.args.forgive port.managed _ port.log (unit.Memory c.args.size c.args.read c.args.ap c.args.address c.args.value) old.managed t m0 _ false _ None _ 1 c.attempt_of.ensures.small c.attempt_of.ensures.word c.attempt_of.ensures.reads
     (cfg_skipped g.F.Flights.planner c.args.forgive _ old.log old.managed t rest m0 c.args.size c.args.read c.args.ap c.args.address c.args.value h lt c.requires.wide _ port.log port.managed c.in-Ok-None.field-0 c.try_port.ensures.managed c.in-Ok-None.field-0-is went)
@@ -31,7 +31,7 @@ returns-in-Err-clause-broke g c = λ m0 t rest table h.
     let lt : c.args.ap < 256 = c.ranges.ap.fits in
     let access : c.access_ap.result ≡ ap_access_of true 4 0 = c.access_ap.ensures in
     let n = cfg_next g.F.Flights.planner c.args.forgive _ old.log old.managed t rest m0 c.args.size c.args.read c.args.ap c.args.address c.args.value h lt c.requires.wide in
-    let n' = subst (λ (a : RegAccess). IsNext (unit.Memory c.args.size c.args.read c.args.ap c.args.address c.args.value) t [] (select_of c.args.ap 15 ∷ []) a false rest (after_cfg t c.args.size c.args.read c.args.ap c.args.address c.args.value)) (sym access) n in
+    let n' = subst (λ (a : RegAccess). AreNextAccesses (unit.Memory c.args.size c.args.read c.args.ap c.args.address c.args.value) t [] (select_of c.args.ap 15 ∷ []) a false rest (after_cfg t c.args.size c.args.read c.args.ap c.args.address c.args.value)) (sym access) n in
     c.in-Err.ensures.gives.broke m0 (unit.Memory c.args.size c.args.read c.args.ap c.args.address c.args.value) old.managed t [] rest (after_cfg t c.args.size c.args.read c.args.ap c.args.address c.args.value) h n'
 
 pub returns-then-not-learn_cfg-clause-on : goal.returns-then-not-learn_cfg-clause-on
@@ -41,7 +41,7 @@ returns-then-not-learn_cfg-clause-on g c = λ m0 t rest table h.
     let lt : c.args.ap < 256 = c.ranges.ap.fits in
     let access : c.access_ap.result ≡ ap_access_of true 4 0 = c.access_ap.ensures in
     let n = cfg_next g.F.Flights.planner c.args.forgive _ old.log old.managed t rest m0 c.args.size c.args.read c.args.ap c.args.address c.args.value h lt c.requires.wide in
-    let n' = subst (λ (a : RegAccess). IsNext (unit.Memory c.args.size c.args.read c.args.ap c.args.address c.args.value) t [] (select_of c.args.ap 15 ∷ []) a false rest (after_cfg t c.args.size c.args.read c.args.ap c.args.address c.args.value)) (sym access) n in
+    let n' = subst (λ (a : RegAccess). AreNextAccesses (unit.Memory c.args.size c.args.read c.args.ap c.args.address c.args.value) t [] (select_of c.args.ap 15 ∷ []) a false rest (after_cfg t c.args.size c.args.read c.args.ap c.args.address c.args.value)) (sym access) n in
     let went = subst (λ (a : RegAccess). WentTo g.F.Flights.planner c.args.forgive c.in-Ok-Some.field-0 (g.F.Flights.state port.flights) port.log (unit.Memory c.args.size c.args.read c.args.ap c.args.address c.args.value) old.managed t [] (select_of c.args.ap 15 ∷ []) a (after_cfg t c.args.size c.args.read c.args.ap c.args.address c.args.value) m0) access (c.in-Ok-Some.ensures.gives.on m0 (unit.Memory c.args.size c.args.read c.args.ap c.args.address c.args.value) old.managed t [] rest (after_cfg t c.args.size c.args.read c.args.ap c.args.address c.args.value) h n') in
     let came : c.in-Ok-Some.field-0 ≡ Some c.in-Ok-Some.cfg = c.in-Ok-Some.field-0-is ∙ ap (λ (v : ℕ). Some v) (sym c.in-Ok-Some.cfg-is) in
     let learned : c.learn_cfg.new.self ≡ learned_cfg (selected old.managed (select_value c.args.ap 15)) c.args.ap c.in-Ok-Some.cfg = c.learn_cfg.ensures.kept ∙ ap (λ (q : Kept). learned_cfg q c.args.ap c.in-Ok-Some.cfg) c.try_port.ensures.managed in
@@ -54,7 +54,7 @@ returns-in-Ok-clause-on g c = λ m0 t rest table h.
     let lt : c.args.ap < 256 = c.ranges.ap.fits in
     let access : c.access_ap.result ≡ ap_access_of true 4 0 = c.access_ap.ensures in
     let n = cfg_next g.F.Flights.planner c.args.forgive _ old.log old.managed t rest m0 c.args.size c.args.read c.args.ap c.args.address c.args.value h lt c.requires.wide in
-    let n' = subst (λ (a : RegAccess). IsNext (unit.Memory c.args.size c.args.read c.args.ap c.args.address c.args.value) t [] (select_of c.args.ap 15 ∷ []) a false rest (after_cfg t c.args.size c.args.read c.args.ap c.args.address c.args.value)) (sym access) n in
+    let n' = subst (λ (a : RegAccess). AreNextAccesses (unit.Memory c.args.size c.args.read c.args.ap c.args.address c.args.value) t [] (select_of c.args.ap 15 ∷ []) a false rest (after_cfg t c.args.size c.args.read c.args.ap c.args.address c.args.value)) (sym access) n in
     let went = subst (λ (a : RegAccess). WentTo g.F.Flights.planner c.args.forgive c.in-Ok-Some.field-0 (g.F.Flights.state port.flights) port.log (unit.Memory c.args.size c.args.read c.args.ap c.args.address c.args.value) old.managed t [] (select_of c.args.ap 15 ∷ []) a (after_cfg t c.args.size c.args.read c.args.ap c.args.address c.args.value) m0) access (c.in-Ok-Some.ensures.gives.on m0 (unit.Memory c.args.size c.args.read c.args.ap c.args.address c.args.value) old.managed t [] rest (after_cfg t c.args.size c.args.read c.args.ap c.args.address c.args.value) h n') in
     let came : c.in-Ok-Some.field-0 ≡ Some c.in-Ok-Some.cfg = c.in-Ok-Some.field-0-is ∙ ap (λ (v : ℕ). Some v) (sym c.in-Ok-Some.cfg-is) in
     let learned : c.learn_cfg.new.self ≡ learned_cfg (selected old.managed (select_value c.args.ap 15)) c.args.ap c.in-Ok-Some.cfg = c.learn_cfg.ensures.kept ∙ ap (λ (q : Kept). learned_cfg q c.args.ap c.in-Ok-Some.cfg) c.try_port.ensures.managed in
@@ -72,7 +72,7 @@ returns-in-Err-try_memory-clause-broke g c = λ m0 t rest table h.
     let lt : c.args.ap < 256 = c.ranges.ap.fits in
     let access : c.access_ap.result ≡ ap_access_of true 4 0 = c.access_ap.ensures in
     let n = cfg_next g.F.Flights.planner c.args.forgive _ old.log old.managed t rest m0 c.args.size c.args.read c.args.ap c.args.address c.args.value h lt c.requires.wide in
-    let n' = subst (λ (a : RegAccess). IsNext (unit.Memory c.args.size c.args.read c.args.ap c.args.address c.args.value) t [] (select_of c.args.ap 15 ∷ []) a false rest (after_cfg t c.args.size c.args.read c.args.ap c.args.address c.args.value)) (sym access) n in
+    let n' = subst (λ (a : RegAccess). AreNextAccesses (unit.Memory c.args.size c.args.read c.args.ap c.args.address c.args.value) t [] (select_of c.args.ap 15 ∷ []) a false rest (after_cfg t c.args.size c.args.read c.args.ap c.args.address c.args.value)) (sym access) n in
     let went = subst (λ (a : RegAccess). WentTo g.F.Flights.planner c.args.forgive c.in-Ok-Some.field-0 (g.F.Flights.state port.flights) port.log (unit.Memory c.args.size c.args.read c.args.ap c.args.address c.args.value) old.managed t [] (select_of c.args.ap 15 ∷ []) a (after_cfg t c.args.size c.args.read c.args.ap c.args.address c.args.value) m0) access (c.in-Ok-Some.ensures.gives.on m0 (unit.Memory c.args.size c.args.read c.args.ap c.args.address c.args.value) old.managed t [] rest (after_cfg t c.args.size c.args.read c.args.ap c.args.address c.args.value) h n') in
     let came : c.in-Ok-Some.field-0 ≡ Some c.in-Ok-Some.cfg = c.in-Ok-Some.field-0-is ∙ ap (λ (v : ℕ). Some v) (sym c.in-Ok-Some.cfg-is) in
     let has : has_bit c.in-Ok-Some.cfg cfg_la ≡ true = sym c.learn_cfg.ensures.large ∙ (search rules) in

@@ -1,6 +1,6 @@
 use Rattle.std.proofs.Common.{◌∙◌, Some, ap, sym}
 use Rattle.sequence_trees.specs.declared.spot.Part.TheVariants as part
-use Rattle.log_lines.specs.Places.{spot_in}
+use Rattle.log_lines.specs.Places.{spot_in_step}
 use Rattle.run_coverage.specs.Items.{ran_words}
 use Rattle.run_coverage.proofs.CoverLemmas.{noted}
 use Rattle.run_coverage.proofs.RanLemmas.{always, ran_again}
@@ -8,7 +8,7 @@ use Rattle.run_coverage.proofs.coverage.Coverage.begin.Goals as goal
 
 pub returns-then-is_recent : goal.returns-then-is_recent
 returns-then-is_recent c = λ events of.
-    ran_again c.args.self.now events _ _ (sym (ap (λ p. Some (ran_words (spot_in c.args.sequence.now c.args.path.now part.Block p))) c.place_of-place.ensures)) (c.is_recent.ensures c.if-is_recent.true) of
+    ran_again c.args.self.now events _ _ (sym (ap (λ p. Some (ran_words (spot_in_step c.args.sequence.now c.args.path.now part.Block p))) c.place_of-place.ensures)) (c.is_recent.ensures c.if-is_recent.true) of
 
 pub returns : goal.returns
 returns c = λ events of.

@@ -5,13 +5,13 @@ use Rattle.seq_check.specs.Answers.{checked_trees}
 use Rattle.sequence_trees.specs.Trees.{NoSteps, step_tree, steps_tree, steps_named}
 use Rattle.sequence_rules.specs.Direct.{direct}
 use Rattle.sequence_rules.specs.Known.{known_part}
-use Rattle.sequence_meaning.specs.Held.{calls_of, seen}
+use Rattle.sequence_meaning.specs.Held.{calls_of, state_seen}
 use Rattle.sequence_rules.specs.Steps.{statement}
 use Rattle.sequence_rules.specs.Values as v
 use Rattle.sequence_rules.specs.Variables.{set_visible}
 use Rattle.sequence_meaning.specs.Frame.{RunsDirect}
 use Rattle.sequence_meaning.specs.Few.{one_number, two_numbers}
-use Rattle.sequence_meaning.specs.Parts.{call_of, inside_of, value_of}
+use Rattle.sequence_meaning.specs.Parts.{call_meaning, inside_meaning, value_meaning}
 use Rattle.sequence_meaning.proofs.Loops.{args_on, assigned_on, plain_on, turn_on, turn_over, declared_on, inside_on, entered_on, entered_fail, sequence_on, turns_on, turns_over, turns_fail}
 use Rattle.sequence_rules.proofs.Sizes.{arg_size, args_size, stmt_size, block_size, step_size, steps_size, all_size, arg_within, stmt_within, step_within, named_within, less_budget}
 use Rattle.sequence_meaning.proofs.FewLemmas.{ends_second, first_place, one_listed, second_place, two_listed, two_means, two_same}
@@ -28,8 +28,8 @@ evaluate_arguments-evaluate_argument-requires g t c =
 pub evaluate_arguments-loop-arg-preserved : goal.evaluate_arguments-loop-arg-preserved
 evaluate_arguments-loop-arg-preserved g t c = record {
   same = λ known knows.
-      let first = seen known c.loop-arg.held c.loop-arg.target (g.K.Sink.written c.loop-arg.sink) in
-      let next = seen known c.evaluate_argument.new.held c.evaluate_argument.new.target (g.K.Sink.written c.evaluate_argument.new.sink) in
+      let first = state_seen known c.loop-arg.held c.loop-arg.target (g.K.Sink.written c.loop-arg.sink) in
+      let next = state_seen known c.evaluate_argument.new.held c.evaluate_argument.new.target (g.K.Sink.written c.evaluate_argument.new.sink) in
       args_on c.args.self.now c.args.depth _ c.args.args.now c.loop-arg.arg-index _ c.loop-arg.numbers.items c.evaluate_argument.new.numbers.items first next (c.loop-arg.invariant.same known knows) c.loop-arg-test.true
       (subst (λ a. v.argument (direct false) (calls_of c.args.self.now c.args.depth) (arg_tree a) c.loop-arg.numbers.items first ≡ Ok (c.evaluate_argument.new.numbers.items, next)) c.arg-item.is (c.in-Ok.ensures.gives known (c.loop-arg.invariant.keeps.knows known knows)));
   keeps = keeps_on c.loop-arg.invariant.keeps c.evaluate_argument.ensures.keeps;
@@ -65,7 +65,7 @@ run_named-run_sequence-requires g t c =
 pub call_listed-returns : goal.call_listed-returns
 call_listed-returns g t c = record {
   gives = λ known knows.
-      between (call_of c.args.self.now c.args.depth c.args.called.now.name (arg_trees c.args.args.now)) c.call_with-answer.new.held.end c.call_with-answer.result _ _ _ _
+      between (call_meaning c.args.self.now c.args.depth c.args.called.now.name (arg_trees c.args.args.now)) c.call_with-answer.new.held.end c.call_with-answer.result _ _ _ _
       (c.take_numbers-numbers.ensures.state.state c.args.target.now (known_part known (g.K.Sink.written c.args.sink.now))) refl (c.call_with-answer.ensures.gives known knows);
   keeps = (let k = keeps_after (c.take_numbers-numbers.ensures.state.keeps _) c.call_with-answer.ensures.keeps in
       record { made = record { on = λ w made. record { world = (k.made.on w made).world } }; knows = k.knows });
@@ -87,7 +87,7 @@ pub assign-returns : goal.assign-returns
 assign-returns g t c = record {
   gives = λ known knows. assigned_on c.args.name.now _ _ _ c.in_ok-number.number (c.in_ok-number.ensures.gives known knows)
       (c.store.ensures.state c.evaluate.new.target (known_part known (g.K.Sink.written c.evaluate.new.sink))
-      ∙ ap (λ (x : List ℕ). set_visible x c.in_ok-number.number (seen known c.evaluate.new.held c.evaluate.new.target (g.K.Sink.written c.evaluate.new.sink))) c.as_str.ensures);
+      ∙ ap (λ (x : List ℕ). set_visible x c.in_ok-number.number (state_seen known c.evaluate.new.held c.evaluate.new.target (g.K.Sink.written c.evaluate.new.sink))) c.as_str.ensures);
   keeps = keeps_before c.evaluate.ensures.keeps (c.store.ensures.keeps _);
   cause = c.in_ok-number.ensures.cause;
 }
@@ -109,7 +109,7 @@ declare-returns-in-Err-evaluate g t c = record {
 pub declare-returns-in-Ok-declare : goal.declare-returns-in-Ok-declare
 declare-returns-in-Ok-declare g t c = record {
   gives = λ known knows.
-      declared_on c.args.name.now (value_of c.args.self.now c.args.depth (tree c.args.expr.now)) _ _ _ _ _ ((c.in-Ok.ensures c.args.target.now).gives (known_part known (g.K.Sink.written c.args.sink.now))) (c.in-Ok-evaluate.ensures.gives known knows) (c.in-Ok-declare.ensures.state.state c.evaluate.new.target (known_part known (g.K.Sink.written c.evaluate.new.sink)));
+      declared_on c.args.name.now (value_meaning c.args.self.now c.args.depth (tree c.args.expr.now)) _ _ _ _ _ ((c.in-Ok.ensures c.args.target.now).gives (known_part known (g.K.Sink.written c.args.sink.now))) (c.in-Ok-evaluate.ensures.gives known knows) (c.in-Ok-declare.ensures.state.state c.evaluate.new.target (known_part known (g.K.Sink.written c.evaluate.new.sink)));
   keeps = keeps_after (c.count_step.ensures c.args.target.now).keeps (keeps_before c.evaluate.ensures.keeps (c.in-Ok-declare.ensures.state.keeps _));
   cause = c.in-Ok-evaluate.ensures.cause;
 }
@@ -139,7 +139,7 @@ run_expression-returns-in-Err-evaluate g t c = record {
 
 pub run_expression-returns-in-Ok-evaluate : goal.run_expression-returns-in-Ok-evaluate
 run_expression-returns-in-Ok-evaluate g t c = record {
-  gives = λ known knows. plain_on (value_of c.args.self.now c.args.depth (tree c.args.expr.now)) _ _ _ _ ((c.in-Ok.ensures c.args.target.now).gives (known_part known (g.K.Sink.written c.args.sink.now))) (c.in-Ok-evaluate.ensures.gives known knows);
+  gives = λ known knows. plain_on (value_meaning c.args.self.now c.args.depth (tree c.args.expr.now)) _ _ _ _ ((c.in-Ok.ensures c.args.target.now).gives (known_part known (g.K.Sink.written c.args.sink.now))) (c.in-Ok-evaluate.ensures.gives known knows);
   keeps = keeps_after (c.count_step.ensures c.args.target.now).keeps c.evaluate.ensures.keeps;
   cause = c.in-Ok-evaluate.ensures.cause;
 }
@@ -160,7 +160,7 @@ run_turn-returns-in-Err-evaluate g t c = record {
 
 pub run_turn-returns-then-number-eq0 : goal.run_turn-returns-then-number-eq0
 run_turn-returns-then-number-eq0 g t c = record {
-  gives = λ known knows. turn_over (value_of c.args.self.now c.args.depth (tree c.args.expr.now)) (inside_of c.args.self.now c.args.depth (steps_tree c.args.steps.now)) _ _ _ _ ((c.in-Ok.ensures c.args.target.now).gives (known_part known (g.K.Sink.written c.args.sink.now))) (c.in-Ok-evaluate.ensures.gives known knows) c.if-number-eq0.true;
+  gives = λ known knows. turn_over (value_meaning c.args.self.now c.args.depth (tree c.args.expr.now)) (inside_meaning c.args.self.now c.args.depth (steps_tree c.args.steps.now)) _ _ _ _ ((c.in-Ok.ensures c.args.target.now).gives (known_part known (g.K.Sink.written c.args.sink.now))) (c.in-Ok-evaluate.ensures.gives known knows) c.if-number-eq0.true;
   keeps = keeps_after (c.count_step.ensures c.args.target.now).keeps c.evaluate.ensures.keeps;
   cause = c.in-Ok-evaluate.ensures.cause;
 }
@@ -180,7 +180,7 @@ run_turn-returns g t c = record {
   gives = λ known knows.
       let some : nat_eq c.in-Ok-evaluate.number 0 ≡ false = grind arith in
       let second = c.evaluate.ensures.keeps.knows known knows in
-      turn_on (value_of c.args.self.now c.args.depth (tree c.args.expr.now)) (inside_of c.args.self.now c.args.depth (steps_tree c.args.steps.now)) _ _ _ _ _ ((c.in-Ok.ensures c.args.target.now).gives (known_part known (g.K.Sink.written c.args.sink.now))) (c.in-Ok-evaluate.ensures.gives known knows) some (c.in_ok-run_inside.ensures.gives known second);
+      turn_on (value_meaning c.args.self.now c.args.depth (tree c.args.expr.now)) (inside_meaning c.args.self.now c.args.depth (steps_tree c.args.steps.now)) _ _ _ _ _ ((c.in-Ok.ensures c.args.target.now).gives (known_part known (g.K.Sink.written c.args.sink.now))) (c.in-Ok-evaluate.ensures.gives known knows) some (c.in_ok-run_inside.ensures.gives known second);
   keeps = keeps_after (c.count_step.ensures c.args.target.now).keeps (keeps_on c.evaluate.ensures.keeps c.run_inside.ensures.keeps);
   cause = c.in_ok-run_inside.ensures.cause ∙ c.in-Ok-evaluate.ensures.cause;
 }
@@ -253,7 +253,7 @@ call-returns-in-Number g t c =
     let at = first_place c.args.called.now.name.at (arg_trees c.args.args.now) in
     let same : arg_trees c.args.args.now ≡ one_number at (tree c.in-Number.only) = Prim.search (rules, one_listed) in
     rw same
-    (subst (λ e. RunsDirect (call_of c.args.self.now c.args.depth c.args.called.now.name (one_number at (tree e))) g.K.Sink.written g.K.Sink.faults c.args.held.now c.args.target.now c.args.sink.now c.call_one.new.held c.call_one.new.target c.call_one.new.sink c.call_one.result)
+    (subst (λ e. RunsDirect (call_meaning c.args.self.now c.args.depth c.args.called.now.name (one_number at (tree e))) g.K.Sink.written g.K.Sink.faults c.args.held.now c.args.target.now c.args.sink.now c.call_one.new.held c.call_one.new.target c.call_one.new.sink c.call_one.result)
     (first_of (Prim.search rules, grind (arith, common_steps))) (c.call_one.ensures at))
 
 pub call-returns-in-Number-2 : goal.call-returns-in-Number-2
@@ -262,5 +262,5 @@ call-returns-in-Number-2 g t c =
     let later = second_place c.args.called.now.name.at (arg_trees c.args.args.now) in
     let same : arg_trees c.args.args.now ≡ two_numbers at (tree c.in-Number-2.first) later (tree c.in-Number-2.second) = Prim.search (rules, two_listed) in
     rw same
-    (two_same (λ e k. RunsDirect (call_of c.args.self.now c.args.depth c.args.called.now.name (two_numbers at (tree e) later (tree k))) g.K.Sink.written g.K.Sink.faults c.args.held.now c.args.target.now c.args.sink.now c.call_two.new.held c.call_two.new.target c.call_two.new.sink c.call_two.result)
+    (two_same (λ e k. RunsDirect (call_meaning c.args.self.now c.args.depth c.args.called.now.name (two_numbers at (tree e) later (tree k))) g.K.Sink.written g.K.Sink.faults c.args.held.now c.args.target.now c.args.sink.now c.call_two.new.held c.call_two.new.target c.call_two.new.sink c.call_two.result)
     (first_of (Prim.search rules, grind (arith, common_steps))) (first_of (Prim.search rules, grind (arith, common_steps))) (c.call_two.ensures at later))

@@ -4,8 +4,8 @@ use Rattle.seq_check.specs.Answers.{checked_trees}
 use Rattle.sequence_trees.specs.Trees.{step_tree, steps_tree}
 use Rattle.sequence_rules.specs.Direct.{direct}
 use Rattle.sequence_rules.specs.Known.{Knows}
-use Rattle.sequence_meaning.specs.Frame.{Keeps}
-use Rattle.sequence_meaning.specs.Held.{seen, calls_of}
+use Rattle.sequence_meaning.specs.Frame.{KeepsMadeAndKnown}
+use Rattle.sequence_meaning.specs.Held.{state_seen, calls_of}
 use Rattle.sequence_rules.specs.Steps as m
 use Rattle.sequence_rules.specs.Values as v
 use Rattle.sequence_rules.proofs.Sizes.{size, arg_size, args_size, stmt_size, block_size, cond_size, step_size, steps_size, all_size, budget}
@@ -118,29 +118,29 @@ decreases-run_inside g l = budget l.depth (10 * all_size (checked_trees l.self.n
 
 abbrev pub invariant-evaluate_arguments-loop-arg : goal.invariant-evaluate_arguments-loop-arg
 invariant-evaluate_arguments-loop-arg g l = record {
-  same : (known : Bool) → Knows known (g.K.Sink.written l.fn.sink) → v.arguments (direct false) (calls_of l.self l.depth) (arg_trees l.args) l.fn.numbers.items (seen known l.fn.held l.fn.target (g.K.Sink.written l.fn.sink)) ≡ v.arguments (direct false) (calls_of l.self l.depth) (arg_trees (drop l.arg-index l.args)) l.numbers.items (seen known l.held l.target (g.K.Sink.written l.sink));
-  keeps : Keeps g.K.Sink.written l.fn.held l.fn.target l.fn.sink l.held l.target l.sink;
+  same : (known : Bool) → Knows known (g.K.Sink.written l.fn.sink) → v.arguments (direct false) (calls_of l.self l.depth) (arg_trees l.args) l.fn.numbers.items (state_seen known l.fn.held l.fn.target (g.K.Sink.written l.fn.sink)) ≡ v.arguments (direct false) (calls_of l.self l.depth) (arg_trees (drop l.arg-index l.args)) l.numbers.items (state_seen known l.held l.target (g.K.Sink.written l.sink));
+  keeps : KeepsMadeAndKnown g.K.Sink.written l.fn.held l.fn.target l.fn.sink l.held l.target l.sink;
   faults : g.K.Sink.faults l.sink ≡ g.K.Sink.faults l.fn.sink;
 }
 
 abbrev pub invariant-run_block-loop-one : goal.invariant-run_block-loop-one
 invariant-run_block-loop-one g l = record {
-  same : (known : Bool) → Knows known (g.K.Sink.written l.fn.sink) → m.block (direct false) l.self.turn_us (calls_of l.self l.depth) (code_trees l.code) (seen known l.fn.held l.fn.target (g.K.Sink.written l.fn.sink)) ≡ m.block (direct false) l.self.turn_us (calls_of l.self l.depth) (code_trees (drop l.one-index l.code)) (seen known l.held l.target (g.K.Sink.written l.sink));
-  keeps : Keeps g.K.Sink.written l.fn.held l.fn.target l.fn.sink l.held l.target l.sink;
+  same : (known : Bool) → Knows known (g.K.Sink.written l.fn.sink) → m.block (direct false) l.self.turn_us (calls_of l.self l.depth) (code_trees l.code) (state_seen known l.fn.held l.fn.target (g.K.Sink.written l.fn.sink)) ≡ m.block (direct false) l.self.turn_us (calls_of l.self l.depth) (code_trees (drop l.one-index l.code)) (state_seen known l.held l.target (g.K.Sink.written l.sink));
+  keeps : KeepsMadeAndKnown g.K.Sink.written l.fn.held l.fn.target l.fn.sink l.held l.target l.sink;
   faults : g.K.Sink.faults l.sink ≡ g.K.Sink.faults l.fn.sink;
 }
 
 abbrev pub invariant-run_steps-loop-one : goal.invariant-run_steps-loop-one
 invariant-run_steps-loop-one g l = record {
-  same : (known : Bool) → Knows known (g.K.Sink.written l.fn.sink) → m.steps_result (direct false) l.self.turn_us (calls_of l.self l.depth) (steps_tree l.steps) (seen known l.fn.held l.fn.target (g.K.Sink.written l.fn.sink)) ≡ m.steps_result (direct false) l.self.turn_us (calls_of l.self l.depth) (steps_tree (drop l.one-index l.steps)) (seen known l.held l.target (g.K.Sink.written l.sink));
-  keeps : Keeps g.K.Sink.written l.fn.held l.fn.target l.fn.sink l.held l.target l.sink;
+  same : (known : Bool) → Knows known (g.K.Sink.written l.fn.sink) → m.steps_result (direct false) l.self.turn_us (calls_of l.self l.depth) (steps_tree l.steps) (state_seen known l.fn.held l.fn.target (g.K.Sink.written l.fn.sink)) ≡ m.steps_result (direct false) l.self.turn_us (calls_of l.self l.depth) (steps_tree (drop l.one-index l.steps)) (state_seen known l.held l.target (g.K.Sink.written l.sink));
+  keeps : KeepsMadeAndKnown g.K.Sink.written l.fn.held l.fn.target l.fn.sink l.held l.target l.sink;
   faults : g.K.Sink.faults l.sink ≡ g.K.Sink.faults l.fn.sink;
 }
 
 abbrev pub invariant-run_turns-loop-left : goal.invariant-run_turns-loop-left
 invariant-run_turns-loop-left g l = record {
-  same : (known : Bool) → Knows known (g.K.Sink.written l.fn.sink) → m.turns (direct false) (λ r. v.value (direct false) (calls_of l.self l.depth) (tree l.expr) r) (λ r. m.inside (direct false) (λ q. m.steps_result (direct false) l.self.turn_us (calls_of l.self l.depth) (steps_tree l.steps) q) r) l.count (seen known l.fn.held l.fn.target (g.K.Sink.written l.fn.sink)) ≡ m.turns (direct false) (λ r. v.value (direct false) (calls_of l.self l.depth) (tree l.expr) r) (λ r. m.inside (direct false) (λ q. m.steps_result (direct false) l.self.turn_us (calls_of l.self l.depth) (steps_tree l.steps) q) r) l.left (seen known l.held l.target (g.K.Sink.written l.sink));
-  keeps : Keeps g.K.Sink.written l.fn.held l.fn.target l.fn.sink l.held l.target l.sink;
+  same : (known : Bool) → Knows known (g.K.Sink.written l.fn.sink) → m.turns (direct false) (λ r. v.value (direct false) (calls_of l.self l.depth) (tree l.expr) r) (λ r. m.inside (direct false) (λ q. m.steps_result (direct false) l.self.turn_us (calls_of l.self l.depth) (steps_tree l.steps) q) r) l.count (state_seen known l.fn.held l.fn.target (g.K.Sink.written l.fn.sink)) ≡ m.turns (direct false) (λ r. v.value (direct false) (calls_of l.self l.depth) (tree l.expr) r) (λ r. m.inside (direct false) (λ q. m.steps_result (direct false) l.self.turn_us (calls_of l.self l.depth) (steps_tree l.steps) q) r) l.left (state_seen known l.held l.target (g.K.Sink.written l.sink));
+  keeps : KeepsMadeAndKnown g.K.Sink.written l.fn.held l.fn.target l.fn.sink l.held l.target l.sink;
   faults : g.K.Sink.faults l.sink ≡ g.K.Sink.faults l.fn.sink;
 }
 

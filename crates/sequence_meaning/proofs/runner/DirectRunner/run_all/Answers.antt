@@ -5,7 +5,7 @@ use Rattle.seq_check.specs.Answers.{checked_trees}
 use Rattle.sequence_trees.specs.Trees.{steps_tree}
 use Rattle.sequence_rules.specs.Direct.{direct}
 use Rattle.sequence_rules.specs.Steps as m
-use Rattle.sequence_meaning.specs.Held.{EndsDirect, seen}
+use Rattle.sequence_meaning.specs.Held.{EndsDirect, state_seen}
 use Rattle.sequence_meaning.proofs.DebugLemmas.{run_first, run_on}
 use Rattle.sequence_meaning.proofs.FrameLemmas.{caused_on, keeps_on}
 use Rattle.sequence_meaning.proofs.runner.DirectRunner.run_all.Goals as goal
@@ -15,7 +15,7 @@ returns g c = record {
   gives = λ known knows.
       let code = ap (λ (l : List Stmt). code_trees l) c.as_slice.ensures ∙ c.debugvars.ensures in
       run_on c.args.self.now.turn_us (checked_trees c.args.self.now.set.now) c.args.start.now _ _ _ c.run_steps.new.held.end c.run_steps.result (steps_tree c.steps_of.result.now)
-      (ap (λ k. m.debugged (direct false) c.args.self.now.turn_us (checked_trees c.args.self.now.set.now) k (seen known c.args.held.now c.args.target.now (g.K.Sink.written c.args.sink.now))) (sym code) ∙ c.in-Ok.ensures.gives known knows)
+      (ap (λ k. m.debugged (direct false) c.args.self.now.turn_us (checked_trees c.args.self.now.set.now) k (state_seen known c.args.held.now c.args.target.now (g.K.Sink.written c.args.sink.now))) (sym code) ∙ c.in-Ok.ensures.gives known knows)
       c.steps_of.ensures (c.run_steps.ensures.gives known (c.in-Ok.ensures.keeps.knows known knows));
   keeps = keeps_on c.define_all.ensures.keeps c.run_steps.ensures.keeps;
   cause = caused_on c.run_steps.new.held.end c.run_steps.result _ _ _ c.in-Ok.ensures.cause c.run_steps.ensures.cause;
@@ -25,8 +25,8 @@ pub returns-in-Err : goal.returns-in-Err
 returns-in-Err g c = record {
   gives = λ known knows.
       let code = ap (λ (l : List Stmt). code_trees l) c.as_slice.ensures ∙ c.debugvars.ensures in
-      let s = seen known c.args.held.now c.args.target.now (g.K.Sink.written c.args.sink.now) in
-      let now = seen known c.define_all.new.held c.define_all.new.target (g.K.Sink.written c.define_all.new.sink) in
+      let s = state_seen known c.args.held.now c.args.target.now (g.K.Sink.written c.args.sink.now) in
+      let now = state_seen known c.define_all.new.held c.define_all.new.target (g.K.Sink.written c.define_all.new.sink) in
       run_first c.args.self.now.turn_us (checked_trees c.args.self.now.set.now) c.define_all.new.held.end c.args.start.now s now
       (subst (λ k. EndsDirect c.define_all.new.held.end now (m.debugged (direct false) c.args.self.now.turn_us (checked_trees c.args.self.now.set.now) k s)) code (c.in-Err.ensures.gives known knows));
   keeps = c.define_all.ensures.keeps;
