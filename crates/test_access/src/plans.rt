@@ -99,7 +99,7 @@ impl Plans {
     }
 
     // `made UNIT`: the plan of a unit was made.
-    fn made(&mut self, words: &mut RowWords<'_>) -> Result<&'static str, RowError> {
+    fn make_units(&mut self, words: &mut RowWords<'_>) -> Result<&'static str, RowError> {
         let unit = sound_unit_of(words)?;
         self.managed.note_made(&unit);
         Ok("noted")
@@ -135,7 +135,7 @@ impl Plans {
     }
 
     // `selected VALUE`: SELECT was written outside the plans, where no port is unsettled.
-    fn selected(&mut self, words: &mut RowWords<'_>) -> Result<&'static str, RowError> {
+    fn select_port(&mut self, words: &mut RowWords<'_>) -> Result<&'static str, RowError> {
         let select = words.number32()?;
         if self.managed.needs_settle(&OF_A_PORT) {
             return Err(RowError::Unreadable);
@@ -155,7 +155,7 @@ impl Plans {
     }
 
     // `settled`: the settling was made.
-    fn settled(&mut self) -> &'static str {
+    fn settle_port(&mut self) -> &'static str {
         self.managed.note_settled();
         "noted"
     }
@@ -169,12 +169,12 @@ impl Plans {
             } else {
                 "other or unknown"
             }),
-            "made" => self.made(words),
+            "made" => self.make_units(words),
             "learn_cfg" => self.learn_cfg(words),
             "learn" => self.learn(words),
-            "selected" => self.selected(words),
+            "selected" => self.select_port(words),
             "forget" => self.forget(words),
-            "settled" => Ok(self.settled()),
+            "settled" => Ok(self.settle_port()),
             _ => Err(RowError::Unreadable),
         }
     }

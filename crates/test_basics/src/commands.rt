@@ -31,7 +31,7 @@ fn run_text(
     format!(in alloc; "{mode} {meant} {name}")
 }
 
-fn shown(alloc: Global, command: &Command) -> Result<String, AllocError> {
+fn show_command(alloc: Global, command: &Command) -> Result<String, AllocError> {
     match command {
         Command::Check(selection) => {
             let meant = selection_text(alloc, selection)?;
@@ -64,7 +64,7 @@ fn shown(alloc: Global, command: &Command) -> Result<String, AllocError> {
 
 fn answer_text(alloc: Global, words: &Words) -> Result<String, AllocError> {
     match command_of(alloc, words) {
-        Ok(command) => shown(alloc, &command),
+        Ok(command) => show_command(alloc, &command),
         Err(WordsError::Usage) => String::from_str(alloc, "usage"),
         Err(WordsError::OutOfMemory) => Err(AllocError),
     }

@@ -22,7 +22,7 @@ fn bytes_of(alloc: Global, text: &str) -> Result<Vec<u8>, OutOfMemory> {
 }
 
 // A label, and after the last space a number.
-fn labelled(line: Line, argument: &str) -> Result<Line, OutOfMemory> {
+fn label_line(line: Line, argument: &str) -> Result<Line, OutOfMemory> {
     let (label, number) = argument.rsplit_once(' ').unwrap_or((argument, ""));
     line.add_labelled(label, number_in(number))
 }
@@ -35,7 +35,7 @@ fn with_piece(alloc: Global, line: Line, piece: &str) -> Result<Line, OutOfMemor
         "text" => line.text(argument),
         "shown" => line.add_shown(bytes_of(alloc, argument)?.as_slice()),
         "decimal" => line.decimal(number),
-        "labelled" => labelled(line, argument),
+        "labelled" => label_line(line, argument),
         "dotted" => line.add_dotted(numbers_of(alloc, argument)?.as_slice()),
         "hex2" => line.hex2((number & 0xFF) as u8),
         "hex8" => line.hex8((number & 0xFFFF_FFFF) as u32),

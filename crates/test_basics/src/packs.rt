@@ -99,7 +99,7 @@ fn push_families(alloc: Global, out: &mut String, pack: &Pack) -> Result<(), All
     Ok(())
 }
 
-fn shown(alloc: Global, pack: &Pack) -> Result<String, AllocError> {
+fn show_pack(alloc: Global, pack: &Pack) -> Result<String, AllocError> {
     let mut text = String::from_str(alloc, "pack")?;
     if let Some(defaults) = &pack.defaults {
         text.push_str(" / defaults")?;
@@ -115,7 +115,7 @@ pub(crate) fn pack_text(alloc: Global, text: &str) -> Result<String, AllocError>
         return String::from_str(alloc, "no JSON");
     };
     match pack_of(alloc, &value) {
-        Ok(pack) => shown(alloc, &pack),
+        Ok(pack) => show_pack(alloc, &pack),
         Err(fault) => fault_text(alloc, &fault),
     }
 }

@@ -29,7 +29,7 @@ fn read_stored(rt: &HostRuntime, name: &str) -> io::Result<Stored> {
 }
 
 // How a text is to the one that is expected.
-fn compared(written: &[u8], expected: &[u8]) -> &'static str {
+fn compare_texts(written: &[u8], expected: &[u8]) -> &'static str {
     if written == expected {
         "as expected"
     } else {
@@ -45,7 +45,10 @@ pub fn run_case(rt: &HostRuntime, name: &str) -> io::Result<()> {
     let stored = read_stored(rt, name)?;
     let (status, sink) = answer(rt.alloc(), &stored.words, &stored.job).map_err(no_memory)?;
     let code = status.code();
-    println!(rt; "{name} {code} {}", compared(sink.bytes(), &stored.text))
+    println!(rt;
+        "{name} {code} {}",
+        compare_texts(sink.bytes(), &stored.text)
+    )
 }
 
 /// Runs the same job over a bench that is not observable, and prints the name, the exit status, and whether the text is the
@@ -58,7 +61,7 @@ pub fn run_silent(rt: &HostRuntime, name: &str) -> io::Result<()> {
     let code = status.code();
     println!(rt;
         "{name} {code} over a silent bench {}",
-        compared(sink.bytes(), &text)
+        compare_texts(sink.bytes(), &text)
     )
 }
 
@@ -83,7 +86,7 @@ pub fn run_single(rt: &HostRuntime, name: &str) -> io::Result<()> {
     let (status, sink) = answer_by_single(rt.alloc(), &words, &job).map_err(no_memory)?;
     let written = sink.bytes();
     let code = status.code();
-    let is = compared(written, &expected);
+    let is = compare_texts(written, &expected);
     let report = if report_of(written) == report_of(text.as_slice()) {
         "the same report"
     } else {
@@ -130,6 +133,6 @@ pub fn run_audit(rt: &HostRuntime, name: &str) -> io::Result<()> {
     let code = status.code();
     println!(rt;
         "{name} {code} audited {}",
-        compared(sink.bytes(), expected.as_bytes())
+        compare_texts(sink.bytes(), expected.as_bytes())
     )
 }

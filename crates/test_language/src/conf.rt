@@ -42,7 +42,7 @@ pub fn read(alloc: Global, text: &str) -> Result<String, AllocError> {
 }
 
 /// The names and values of a text as they are written, or the fault.
-pub fn written(alloc: Global, text: &str) -> Result<String, AllocError> {
+pub fn write_values(alloc: Global, text: &str) -> Result<String, AllocError> {
     match conf_of(alloc, text) {
         Ok(conf) => match conf_text(alloc, &conf) {
             Ok(text) => String::from_str(alloc, text.as_str()),
@@ -64,7 +64,7 @@ fn replaced_by(alloc: Global, debugvars: &str, conf: &Conf) -> Result<String, Al
 }
 
 /// The text before a tab with the names and values after it, or the fault.
-pub fn replaced(alloc: Global, text: &str) -> Result<String, AllocError> {
+pub fn replace_values(alloc: Global, text: &str) -> Result<String, AllocError> {
     let (debugvars, values) = text.split_once('\t').unwrap_or((text, ""));
     match conf_of(alloc, values) {
         Ok(conf) => replaced_by(alloc, debugvars, &conf),

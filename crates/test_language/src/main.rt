@@ -28,8 +28,8 @@ fn grammar_of(alloc: Global, kind: &str, text: &str) -> Result<String, AllocErro
 fn conf_of(alloc: Global, kind: &str, text: &str) -> Result<String, AllocError> {
     match kind {
         "conf" => conf::read(alloc, text),
-        "conf_text" => conf::written(alloc, text),
-        "replace" => conf::replaced(alloc, text),
+        "conf_text" => conf::write_values(alloc, text),
+        "replace" => conf::replace_values(alloc, text),
         _ => grammar_of(alloc, kind, text),
     }
 }
@@ -51,7 +51,7 @@ fn answer_of(alloc: Global, form: &str, text: &str) -> Result<String, AllocError
     match kind {
         "levels" => levels::levels(alloc, text, words),
         "read" => levels::read(alloc, text, words),
-        "check" => sets::checked(alloc, text, words),
+        "check" => sets::check_text(alloc, text, words),
         "faults" => sets::faults(alloc, text, words),
         _ => text_of(alloc, kind, text),
     }

@@ -135,7 +135,7 @@ fn check_lines(alloc: Global, set: &SeqSet) -> Result<String, AllocError>
 
 /// The first fault of a set, or the trees of a valid one. The text is the debug variables, a tab, and the code of the block;
 /// the word is the timeout of the loop, where it has one.
-pub fn checked(alloc: Global, text: &str, word: &str) -> Result<String, AllocError> {
+pub fn check_text(alloc: Global, text: &str, word: &str) -> Result<String, AllocError> {
     let (debugvars, code) = text.split_once('\t').unwrap_or(("", text));
     let timeout = word.parse::<u64>().ok();
     match set(alloc, debugvars, timeout, code) {
@@ -163,7 +163,7 @@ fn all_lines(alloc: Global, set: &SeqSet) -> Result<String, AllocError>
     }
 }
 
-/// All faults of a set, which is that of `checked`; `none` where it has none.
+/// All faults of a set, which is that of `check_text`; `none` where it has none.
 pub fn faults(alloc: Global, text: &str, word: &str) -> Result<String, AllocError> {
     let (debugvars, code) = text.split_once('\t').unwrap_or(("", text));
     let timeout = word.parse::<u64>().ok();

@@ -1,5 +1,5 @@
 //! What is written of checks and of runs that are refused.
-use crate::options::{Options, refused, selection_of};
+use crate::options::{Options, refuse_memory, selection_of};
 use check_lines::{write_check, write_no_sequence, write_refusal, write_too_long, write_usage};
 use dap_base::MemorySink;
 use job_check::{CheckRefusal, RunRefusal, ValidSet, valid_run, valid_set};
@@ -9,7 +9,7 @@ use std::alloc::{AllocError, Global};
 use text_lines::TextError;
 
 // What was put into a sink, and a line of the error that ended it.
-fn written(
+fn show_written(
     alloc: Global,
     sink: &MemorySink,
     end: Result<(), TextError>,
@@ -35,10 +35,10 @@ fn write_checked(
 }
 
 /// The text of the set of a job, or the line of its refusal.
-pub fn checked(alloc: Global, job: &[u8], options: &Options<'_>) -> Result<Vec<u8>, AllocError> {
-    let mut sink = MemorySink::new(alloc, &[options.put]).map_err(refused)?;
+pub fn check_job(alloc: Global, job: &[u8], options: &Options<'_>) -> Result<Vec<u8>, AllocError> {
+    let mut sink = MemorySink::new(alloc, &[options.put]).map_err(refuse_memory)?;
     let end = write_checked(alloc, job, &options.selection, &mut sink);
-    written(alloc, &sink, end)
+    show_written(alloc, &sink, end)
 }
 
 // Why the sequence does not run, where it does not.
@@ -68,9 +68,9 @@ fn write_run_refusal(
 }
 
 fn refusal_line(alloc: Global, refusal: &RunRefusal, put: u32) -> Result<Vec<u8>, AllocError> {
-    let mut sink = MemorySink::new(alloc, &[put]).map_err(refused)?;
+    let mut sink = MemorySink::new(alloc, &[put]).map_err(refuse_memory)?;
     let end = write_run_refusal(alloc, refusal, &mut sink);
-    written(alloc, &sink, end)
+    show_written(alloc, &sink, end)
 }
 
 /// `runs` where the sequence can run, or the line of the refusal.
@@ -118,7 +118,7 @@ fn write_line(name: &[u8], sink: &mut MemorySink) -> Result<(), TextError> {
 
 /// The line that the input names, which needs no job.
 pub fn line(alloc: Global, name: &[u8], options: &Options<'_>) -> Result<Vec<u8>, AllocError> {
-    let mut sink = MemorySink::new(alloc, &[options.put]).map_err(refused)?;
+    let mut sink = MemorySink::new(alloc, &[options.put]).map_err(refuse_memory)?;
     let end = write_line(name, &mut sink);
-    written(alloc, &sink, end)
+    show_written(alloc, &sink, end)
 }

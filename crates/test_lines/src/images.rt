@@ -23,7 +23,7 @@ fn fault_text(alloc: Global, fault: ImageFault) -> Result<String, AllocError> {
     }
 }
 
-fn ended(mut text: String) -> Result<Vec<u8>, AllocError> {
+fn end_line(mut text: String) -> Result<Vec<u8>, AllocError> {
     text.push_str("\n")?;
     Ok(text.into_bytes())
 }
@@ -34,8 +34,8 @@ pub fn image(alloc: Global, bytes: &[u8]) -> Result<Vec<u8>, AllocError> {
         return Err(AllocError);
     };
     match image_of(alloc, text) {
-        Ok(image) => ended(bytes_text(alloc, &image)?),
-        Err(fault) => ended(fault_text(alloc, fault)?),
+        Ok(image) => end_line(bytes_text(alloc, &image)?),
+        Err(fault) => end_line(fault_text(alloc, fault)?),
     }
 }
 
@@ -88,11 +88,11 @@ fn filled_text(alloc: Global, count: u32) -> Result<String, AllocError> {
 }
 
 /// The number of bytes of the image of so many bytes, or the first fault of its text.
-pub fn filled(alloc: Global, bytes: &[u8]) -> Result<Vec<u8>, AllocError> {
+pub fn fill_image(alloc: Global, bytes: &[u8]) -> Result<Vec<u8>, AllocError> {
     let count = std::str::from_utf8(bytes).map_or(0, |text| text.parse::<u32>().unwrap_or(0));
     let text = filled_text(alloc, count)?;
     match image_of(alloc, text.as_str()) {
-        Ok(image) => ended(count_text(alloc, &image)?),
-        Err(fault) => ended(fault_text(alloc, fault)?),
+        Ok(image) => end_line(count_text(alloc, &image)?),
+        Err(fault) => end_line(fault_text(alloc, fault)?),
     }
 }

@@ -14,10 +14,10 @@ use std::io;
 use test_tables::{Row, Tally, table_of};
 
 // What comes of a job or of the name of a line, where the words of the form are options.
-fn checked(alloc: Global, kind: &str, words: &str, input: &[u8]) -> Result<Vec<u8>, AllocError> {
+fn check_row(alloc: Global, kind: &str, words: &str, input: &[u8]) -> Result<Vec<u8>, AllocError> {
     let options = options_of(alloc, words)?;
     match kind {
-        "check" => checks::checked(alloc, input, &options),
+        "check" => checks::check_job(alloc, input, &options),
         "run" => checks::run(alloc, input, &options),
         "line" => checks::line(alloc, input, &options),
         _ => Vec::from_slice(alloc, b"no such form\n"),
@@ -34,10 +34,10 @@ fn answer(alloc: Global, row: &Row) -> Result<Vec<u8>, AllocError> {
         "read" => reading::read(alloc, input),
         "values" => reading::values(alloc, input),
         "image" => images::image(alloc, input),
-        "filled" => images::filled(alloc, input),
-        "report" => reports::reported(alloc, input),
+        "filled" => images::fill_image(alloc, input),
+        "report" => reports::report_run(alloc, input),
         "write" => exchanges::write(alloc, input),
-        _ => checked(alloc, kind, words, input),
+        _ => check_row(alloc, kind, words, input),
     }
 }
 

@@ -18,7 +18,7 @@ pub struct Options<'a> {
 }
 
 /// The refusal of memory, as the standard library names it.
-pub fn refused(_: OutOfMemory) -> AllocError {
+pub fn refuse_memory(_: OutOfMemory) -> AllocError {
     AllocError
 }
 
@@ -36,7 +36,7 @@ fn word_named<'a>(words: &'a str, name: &str) -> Option<&'a str> {
 
 fn optional_name(alloc: Global, name: Option<&str>) -> Result<Option<NameText>, AllocError> {
     match name {
-        Some(name) => Ok(Some(NameText::new(alloc, name).map_err(refused)?)),
+        Some(name) => Ok(Some(NameText::new(alloc, name).map_err(refuse_memory)?)),
         None => Ok(None),
     }
 }
@@ -45,7 +45,7 @@ fn optional_name(alloc: Global, name: Option<&str>) -> Result<Option<NameText>, 
 pub fn selection_of(alloc: Global, words: &str) -> Result<Selection, AllocError> {
     let device = word_named(words, "device").unwrap_or("D1");
     Ok(Selection {
-        device: NameText::new(alloc, device).map_err(refused)?,
+        device: NameText::new(alloc, device).map_err(refuse_memory)?,
         variant: optional_name(alloc, word_named(words, "variant"))?,
         pname: optional_name(alloc, word_named(words, "pname"))?,
     })

@@ -17,7 +17,7 @@ fn push_path(alloc: Global, text: &mut String, path: &Path) -> Result<(), AllocE
 }
 
 // The kind of a fault and its path.
-fn shown(alloc: Global, fault: &JobFault) -> Result<Vec<u8>, AllocError> {
+fn show_fault(alloc: Global, fault: &JobFault) -> Result<Vec<u8>, AllocError> {
     let Some(path) = fault.path() else {
         return Err(AllocError);
     };
@@ -34,7 +34,7 @@ pub fn read(alloc: Global, bytes: &[u8]) -> Result<Vec<u8>, AllocError> {
         Ok(_) => Vec::from_slice(alloc, b"ok\n"),
         Err(JobRefusal::BadJson) => Vec::from_slice(alloc, b"BadJson\n"),
         Err(JobRefusal::OutOfMemory) => Err(AllocError),
-        Err(JobRefusal::Fault(fault)) => shown(alloc, &fault),
+        Err(JobRefusal::Fault(fault)) => show_fault(alloc, &fault),
     }
 }
 

@@ -2,7 +2,7 @@
 ghost use Rattle.probe_core.specs.Ranges.{IsBenchJob};
 ghost use Rattle.report_lines.specs.Shown.{IsShownJob};
 
-use crate::options::refused;
+use crate::options::refuse_memory;
 use access_calls::{Ended, Ending, Report, StopCause};
 use dap_base::{MemorySink, NameText, OutOfMemory, number};
 use job_text::{Job, job_of};
@@ -170,7 +170,7 @@ pub fn ended_of(alloc: Global, words: &str) -> Result<Ended, AllocError> {
         ending: ending_of(words, numbers),
         units: 3,
         skipped: numbers.skipped,
-        variables: variables(alloc).map_err(refused)?,
+        variables: variables(alloc).map_err(refuse_memory)?,
     })
 }
 
@@ -178,7 +178,7 @@ pub fn ended_of(alloc: Global, words: &str) -> Result<Ended, AllocError> {
 fn bench_of(alloc: Global, job: &BenchJob, call: u32) -> Result<FaultyBench, AllocError>
     requires { IsBenchJob job.now }
 {
-    let mut bench = FaultyBench::new(alloc, &[call]).map_err(refused)?;
+    let mut bench = FaultyBench::new(alloc, &[call]).map_err(refuse_memory)?;
     match bench.load(alloc, job) {
         Ok(()) => Ok(bench),
         Err(_) => Err(AllocError),
@@ -186,7 +186,7 @@ fn bench_of(alloc: Global, job: &BenchJob, call: u32) -> Result<FaultyBench, All
 }
 
 // What was put into a sink, and a line of the error that ended it.
-fn written(
+fn show_written(
     alloc: Global,
     sink: &MemorySink,
     end: Result<(), TextEnd>,
@@ -208,9 +208,9 @@ pub fn text_of<B: Bench>(
 ) -> Result<Vec<u8>, AllocError>
     requires { IsShownJob job.now }
 {
-    let mut sink = MemorySink::new(alloc, &[put]).map_err(refused)?;
+    let mut sink = MemorySink::new(alloc, &[put]).map_err(refuse_memory)?;
     let end = texts(alloc, job, ended, bench, &mut sink);
-    written(alloc, &sink, end)
+    show_written(alloc, &sink, end)
 }
 
 // The same, where words name the ending and the numbers.
@@ -225,7 +225,7 @@ fn report_of(alloc: Global, job: &Job, words: &str) -> Result<Vec<u8>, AllocErro
 
 /// What is written of a run of three units, where the bench has the fresh target of the job; and a line of the error that
 /// ended the text. The input is the job, a line feed, and words: the ending, what it was at, and numbers.
-pub fn reported(alloc: Global, input: &[u8]) -> Result<Vec<u8>, AllocError> {
+pub fn report_run(alloc: Global, input: &[u8]) -> Result<Vec<u8>, AllocError> {
     let Ok(input) = str::from_utf8(input) else {
         return Err(AllocError);
     };

@@ -14,7 +14,7 @@ fn name_or_dash(name: &Option<NameText>) -> &str {
 }
 
 // What is asked for.
-fn shown(alloc: Global, asked: &Asked) -> Result<String, AllocError> {
+fn show_asked(alloc: Global, asked: &Asked) -> Result<String, AllocError> {
     let selection = &asked.selection;
     let names = format!(in alloc;
         "device {} variant {} pname {} sequence {}",
@@ -33,7 +33,7 @@ pub fn asked_text(alloc: Global, text: &[u8]) -> Result<Vec<u8>, AllocError> {
         return Vec::from_slice(alloc, b"out of memory\n");
     };
     match asked_of(alloc, &words) {
-        Ok(asked) => Vec::from_slice(alloc, shown(alloc, &asked)?.as_bytes()),
+        Ok(asked) => Vec::from_slice(alloc, show_asked(alloc, &asked)?.as_bytes()),
         Err(WordsError::Usage) => Vec::from_slice(alloc, b"usage\n"),
         Err(WordsError::OutOfMemory) => Vec::from_slice(alloc, b"out of memory\n"),
     }

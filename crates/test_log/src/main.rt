@@ -15,7 +15,7 @@ use std::io;
 use test_tables::{Row, Tally, table_of};
 
 // What a call with these words writes of the job of a row, and its status.
-fn called(alloc: Global, words: &str, row: &Row) -> Result<Vec<u8>, AllocError> {
+fn call_log(alloc: Global, words: &str, row: &Row) -> Result<Vec<u8>, AllocError> {
     let Ok(words) = words_of(alloc, words) else {
         return Vec::from_slice(alloc, b"out of memory\n");
     };
@@ -30,9 +30,9 @@ fn called(alloc: Global, words: &str, row: &Row) -> Result<Vec<u8>, AllocError> 
 
 // What comes of a row: of the form `call` and words the text that is written and the status, of the form `words` what the words of the
 // row ask for.
-fn tried(alloc: Global, row: &Row) -> Result<Vec<u8>, AllocError> {
+fn try_row(alloc: Global, row: &Row) -> Result<Vec<u8>, AllocError> {
     match row.form.as_str().strip_prefix("call") {
-        Some(words) => called(alloc, words, row),
+        Some(words) => call_log(alloc, words, row),
         None => asked_text(alloc, row.input.as_slice()),
     }
 }
@@ -42,7 +42,7 @@ fn try_table(rt: &HostRuntime, name: &str) -> io::Result<()> {
     let mut tally = Tally::new();
     for mut row in table_of(rt, name)? {
         row.expected.push(b'\n')?;
-        let written = tried(rt.alloc(), &row)?;
+        let written = try_row(rt.alloc(), &row)?;
         tally.compare(rt, name, &row, written.as_slice())?;
     }
     tally.print(rt, name)

@@ -46,7 +46,7 @@ fn is_short_before(command: &Command<'_>, bytes: &[u8]) -> bool
 
 // Writes a command, and says where what is read of its bytes is not that command, where fewer bytes are not too short, where one
 // more is not too long, and where more is written than the command.
-fn shown(alloc: Global, command: &Command<'_>) -> Result<String, RowError> {
+fn show_command(alloc: Global, command: &Command<'_>) -> Result<String, RowError> {
     if !is_command(command) {
         return Err(RowError::Unreadable);
     }
@@ -72,7 +72,7 @@ fn shown(alloc: Global, command: &Command<'_>) -> Result<String, RowError> {
 // A Transfer of the requests of a text.
 fn transfer(alloc: Global, text: &str) -> Result<String, RowError> {
     let requests = requests_of(alloc, text)?;
-    shown(alloc, &Command::Transfer(requests.as_slice()))
+    show_command(alloc, &Command::Transfer(requests.as_slice()))
 }
 
 // A block of two writes: the request byte and the words.
@@ -80,7 +80,7 @@ fn block(alloc: Global, words: &mut RowWords<'_>) -> Result<String, RowError> {
     let request = words.number8()?;
     let two = [words.number32()?, words.number32()?];
     words.end()?;
-    shown(
+    show_command(
         alloc,
         &Command::WriteBlock {
             request,
@@ -108,6 +108,6 @@ impl Trial for WrittenCommands {
         }
         let command = command_of(&mut words)?;
         words.end()?;
-        shown(alloc, &command)
+        show_command(alloc, &command)
     }
 }

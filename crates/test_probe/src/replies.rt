@@ -90,7 +90,7 @@ fn needs_room(reply: &Reply<'_>, size: usize) -> bool
 }
 
 // Writes a reply, and says where more is written than it, and where it is written though there is no room.
-fn shown(alloc: Global, reply: &Reply<'_>) -> Result<String, RowError> {
+fn show_reply(alloc: Global, reply: &Reply<'_>) -> Result<String, RowError> {
     if !is_reply(reply) {
         return Err(RowError::Unreadable);
     }
@@ -113,7 +113,7 @@ fn shown(alloc: Global, reply: &Reply<'_>) -> Result<String, RowError> {
 // A reply to DAP_Info with these bytes.
 fn info(alloc: Global, text: &str) -> Result<String, RowError> {
     let bytes = bytes_of(alloc, text)?;
-    shown(alloc, &Reply::Info(bytes.as_slice()))
+    show_reply(alloc, &Reply::Info(bytes.as_slice()))
 }
 
 // A reply to DAP_Transfer with two words: count, response, words.
@@ -121,7 +121,7 @@ fn transfer(alloc: Global, words: &mut RowWords<'_>) -> Result<String, RowError>
     let count = words.number8()?;
     let response = words.number8()?;
     let two = [words.number32()?, words.number32()?];
-    shown(
+    show_reply(
         alloc,
         &Reply::Transfer {
             count,
@@ -155,7 +155,7 @@ impl Trial for WrittenReplies {
             _ => return Err(RowError::Unreadable),
         };
         words.end()?;
-        shown(alloc, &reply)
+        show_reply(alloc, &reply)
     }
 }
 

@@ -59,7 +59,7 @@ fn read_call(alloc: Global, head: &str) -> Result<CallRow, AllocError> {
 }
 
 // The call with its text: what is answered, asked and written.
-fn called(alloc: Global, row: CallRow, text: &str) -> Result<String, AllocError> {
+fn make_row_call(alloc: Global, row: CallRow, text: &str) -> Result<String, AllocError> {
     let CallRow {
         function,
         numbers,
@@ -93,7 +93,7 @@ fn called(alloc: Global, row: CallRow, text: &str) -> Result<String, AllocError>
 /// What is answered, asked and written at a call: what is given, variables, the function, numbers, and after `"` a text.
 pub(crate) fn call_text(alloc: Global, input: &str) -> Result<String, AllocError> {
     let (head, text) = head_and_text(input);
-    called(alloc, read_call(alloc, head)?, text)
+    make_row_call(alloc, read_call(alloc, head)?, text)
 }
 
 // A number, or the result of a number.

@@ -46,7 +46,7 @@ fn set_of(alloc: Global, job: &Job, variant: Option<&str>) -> Option<Checked> {
 }
 
 // The run of `Main` over a target and a sink; `None` where memory is refused.
-fn recorded(
+fn record_run(
     alloc: Global,
     job: &Job,
     checked: &Checked,
@@ -84,7 +84,7 @@ fn run_over(
 ) -> io::Result<()>
     requires settings { AreSettings job.now.settings }
 {
-    match recorded(rt.alloc(), job, checked, target, sink) {
+    match record_run(rt.alloc(), job, checked, target, sink) {
         Some(run) => show_run(rt, job, &run, sink, target),
         None => Err(out_of_memory()),
     }

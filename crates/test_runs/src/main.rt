@@ -19,7 +19,7 @@ use std::io;
 use test_tables::{Row, Tally, table_of};
 
 // What comes of an input, by the form of its row.
-fn tried(alloc: Global, form: &str, input: &str) -> Result<String, AllocError> {
+fn try_row(alloc: Global, form: &str, input: &str) -> Result<String, AllocError> {
     match form {
         "operator" => terms::operator_text(alloc, input),
         "line" => terms::line_text(alloc, input),
@@ -41,7 +41,7 @@ fn tried(alloc: Global, form: &str, input: &str) -> Result<String, AllocError> {
 // What comes of a row, whose input is text.
 fn tried_row(alloc: Global, row: &Row) -> Result<String, AllocError> {
     match str::from_utf8(row.input.as_slice()) {
-        Ok(input) => tried(alloc, row.form.as_str(), input),
+        Ok(input) => try_row(alloc, row.form.as_str(), input),
         Err(_) => String::from_str(alloc, "the input is no text"),
     }
 }

@@ -2,7 +2,7 @@
 use crate::ends::ending_text;
 use crate::given::Given;
 use crate::reading::{no_memory, number_in};
-use crate::sets::{block, checked, settings, steps_of};
+use crate::sets::{block, check_set, settings, steps_of};
 use crate::shown::with_calls_and_lines;
 use access_calls::{Ended, Scripted};
 use control_flow::run;
@@ -112,7 +112,7 @@ fn shown_run(alloc: Global, set: &Checked, given: Given) -> Result<String, Alloc
 fn set_of(alloc: Global, debugvars: &str, main: Steps, sub: &str) -> Result<Checked, CheckFault> {
     let mut steps = Steps::new(alloc);
     steps.push(block(alloc, sub)?)?;
-    checked(alloc, debugvars, main, steps)
+    check_set(alloc, debugvars, main, steps)
 }
 
 /// How a run ends, and what is asked and written. An input has parts between ` | `: steps of `Main`, `vars` with the debug variables, `sub`

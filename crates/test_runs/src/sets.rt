@@ -53,7 +53,7 @@ fn set(alloc: Global, debugvars: &str, main: Steps, sub: Steps) -> Result<SeqSet
 }
 
 /// The checked set of `Main` and `Sub`, with these debug variables.
-pub(crate) fn checked(
+pub(crate) fn check_set(
     alloc: Global,
     debugvars: &str,
     main: Steps,

@@ -37,7 +37,7 @@ fn digit(byte: u8) -> u8
 /// stands for that character.
 ///
 /// An error where memory is refused.
-pub fn unescaped(alloc: Global, text: &str) -> Result<Vec<u8>, AllocError> {
+pub fn unescape(alloc: Global, text: &str) -> Result<Vec<u8>, AllocError> {
     let mut bytes = Vec::new(alloc);
     let mut state = State::Text;
     for byte in text.as_bytes().iter().copied() {

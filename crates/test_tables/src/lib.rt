@@ -5,6 +5,6 @@ mod escapes;
 mod table;
 mod tally;
 
-pub use escapes::unescaped;
+pub use escapes::unescape;
 pub use table::{Row, rows_of, table_of};
 pub use tally::Tally;

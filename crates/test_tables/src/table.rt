@@ -1,5 +1,5 @@
 //! The files of tables.
-use crate::escapes::unescaped;
+use crate::escapes::unescape;
 use std::alloc::{AllocError, Global};
 use std::{fs, io};
 
@@ -41,7 +41,7 @@ impl Frame {
         if self.raw {
             Vec::from_slice(alloc, text.as_bytes())
         } else {
-            unescaped(alloc, text)
+            unescape(alloc, text)
         }
     }
 
@@ -70,14 +70,14 @@ impl Frame {
             line: number,
             form: self.form.clone()?,
             input,
-            expected: unescaped(alloc, expected)?,
+            expected: unescape(alloc, expected)?,
         })
     }
 }
 
 /// The rows of a table, in order. Each line is a row, `INPUT => EXPECTED`, except empty lines, comments, which begin with `#`, and lines
 /// that begin with `@` and count for the rows after them. `@form WORDS` says how they are tried. `@before TEXT` and `@after TEXT` say what
-/// stands before and after each input. Both sides of a row have the escapes of [`unescaped`]; after a line `@raw` inputs, and what stands
+/// stands before and after each input. Both sides of a row have the escapes of [`unescape`]; after a line `@raw` inputs, and what stands
 /// before and after them, have none.
 ///
 /// An error where memory is refused.

@@ -13,7 +13,7 @@ pub struct Tally {
 }
 
 // Bytes as text; those that are no text by their numbers.
-fn shown(alloc: Global, bytes: &[u8]) -> Result<String, AllocError> {
+fn show_bytes(alloc: Global, bytes: &[u8]) -> Result<String, AllocError> {
     match str::from_utf8(bytes) {
         Ok(text) => String::from_str(alloc, text),
         Err(_) => format!(in alloc; "{bytes:?}"),
@@ -42,9 +42,9 @@ impl Tally {
             return Ok(());
         }
         self.differ = self.differ.saturating_add(1);
-        let input = shown(rt.alloc(), row.input.as_slice())?;
-        let expected = shown(rt.alloc(), row.expected.as_slice())?;
-        let written = shown(rt.alloc(), written)?;
+        let input = show_bytes(rt.alloc(), row.input.as_slice())?;
+        let expected = show_bytes(rt.alloc(), row.expected.as_slice())?;
+        let written = show_bytes(rt.alloc(), written)?;
         let line = row.line;
         println!(rt; "{table}:{line}: {input}\nexpected: {expected}\ncame:     {written}")
     }
