@@ -62,10 +62,7 @@ abbrev pub IsPartOfAction : Action → TargetState → TargetState → Type 0
 IsPartOfAction (Makes a) t u = ⊥
 IsPartOfAction (Polls mask requested turns) t u = (made : ℕ) × (made < (polled turns mask requested t).reads) × Agree u (polled made mask requested t).next
 IsPartOfAction (Commands (probe.Delay micros)) t u = (done : ℕ) × (65535 * done < micros) × Agree u (commanded t (probe.Delay (65535 * done))).next
-IsPartOfAction (Commands (probe.Abort value)) t u = ⊥
-IsPartOfAction (Commands (probe.Pins output select wait)) t u = ⊥
-IsPartOfAction (Commands (probe.Clock hertz)) t u = ⊥
-IsPartOfAction (Commands (probe.Line count bits)) t u = ⊥
+IsPartOfAction (Commands other) t u = ⊥
 
 -- the same of an entry, where there is one
 abbrev pub IsPartOfEntry : Option Entry → TargetState → TargetState → Type 0

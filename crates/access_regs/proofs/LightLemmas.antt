@@ -8,7 +8,8 @@ use Rattle.access_regs.specs.declared.known.Unsettled.{Unsettled}
 use Rattle.access_regs.specs.declared.planner.Planner.{Planner}
 use Rattle.target_calls.specs.Asks.{AreAskable}
 use Rattle.target_calls.specs.Journal.{Entry, target_after}
-use Rattle.target_calls.specs.Weights.{commands_for, weight, weight_in}
+use Rattle.target_machine.specs.Packets.{commands_for}
+use Rattle.target_calls.specs.Weights.{weight, weight_in}
 use Rattle.target_calls.specs.declared.calls.Ask.{Ask}
 use Rattle.target_calls.specs.declared.journal.Part.{Part}
 use Rattle.target_calls.specs.declared.journal.Part.TheVariants.{Ends, Leads, Settles}
@@ -229,10 +230,7 @@ last_light (unit.Poll mask value turns) h = h.1
 
 command_light : (c : ProbeCall) → IsSoundCall (Probe c) → commands_for c ≤ 60000000
 command_light (probe.Delay micros) h = let few = delay_few micros 60000000 (omega arith) (omega (arith, h)) in few
-command_light (probe.Abort value) h = omega arith
-command_light (probe.Pins output select wait) h = omega arith
-command_light (probe.Clock hertz) h = omega arith
-command_light (probe.Line count bits) h = omega arith
+command_light other h = omega arith
 
 issue_light : (p : Planner) (t : TargetState) (k : Kept) (forgive : Bool) (call : Call) → IsSoundCall call → most_of (issue p t k forgive call).steps ≤ 60000010
 issue_light p t k forgive (Access asked) h = by_mark (is_alone p forgive && may_forgive (Access asked)) refl

@@ -251,32 +251,20 @@ module _ (mask requested : ℕ) where
 -- ---- commands
 
 abbrev pub commands : ProbeCall → TargetState → TargetState
-commands (probe.Delay micros) t = delayed t micros
 commands (probe.Abort value) t = abort_write value t
-commands (probe.Pins output select wait) t = pins_set t output select
-commands (probe.Clock hertz) t = clock_set t hertz
-commands (probe.Line count bits) t = line_shifted t count bits
+commands other t = (commanded t other).next
 
 pub commands_beside : (c : ProbeCall) (t : TargetState) → Beside (commands c) t
-commands_beside (probe.Delay micros) t = record { commutes = λ r m. refl; ports = refl; clear = λ e. e; few = refl }
 commands_beside (probe.Abort value) t = abort_beside value t
-commands_beside (probe.Pins output select wait) t = record { commutes = λ r m. refl; ports = refl; clear = λ e. e; few = refl }
-commands_beside (probe.Clock hertz) t = record { commutes = λ r m. refl; ports = refl; clear = λ e. e; few = refl }
-commands_beside (probe.Line count bits) t = record { commutes = λ r m. refl; ports = refl; clear = λ e. e; few = refl }
+commands_beside other t = record { commutes = λ r m. refl; ports = refl; clear = λ e. e; few = refl }
 
 pub commands_select : (c : ProbeCall) (t : TargetState) → (commands c t).select ≡ t.select
-commands_select (probe.Delay micros) t = refl
 commands_select (probe.Abort value) t = abort_select value t
-commands_select (probe.Pins output select wait) t = refl
-commands_select (probe.Clock hertz) t = refl
-commands_select (probe.Line count bits) t = refl
+commands_select other t = refl
 
 pub commands_power : (c : ProbeCall) (t : TargetState) → acknowledges t 0x1000_0000 ≡ true → acknowledges (commands c t) 0x1000_0000 ≡ true
-commands_power (probe.Delay micros) t on = on
 commands_power (probe.Abort value) t on = abort_power value t on
-commands_power (probe.Pins output select wait) t on = on
-commands_power (probe.Clock hertz) t on = on
-commands_power (probe.Line count bits) t on = on
+commands_power other t on = on
 
 -- what a command answers: the pins, or nothing
 abbrev pub command_outcome : ProbeCall → TargetState → Outcome
@@ -284,8 +272,5 @@ command_outcome (probe.Pins output select wait) t = Value (pins_set t output sel
 command_outcome _ t = Done
 
 pub commanded_is : (c : ProbeCall) (t : TargetState) → t.sticky ≡ false → commanded t c ≡ record { outcome = command_outcome c t; next = commands c t }
-commanded_is (probe.Delay micros) t clear = refl
 commanded_is (probe.Abort value) t clear = abort_writes t value clear
-commanded_is (probe.Pins output select wait) t clear = refl
-commanded_is (probe.Clock hertz) t clear = refl
-commanded_is (probe.Line count bits) t clear = refl
+commanded_is other t clear = refl

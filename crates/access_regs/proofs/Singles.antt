@@ -71,18 +71,12 @@ module _ (t : TargetState) (large : List ℕ) (forgive : Bool) where
   probe_one c good = one_by _ (Probe c) large (commanded t c) (forgive && false) (issued t (Commands c ∷ [])) (probe_is c) good
 
 no_fault : (c : ProbeCall) (s : TargetState) → is_fault (command_outcome c s) ≡ false
-no_fault (probe.Delay micros) s = refl
-no_fault (probe.Abort value) s = refl
 no_fault (probe.Pins output select wait) s = refl
-no_fault (probe.Clock hertz) s = refl
-no_fault (probe.Line count bits) s = refl
+no_fault other s = refl
 
 same_pins : (t : TargetState) (c : ProbeCall) (r : ℕ) (m : Ports) → command_outcome c (other t r m) ≡ command_outcome c t
-same_pins t (probe.Delay micros) r m = refl
-same_pins t (probe.Abort value) r m = refl
 same_pins t (probe.Pins output select wait) r m = refl
-same_pins t (probe.Clock hertz) r m = refl
-same_pins t (probe.Line count bits) r m = refl
+same_pins t other r m = refl
 
 module _ (k : Kept) (large : List ℕ) (t u : TargetState) (f : Follows k large t u) where
   single : (i : Issue) (d : CallDone) (call : Call) (a : Action) → i.steps ≡ record { part = Ends; action = a } ∷ [] → IsOne d call large (acted t a) →

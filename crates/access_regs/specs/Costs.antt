@@ -53,10 +53,7 @@ poll_cost k t mask value turns = 1 + (if bank_zero k then portions turns else we
 -- the need points of a command of the probe: two, and one more for each full 65,535 microseconds of a delay
 abbrev pub command_cost : ProbeCall → ℕ
 command_cost (probe.Delay micros) = 2 + micros / 65535
-command_cost (probe.Abort value) = 2
-command_cost (probe.Pins output select wait) = 2
-command_cost (probe.Clock hertz) = 2
-command_cost (probe.Line count bits) = 2
+command_cost other = 2
 
 -- the need points of a call that forgives nothing, besides those of reads of CSW and CFG
 abbrev pub call_cost : Kept → TargetState → Call → ℕ

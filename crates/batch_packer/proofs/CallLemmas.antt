@@ -14,7 +14,7 @@ use Rattle.target_machine.specs.State.{TargetState}
 use Rattle.target_machine.specs.declared.unit.ProbeCall.{ProbeCall}
 use Rattle.target_machine.specs.declared.unit.ProbeCall.TheVariants as probe
 use Rattle.dap_messages.specs.Commands.{IsCommand}
-use Rattle.target_calls.specs.Weights.{delay_commands}
+use Rattle.target_machine.specs.Packets.{delay_commands}
 use Rattle.dap_transfer.specs.Lines as transfers
 use Rattle.dap_transfer.specs.State.{TransferState, grown}
 use Rattle.dap_transfer.proofs.Blocks.{grown_twice}
@@ -135,18 +135,12 @@ call_acts e (probe.Line count bits) one command = record {
 
 -- it leaves the settings
 pub call_sets_nothing : (e : ExecutorState) (c : ProbeCall) → (bench.done e (command_of c)).next.transfers.setting ≡ e.transfers.setting
-call_sets_nothing e (probe.Delay micros) = refl
 call_sets_nothing e (probe.Abort value) = refl
-call_sets_nothing e (probe.Pins output select wait) = refl
-call_sets_nothing e (probe.Clock hertz) = refl
-call_sets_nothing e (probe.Line count bits) = refl
+call_sets_nothing e other = refl
 
 pub call_gives : (e : ExecutorState) (c : ProbeCall) → number_given e (command_of c) ≡ given (acted e.transfers.line.target (Commands c)).outcome
-call_gives e (probe.Delay micros) = refl
 call_gives e (probe.Abort value) = sym (ap (λ (x : Attempt). given x.outcome) (abort_done e.transfers.line.target value))
-call_gives e (probe.Pins output select wait) = refl
-call_gives e (probe.Clock hertz) = refl
-call_gives e (probe.Line count bits) = refl
+call_gives e other = refl
 
 -- ---- what may follow
 

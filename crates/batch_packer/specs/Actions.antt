@@ -51,7 +51,7 @@ pub record DoesAction (x : Action) (m o : BenchState) : Type 0 where
 -- whether one command is enough for a probe call: for all but a delay of more than 65,535 microseconds
 abbrev pub is_one : ProbeCall → Bool
 is_one (probe.Delay micros) = nat_le micros 65535
-is_one c = true
+is_one other = true
 
 -- the CMSIS-DAP command that makes a probe call for which one is enough
 abbrev pub command_of : ProbeCall → CommandValue

@@ -7,7 +7,8 @@ use Rattle.target_machine.specs.Plain.{Action, Commands, Makes, Polls}
 use Rattle.target_machine.specs.State.{TargetState}
 use Rattle.target_machine.specs.declared.unit.ProbeCall.{ProbeCall}
 use Rattle.target_machine.specs.declared.unit.ProbeCall.TheVariants as probe
-use Rattle.target_calls.specs.Weights.{commands_for, commands_of, delay_commands, weight}
+use Rattle.target_machine.specs.Packets.{commands_for, delay_commands}
+use Rattle.target_calls.specs.Weights.{commands_of, weight}
 use Rattle.dap_transfer.specs.State.{Setting, TransferState}
 use Rattle.probe_core.specs.Bench.{BenchState, StepsTo}
 use Rattle.probe_core.specs.Bench.{Reported as BenchReported}
@@ -200,10 +201,7 @@ delay_lefts x y z count rest micros (Err end) few some is h d = delay_left x y z
 
 cleared : (call : ProbeCall) (m o : BenchState) → MayClear call m → Acts (Commands call) (transfers_of m) (transfers_of o) → (target_of o.probe).sticky ≡ false
 cleared (probe.Abort value) m o h acts = abort_clears value (transfers_of m) (transfers_of o) h.clears_it acts
-cleared (probe.Delay micros) m o h acts = absurd (let e = h.clears_it in cc)
-cleared (probe.Pins output select wait) m o h acts = absurd (let e = h.clears_it in cc)
-cleared (probe.Clock hertz) m o h acts = absurd (let e = h.clears_it in cc)
-cleared (probe.Line count bits) m o h acts = absurd (let e = h.clears_it in cc)
+cleared other m o h acts = absurd (let e = h.clears_it in cc)
 
 cleared_done : (call : ProbeCall) (word : ℕ) (m o : BenchState) → MayClear call m → HasMadeAction (Commands call) word m o → HasDoneWhole (Commands call) word m o
 cleared_done call word m o h d =
@@ -248,10 +246,7 @@ call_dones x y call (Ok word) h = steps_map _ _ (λ m o f can. call_done call wo
 -- a call that is one command weighs 1
 one_weighs : (call : ProbeCall) → is_one call ≡ true → commands_for call ≡ 1
 one_weighs (probe.Delay micros) one = delay_one micros (let few : micros ≤ 65535 = grind (arith, one) in few)
-one_weighs (probe.Abort value) one = refl
-one_weighs (probe.Pins output select wait) one = refl
-one_weighs (probe.Clock hertz) one = refl
-one_weighs (probe.Line count bits) one = refl
+one_weighs other one = refl
 
 untouched_less : (call : ProbeCall) (m o : BenchState) → is_one call ≡ true → o.probe.executor ≡ m.probe.executor → DidLess (Commands call) m o
 untouched_less call m o one same = record {
@@ -298,10 +293,7 @@ uncut_response (Err (ends.Cut cut)) h = absurd h
 -- every call but a delay is one command
 pub one_unless : (call : ProbeCall) → ((micros : ℕ) → call ≡ probe.Delay micros → ⊥) → is_one call ≡ true
 one_unless (probe.Delay micros) never = absurd (never micros refl)
-one_unless (probe.Abort value) never = refl
-one_unless (probe.Pins output select wait) never = refl
-one_unless (probe.Clock hertz) never = refl
-one_unless (probe.Line count bits) never = refl
+one_unless other never = refl
 
 -- a call that is a delay
 pub delay_dones : (x y : Option BenchState) (call : ProbeCall) (micros : ℕ) (result : Result ℕ FlightEnd) → call ≡ probe.Delay micros →

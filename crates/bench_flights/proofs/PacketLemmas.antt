@@ -83,10 +83,7 @@ call_delay_few x y call micros (Ok word) is h =
 
 cost_two : (call : ProbeCall) → 1 ≤ command_cost call - 1
 cost_two (probe.Delay micros) = omega arith
-cost_two (probe.Abort value) = omega arith
-cost_two (probe.Pins output select wait) = omega arith
-cost_two (probe.Clock hertz) = omega arith
-cost_two (probe.Line count bits) = omega arith
+cost_two other = omega arith
 
 pub call_few : (x y : Option BenchState) (call : ProbeCall) (result : Result ℕ FlightEnd) → OnOk result (StepsTo (λ m o. IsInRange (target_of m.probe) → SendsFew 1 m o) x y) →
     OnOk result (StepsTo (λ m o. IsInRange (target_of m.probe) → SendsFew (command_cost call - 1) m o) x y)

@@ -37,11 +37,8 @@ steps_join P Q R f (Some m) (Some n) (Some o) h k = f m n o h k
 
 -- no command of a call sets the idle cycles
 call_keeps_idle : (e : ExecutorState) (call : ProbeCall) → (done e (command_of call)).next.idle ≡ e.idle
-call_keeps_idle e (probe.Delay micros) = refl
 call_keeps_idle e (probe.Abort value) = refl
-call_keeps_idle e (probe.Pins output select wait) = refl
-call_keeps_idle e (probe.Clock hertz) = refl
-call_keeps_idle e (probe.Line count bits) = refl
+call_keeps_idle e other = refl
 
 acts_by : (call : ProbeCall) (m o : BenchState) → is_one call ≡ true → IsCommand (command_of call) → o.probe.executor ≡ (done m.probe.executor (command_of call)).next → Acts (Commands call) (transfers_of m) (transfers_of o)
 acts_by call m o one command same =
@@ -77,8 +74,5 @@ single_left x y call c (Err end) same one command h =
 
 -- its command is no Transfer and no block
 pub one_single : (call : ProbeCall) → is_single (command_of call) ≡ true
-one_single (probe.Delay micros) = refl
 one_single (probe.Abort value) = refl
-one_single (probe.Pins output select wait) = refl
-one_single (probe.Clock hertz) = refl
-one_single (probe.Line count bits) = refl
+one_single other = refl

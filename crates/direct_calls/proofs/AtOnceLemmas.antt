@@ -255,11 +255,8 @@ free_either false x y h = h
 -- none of them faults
 pub command_passes : (t : TargetState) (c : ProbeCall) → is_fault (commanded t c).outcome ≡ false
 unfolding attempt is_free
-command_passes t (probe.Delay micros) = refl
 command_passes t (probe.Abort value) = free_either t.sticky _ _ refl
-command_passes t (probe.Pins output select wait) = refl
-command_passes t (probe.Clock hertz) = refl
-command_passes t (probe.Line count bits) = refl
+command_passes t other = refl
 
 probe_by : (b : Bool) (k : ℕ) (next : TargetState) (large : List ℕ) (actions : List Action) → b ≡ false → IsDone (ended b false false k next large actions) (Answered k) next large
 probe_by true k next large actions h = absurd cc

@@ -1,18 +1,8 @@
 //! Register accesses, made one after the other.
 ghost use Rattle.std.specs.Prelude.{◌≡◌, map};
-ghost use Rattle.target_machine.specs.Plain.{Makes, given, in_order, is_fault, then_acted};
+ghost use Rattle.target_machine.specs.Plain.{Makes, in_order, is_fault, then_acted};
 
 use target_machine::{Outcome, RegAccess, Target, attempt};
-
-// The number that an access gave; a write or a fault gave none, which counts as 0.
-pub(crate) fn number_of(outcome: Outcome) -> u32
-    ensures { result ≡ given outcome }
-{
-    match outcome {
-        Outcome::Value(value) => value,
-        Outcome::Done | Outcome::Fault => 0,
-    }
-}
 
 // The access faulted.
 pub(crate) fn has_faulted(outcome: Outcome) -> bool

@@ -6,7 +6,6 @@ ghost use Rattle.target_machine.specs.Sound.{IsSound, IsSoundCall, IsSoundProbe}
 ghost use Rattle.target_machine.specs.declared.unit.Call.TheVariants as calls;
 ghost use Rattle.direct_calls.specs.Made.{IsDone, IsRefused, MadeAs, call_end_of, takes_memory};
 
-use crate::commands::command_now;
 use crate::made::{Made, met_fault};
 use crate::plain::make_plain;
 use dap_base::OutOfMemory;
@@ -61,7 +60,7 @@ pub fn command_at_once(target: &mut Target, call: ProbeCall) -> u32
     // It ends with this result, and leaves the target so.
     ensures answer { (large : List ℕ) → IsDone (call_done target.old large false (calls.Probe call)) (Answered result) target.new large }
 {
-    command_now(target, call)
+    target.command(call)
 }
 
 /// Makes a call, alone and at once, and answers how it ends. `large` lists the access ports that are known to have large

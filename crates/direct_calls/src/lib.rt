@@ -3,7 +3,6 @@
 
 mod accesses;
 mod at_once;
-mod commands;
 mod list;
 mod made;
 mod plain;

@@ -5,7 +5,7 @@ ghost use Rattle.target_machine.specs.Sound.{IsSound, IsSoundMemory};
 ghost use Rattle.target_machine.specs.declared.unit.Call.TheVariants as calls;
 ghost use Rattle.direct_calls.specs.Made.{IsDone, IsRefused, MadeAs, call_end_of, memory_end_by, takes_memory};
 
-use crate::accesses::{has_faulted, make_all, make_next, number_of};
+use crate::accesses::{has_faulted, make_all, make_next};
 use crate::made::{Made, made_of};
 use dap_base::OutOfMemory;
 use target_calls::accesses::{
@@ -44,7 +44,7 @@ fn transfer_by_each(
     if has_faulted(csw) {
         return csw;
     }
-    let csw = access_ap(false, CSW, plain_csw(number_of(csw), size));
+    let csw = access_ap(false, CSW, plain_csw(csw.number(), size));
     let mut last = attempt(target, csw);
     if is_large {
         last = make_next(target, last, access_ap(false, TAR_HIGH, high_of(address)));

@@ -54,10 +54,7 @@ has_result (Access (unit.Ap read ap addr value)) = read
 has_result (Access (unit.Dp read addr value)) = read
 has_result (Access (unit.Poll mask value turns)) = true
 has_result (Probe (probe.Pins output select wait)) = true
-has_result (Probe (probe.Delay micros)) = false
-has_result (Probe (probe.Abort value)) = false
-has_result (Probe (probe.Clock hertz)) = false
-has_result (Probe (probe.Line count bits)) = false
+has_result (Probe other) = false
 
 -- how a call ends
 abbrev pub end_text : Bool → Option CallEnd → List ℕ

@@ -9,7 +9,7 @@ use Rattle.target_machine.specs.declared.unit.ProbeCall.{ProbeCall}
 use Rattle.target_machine.specs.declared.unit.ProbeCall.TheVariants as probe
 use Rattle.target_calls.specs.Asks.{probe_ask}
 use Rattle.target_calls.specs.NeedPoints.{Cost, asked, needed_more}
-use Rattle.target_calls.specs.Weights.{commands_for}
+use Rattle.target_machine.specs.Packets.{commands_for}
 use Rattle.target_calls.specs.World.{World, small_after, small_now, stop, world_after}
 use Rattle.target_calls.specs.declared.calls.Ask.{Ask}
 use Rattle.target_calls.specs.declared.journal.Part.TheVariants.{Ends}
@@ -29,10 +29,7 @@ use Rattle.packed_access.proofs.AskLemmas.{set_here}
 -- it weighs little
 pub command_light : (call : ProbeCall) → IsSoundProbe call → commands_for call ≤ most_weight
 command_light (probe.Delay micros) h = omega (arith, h)
-command_light (probe.Abort value) h = omega arith
-command_light (probe.Pins output select wait) h = omega arith
-command_light (probe.Clock hertz) h = omega arith
-command_light (probe.Line count bits) h = omega arith
+command_light other h = omega arith
 
 small_here : (x : Option ℕ) (w : World) (call : ProbeCall) → small_after x w (probe_ask call) ≡ false
 unfolding call_done

@@ -241,10 +241,7 @@ has_cost p x y limits given limits' given' log new accesses rest paid points m0 
 
 command_some : (call : ProbeCall) → 1 ≤ command_cost call
 command_some (probe.Delay micros) = omega arith
-command_some (probe.Abort value) = omega arith
-command_some (probe.Pins output select wait) = omega arith
-command_some (probe.Clock hertz) = omega arith
-command_some (probe.Line count bits) = omega arith
+command_some other = omega arith
 
 pub has_commanded : (p : Planner) (x y : Option BenchState) (limits given limits' given' : Limits) (log new : LogState) (accesses : List RegAccess) (rest : List Entry) (call : ProbeCall) (points : ℕ) (m0 : BenchState) → HasIssued p x log accesses rest m0 → HasSpared p limits given x log (points + 1) m0 →
     StepsTo (λ m o. IsInRange (target_of m.probe) → SendsFew (command_cost call - 1) m o) x y → new.calls ≡ log.calls → log.confirmed ≤ new.confirmed → limits' ≡ limits → given' ≡ given → HasSpared p limits' given' y new (points + command_cost call) m0

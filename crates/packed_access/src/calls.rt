@@ -9,7 +9,8 @@ ghost use Rattle.bench_flights.specs.Flown.{IsSetTo};
 ghost use Rattle.packed_access.specs.Logs.{most_entries};
 ghost use Rattle.target_calls.specs.World.{small_now, start_world};
 ghost use Rattle.target_calls.specs.declared.calls.Ask.{Ask};
-ghost use Rattle.target_calls.specs.Asks.{IsProbeInRange, IsUnitInRange, is_wide, unit_ask};
+ghost use Rattle.target_machine.specs.InRange.{IsProbeInRange};
+ghost use Rattle.target_calls.specs.Asks.{IsUnitInRange, is_wide, unit_ask};
 ghost use Rattle.probe_core.specs.Probe.{target_of};
 ghost use Rattle.access_regs.specs.Costs.{command_cost};
 ghost use Rattle.access_regs.specs.Journal.{is_alone};
@@ -75,8 +76,7 @@ fn points_of(call: ProbeCall) -> u64
 {
     match call {
         ProbeCall::Delay(micros) => 2 + u64::from(micros / 0xFFFF),
-        ProbeCall::Abort(_) | ProbeCall::Pins { .. } => 2,
-        ProbeCall::Clock(_) | ProbeCall::Line { .. } => 2,
+        _ => 2,
     }
 }
 

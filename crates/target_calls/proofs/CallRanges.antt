@@ -4,7 +4,7 @@ use Rattle.std.specs.Prelude.{◌==◌}
 use Rattle.std.proofs.Math.Nat.{div-le_self, mod-le}
 use Rattle.std.proofs.lemmas.Nat.{and_le_r}
 use Rattle.std.specs.List.{AllByRecursion}
-use Rattle.target_machine.proofs.ActionRanges.{acted_in_range, in_order_in_range}
+use Rattle.target_machine.proofs.ActionRanges.{acted_in_range, in_order_in_range, sound_in_range}
 use Rattle.target_machine.specs.InRange.{IsActionInRange, IsInRange, IsWord}
 use Rattle.target_machine.specs.Plain.{Action, Makes, Commands, CallDone, acted, after_cfg, ap_access_of, call_actions, call_done, cfg_actions, contains, csw_actions, csw_for, ended, forgives, given, has_large, in_order, is_fault, issued, memory_actions, needs_cfg, result_of, size_code, transfer_actions, unit_actions}
 use Rattle.target_machine.specs.Registers.{csw_others}
@@ -12,7 +12,6 @@ use Rattle.target_machine.specs.Sound.{IsSound, IsSoundCall, IsSoundMemory}
 use Rattle.target_machine.specs.State.{TargetState}
 use Rattle.target_machine.specs.declared.unit.Call.{Call}
 use Rattle.target_machine.specs.declared.unit.Call.TheVariants.{Access, Probe}
-use Rattle.target_machine.specs.declared.unit.ProbeCall.TheVariants as probe
 use Rattle.target_machine.specs.declared.unit.Unit.{Unit as AccessUnit}
 use Rattle.target_machine.specs.declared.unit.Unit.TheVariants as unit
 use Rattle.target_calls.specs.Asks.{AreAskable, IsAskable, IsCallInRange, IsUnitInRange}
@@ -105,11 +104,7 @@ unit_fits t large (unit.Poll mask value turns) sound range = (tt, tt)
 
 call_fits : (t : TargetState) (large : List ℕ) (call : Call) → IsSoundCall call → IsCallInRange call → Fit (call_actions t large call)
 call_fits t large (Access u) sound range = unit_fits t large u sound range
-call_fits t large (Probe (probe.Delay micros)) sound range = (tt, tt)
-call_fits t large (Probe (probe.Abort value)) sound range = (range, tt)
-call_fits t large (Probe (probe.Pins output select wait)) sound range = (tt, tt)
-call_fits t large (Probe (probe.Clock hertz)) sound range = (range, tt)
-call_fits t large (Probe (probe.Line count bits)) sound range = (sound.1, tt)
+call_fits t large (Probe c) sound range = (sound_in_range c sound range, tt)
 
 -- ---- what a call issues, gives and leaves
 

@@ -4,6 +4,7 @@ use Rattle.std.specs.Prelude.{◌==◌, bit_and}
 use Rattle.std.proofs.lemmas.List.Sums.{sum_by-append}
 use Rattle.target_machine.specs.Attempt.{attempt}
 use Rattle.target_machine.specs.Plain.{Action, Makes, Polls, Commands, Polled, acted, dp_read_of, looked, polled}
+use Rattle.target_machine.specs.Packets.{delay_commands}
 use Rattle.target_machine.specs.State.{TargetState}
 use Rattle.target_machine.specs.declared.access.Outcome.{Outcome}
 use Rattle.target_machine.specs.declared.access.Outcome.TheVariants.{Value, Done, Fault}
@@ -11,7 +12,7 @@ use Rattle.target_machine.specs.declared.unit.ProbeCall.TheVariants as probe
 use Rattle.target_calls.proofs.CallLists.{head_of, later_head, later_twice, later_zero}
 use Rattle.target_machine.specs.Counts.{one_if}
 use Rattle.target_calls.specs.Journal.{Entry, Passes, attempted_in, completes, first_fault, is_unforgiven, is_skip, skipped_in, target_after}
-use Rattle.target_calls.specs.Weights.{AreWeighty, IsWeighty, commands_in, commands_of, delay_commands, performed, registers_in, registers_of, weight, weight_in}
+use Rattle.target_calls.specs.Weights.{AreWeighty, IsWeighty, commands_in, commands_of, performed, registers_in, registers_of, weight, weight_in}
 use Rattle.target_calls.specs.World.{later_by}
 
 pub target_append : (t : TargetState) (xs ys : List Entry) → target_after t (xs ++ ys) ≡ target_after (target_after t xs) ys
@@ -105,10 +106,7 @@ pub weight_some : (t : TargetState) (action : Action) → IsWeighty action → 0
 weight_some t (Makes a) h = omega arith
 weight_some t (Polls mask requested turns) h = polled_some turns mask requested t h
 weight_some t (Commands (probe.Delay micros)) h = delay_some micros
-weight_some t (Commands (probe.Abort value)) h = omega arith
-weight_some t (Commands (probe.Pins output select wait)) h = omega arith
-weight_some t (Commands (probe.Clock hertz)) h = omega arith
-weight_some t (Commands (probe.Line count bits)) h = omega arith
+weight_some t (Commands other) h = omega arith
 
 pub performed_within : (t : TargetState) (entries : List Entry) (work : ℕ) → performed t entries work ≤ length entries
 performed_within t [] work = omega arith

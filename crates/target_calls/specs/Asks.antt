@@ -1,12 +1,12 @@
 -- Calls that are asked.
 use Rattle.std.specs.Prelude.{◌≡◌, ◌^◌, ◌<◌, Bool, true, false, ◌&&◌, nat_lt, List, [], ◌∷◌}
 use Rattle.std.specs.List.{AllByRecursion}
+use Rattle.target_machine.specs.InRange.{IsProbeInRange}
 use Rattle.target_machine.specs.Plain.{may_forgive}
 use Rattle.target_machine.specs.Sound.{IsSoundCall}
 use Rattle.target_machine.specs.declared.unit.Call.{Call}
-use Rattle.target_machine.specs.declared.unit.Call.TheVariants.{Access, Probe}
 use Rattle.target_machine.specs.declared.unit.ProbeCall.{ProbeCall}
-use Rattle.target_machine.specs.declared.unit.ProbeCall.TheVariants as probe
+use Rattle.target_machine.specs.declared.unit.Call.TheVariants.{Access, Probe}
 use Rattle.target_machine.specs.declared.unit.Unit.{Unit as AccessUnit}
 use Rattle.target_machine.specs.declared.unit.Unit.TheVariants as unit
 use Rattle.target_calls.specs.declared.calls.Ask.{Ask}
@@ -61,14 +61,6 @@ IsUnitInRange (unit.Memory size read ap address value) = (ap < 2 ^ 8) × (addres
 IsUnitInRange (unit.Ap read ap addr value) = (ap < 2 ^ 8) × (addr < 2 ^ 8) × (value < 2 ^ 32)
 IsUnitInRange (unit.Dp read addr value) = value < 2 ^ 32
 IsUnitInRange (unit.Poll mask value turns) = (mask < 2 ^ 32) × (value < 2 ^ 32)
-
--- the numbers of a command are those of its type
-abbrev pub IsProbeInRange : ProbeCall → Type 0
-IsProbeInRange (probe.Delay micros) = micros < 2 ^ 32
-IsProbeInRange (probe.Abort value) = value < 2 ^ 32
-IsProbeInRange (probe.Pins output select wait) = (output < 2 ^ 8) × (select < 2 ^ 8) × (wait < 2 ^ 32)
-IsProbeInRange (probe.Clock hertz) = hertz < 2 ^ 32
-IsProbeInRange (probe.Line count bits) = (count < 2 ^ 8) × (bits < 2 ^ 64)
 
 -- the numbers of a call are those of its type
 abbrev pub IsCallInRange : Call → Type 0

@@ -1,23 +1,10 @@
 -- What entries weigh: by how much the probe's work grows with each. It shows how many of them were performed.
-use Rattle.std.specs.Prelude.{ℕ, suc, ◌+◌, ◌-◌, ◌/◌, ◌<◌, max, nat_le, if◌then◌else◌, List, [], ◌∷◌, sum_by}
+use Rattle.std.specs.Prelude.{ℕ, suc, ◌+◌, ◌-◌, ◌<◌, nat_le, if◌then◌else◌, List, [], ◌∷◌, sum_by}
 use Rattle.std.specs.List.{AllByRecursion}
+use Rattle.target_machine.specs.Packets.{commands_for}
 use Rattle.target_machine.specs.Plain.{Action, Makes, Polls, Commands, acted, polled}
 use Rattle.target_machine.specs.State.{TargetState}
-use Rattle.target_machine.specs.declared.unit.ProbeCall.{ProbeCall}
-use Rattle.target_machine.specs.declared.unit.ProbeCall.TheVariants as probe
 use Rattle.target_calls.specs.Journal.{Entry}
-
--- how many commands of at most 65,535 microseconds a delay takes; one of 0 takes one
-abbrev pub delay_commands : ℕ → ℕ
-delay_commands micros = max 1 ((micros + 65534) / 65535)
-
--- how many commands of the probe a probe call takes
-abbrev pub commands_for : ProbeCall → ℕ
-commands_for (probe.Delay micros) = delay_commands micros
-commands_for (probe.Abort value) = 1
-commands_for (probe.Pins output select wait) = 1
-commands_for (probe.Clock hertz) = 1
-commands_for (probe.Line count bits) = 1
 
 -- What an action weighs on t: 1, the reads of a poll, or the commands of a probe call.
 abbrev pub weight : TargetState → Action → ℕ

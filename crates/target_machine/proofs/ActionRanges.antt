@@ -4,11 +4,12 @@ use Rattle.std.specs.List.{AllByRecursion}
 use Rattle.target_machine.proofs.AccessRanges.{attempt_in_range, either}
 use Rattle.target_machine.proofs.StartRanges.{pins_in_range, line_in_range, clock_in_range, delay_in_range}
 use Rattle.target_machine.specs.Attempt.{Attempt, attempt, done}
-use Rattle.target_machine.specs.InRange.{IsWord, IsInRange, IsAttemptInRange, IsCommandInRange, IsActionInRange}
+use Rattle.target_machine.specs.InRange.{IsWord, IsInRange, IsAttemptInRange, IsCommandInRange, IsActionInRange, IsProbeInRange}
 use Rattle.target_machine.specs.Lines.{pins_set}
 use Rattle.target_machine.specs.Lists.{after}
 use Rattle.target_machine.specs.Plain.{Action, Makes, Polls, Commands, Polled, polled, looked, dp_read_of, dp_write_of, commanded, acted, then_acted, in_order, is_fault, given}
 use Rattle.target_machine.specs.Registers.{abort_address, ctrl_stat_address}
+use Rattle.target_machine.specs.Sound.{IsSoundProbe}
 use Rattle.target_machine.specs.State.{TargetState}
 use Rattle.target_machine.specs.declared.access.Outcome.{Outcome}
 use Rattle.target_machine.specs.declared.access.Outcome.TheVariants.{Value, Done, Fault}
@@ -49,6 +50,13 @@ commanded_in_range t (probe.Pins output select wait) h v =
     record { value = pins_given t output select next; next = next }
 commanded_in_range t (probe.Clock hertz) h v = record { value = omega arith; next = clock_in_range t h hertz v }
 commanded_in_range t (probe.Line count bits) h v = record { value = omega arith; next = line_in_range t h count bits v }
+
+-- a command that may be asked writes what fits
+pub sound_in_range : (c : ProbeCall) → IsSoundProbe c → IsProbeInRange c → IsCommandInRange c
+sound_in_range (probe.Abort value) sound range = range
+sound_in_range (probe.Clock hertz) sound range = range
+sound_in_range (probe.Line count bits) sound range = sound.1
+sound_in_range other sound range = tt
 
 -- one action
 pub acted_in_range : (t : TargetState) (x : Action) → IsInRange t → IsActionInRange x → IsAttemptInRange (acted t x)

@@ -59,13 +59,20 @@ pub record IsAttemptInRange (x : Attempt) : Type 0 where
   pub value : IsWord (given x.outcome)
   pub next : IsInRange x.next
 
+-- the numbers of a command of the probe are those of its type
+abbrev pub IsProbeInRange : ProbeCall → Type 0
+IsProbeInRange (probe.Delay micros) = micros < 2 ^ 32
+IsProbeInRange (probe.Abort value) = value < 2 ^ 32
+IsProbeInRange (probe.Pins output select wait) = (output < 2 ^ 8) × (select < 2 ^ 8) × (wait < 2 ^ 32)
+IsProbeInRange (probe.Clock hertz) = hertz < 2 ^ 32
+IsProbeInRange (probe.Line count bits) = (count < 2 ^ 8) × (bits < 2 ^ 64)
+
 -- what a command of the probe writes fits its register or line
 abbrev pub IsCommandInRange : ProbeCall → Type 0
-IsCommandInRange (probe.Delay micros) = Unit {0}
 IsCommandInRange (probe.Abort value) = IsWord value
-IsCommandInRange (probe.Pins output select wait) = Unit {0}
 IsCommandInRange (probe.Clock hertz) = IsWord hertz
 IsCommandInRange (probe.Line count bits) = count ≤ 64
+IsCommandInRange other = Unit {0}
 
 -- what an action writes is of 32 bits
 abbrev pub IsActionInRange : Action → Type 0

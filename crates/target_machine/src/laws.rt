@@ -13,8 +13,6 @@ pub use lists::{
     lists_join, lists_on_targets_that_agree, passing_lists, the_dp_acts_beside_the_aps,
     what_is_issued,
 };
-pub use ranges::{
-    accesses_stay_in_range, actions_stay_in_range, lines_stay_in_range, start_is_in_range,
-};
-pub use registers::{bits_are_named, registers_are_named};
+pub use ranges::{actions_stay_in_range, lines_stay_in_range, start_is_in_range};
+pub use registers::registers_are_named;
 pub use starts::{passing_stays_fresh, start_is_fresh};

@@ -51,7 +51,7 @@ impl OneTarget {
 
     // `delay MICROSECONDS`.
     fn delay(&mut self, words: &mut RowWords<'_>) -> Result<&'static str, RowError> {
-        self.target.delay(words.number16()?);
+        self.target.delay(u32::from(words.number16()?));
         Ok("done")
     }
 

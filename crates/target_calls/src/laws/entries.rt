@@ -1,8 +1,9 @@
 //! Entries of a journal.
 ghost use Rattle.std.specs.Prelude.{◌≡◌, ℕ, suc, ◌+◌, ◌*◌, ◌<◌, ◌≤◌, true, List, ◌∷◌, ◌++◌, length, take, Some, None};
 ghost use Rattle.target_calls.specs.Journal.{Entry, Passes, attempted_in, first_fault, is_unforgiven, skipped_in, target_after};
-ghost use Rattle.target_calls.specs.Weights.{AreWeighty, IsWeighty, commands_in, delay_commands, performed, registers_in, weight, weight_in};
+ghost use Rattle.target_calls.specs.Weights.{AreWeighty, IsWeighty, commands_in, performed, registers_in, weight, weight_in};
 ghost use Rattle.target_calls.specs.World.{later_by};
+ghost use Rattle.target_machine.specs.Packets.{delay_commands};
 ghost use Rattle.target_machine.specs.Plain.{Action};
 ghost use Rattle.target_machine.specs.State.{TargetState};
 

@@ -17,13 +17,10 @@ pub fn start_is_in_range()
     ensures { (job : TargetJob) → IsTargetJob job → IsJobInRange job → IsInRange (start job) }
 {}
 
-/// An access of a value of 32 bits gives a value of 32 bits, and leaves the target in range.
-pub fn accesses_stay_in_range()
-    ensures { (t : TargetState) (a : RegAccess) → IsInRange t → IsWord a.value → IsAttemptInRange (attempt t a) }
-{}
-
-/// So does an action, and so do actions in order or one after the other.
+/// An access of a value of 32 bits gives a value of 32 bits, and leaves the target in range. So does an action, and so do actions in order or
+/// one after the other.
 pub fn actions_stay_in_range()
+    ensures access { (t : TargetState) (a : RegAccess) → IsInRange t → IsWord a.value → IsAttemptInRange (attempt t a) }
     ensures one { (t : TargetState) (action : Action) → IsInRange t → IsActionInRange action → IsAttemptInRange (acted t action) }
     ensures in_order { (t : TargetState) (actions : List Action) → IsInRange t → AllByRecursion IsActionInRange actions → IsAttemptInRange (in_order t actions) }
     ensures after { (t : TargetState) (actions : List Action) → IsInRange t → AllByRecursion IsActionInRange actions → IsInRange (after t actions) }

@@ -4,7 +4,7 @@ ghost use Rattle.target_machine.specs.Registers as named;
 
 use crate::registers::*;
 
-/// The addresses of the registers are those of the definitions.
+/// The addresses of the registers, the bits and the masks are those of the definitions.
 pub fn registers_are_named()
     ensures dpidr { DPIDR ≡ named.dpidr_address }
     ensures abort { ABORT ≡ named.abort_address }
@@ -21,10 +21,6 @@ pub fn registers_are_named()
     ensures base { BASE ≡ named.base_register }
     ensures idr { IDR ≡ named.idr_register }
     ensures address_bits { ADDRESS_BITS ≡ named.address_bits }
-{}
-
-/// The bits and masks are those of the definitions.
-pub fn bits_are_named()
     ensures cdbgpwrupreq { CDBGPWRUPREQ ≡ named.cdbgpwrupreq }
     ensures cdbgpwrupack { CDBGPWRUPACK ≡ named.cdbgpwrupack }
     ensures csyspwrupreq { CSYSPWRUPREQ ≡ named.csyspwrupreq }
