@@ -45,9 +45,7 @@ calls_finished a = if is_some a.end then a.asks.calls else settled_last a.asks.c
 -- so it is where the end is a cut
 abbrev pub AtCut : Stop → (Report → Type 0) → Type 0
 AtCut (Cut r) P = P r
-AtCut (BenchFault issued confirmed) P = ⊤
-AtCut ReplyBad P = ⊤
-AtCut OutOfMemory P = ⊤
+AtCut other P = ⊤
 
 -- At a cut, the calls stop right after those whose lines come before it.
 pub record StopsCalls (w : World) (asks : List Ask) (lines : ℕ) (s : Stop) : Type 0 where
@@ -71,14 +69,10 @@ IsEnd end OutOfMemory = ⊤
 
 -- memory was not refused
 abbrev pub NoMemory : Stop → Type 0
-NoMemory (Cut r) = ⊤
-NoMemory (BenchFault issued confirmed) = ⊤
-NoMemory ReplyBad = ⊤
 NoMemory OutOfMemory = ⊥
+NoMemory other = ⊤
 
 -- where memory was refused nothing changed
 abbrev pub UnchangedByMemory : AccessView → AccessView → Stop → Type 0
-UnchangedByMemory old new (Cut r) = ⊤
-UnchangedByMemory old new (BenchFault issued confirmed) = ⊤
-UnchangedByMemory old new ReplyBad = ⊤
 UnchangedByMemory old new OutOfMemory = new ≡ old
+UnchangedByMemory old new other = ⊤

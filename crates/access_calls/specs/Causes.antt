@@ -126,19 +126,15 @@ HasStopCause old new (Some OutOfMemory) = ⊥
 
 -- A packet and a reply are kept only where a reply was the end.
 abbrev pub KeepsReplyAt : Option Stop → AccessView → Type 0
-KeepsReplyAt None a = KeepsNoReply a
 KeepsReplyAt (Some (Cut r)) a = ⊤
-KeepsReplyAt (Some (BenchFault issued confirmed)) a = KeepsNoReply a
 KeepsReplyAt (Some ReplyBad) a = ⊤
-KeepsReplyAt (Some OutOfMemory) a = KeepsNoReply a
+KeepsReplyAt other a = KeepsNoReply a
 
 -- where none are kept
 keeps_nothing_at : (end : Option Stop) (a : AccessView) → KeepsNoReply a → KeepsReplyAt end a
-keeps_nothing_at None a none = none
 keeps_nothing_at (Some (Cut r)) a none = tt
-keeps_nothing_at (Some (BenchFault issued confirmed)) a none = none
 keeps_nothing_at (Some ReplyBad) a none = tt
-keeps_nothing_at (Some OutOfMemory) a none = none
+keeps_nothing_at other a none = none
 
 -- an access that never keeps a packet and a reply
 pub keeps_nothing : (end : Option Stop) (a : AccessView) → a.sent ≡ [] → a.got ≡ [] → KeepsReplyAt end a

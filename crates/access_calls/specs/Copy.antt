@@ -13,7 +13,7 @@ use Rattle.access_calls.specs.Answers.{IsEnd}
 use Rattle.access_calls.specs.Reported.{AccessView}
 use Rattle.access_calls.specs.Standing.{WhereObservable}
 use Rattle.access_calls.specs.declared.stop.Stop.{Stop}
-use Rattle.access_calls.specs.declared.stop.Stop.TheVariants.{Cut, BenchFault, ReplyBad, OutOfMemory}
+use Rattle.access_calls.specs.declared.stop.Stop.TheVariants.{Cut}
 use Rattle.access_calls.specs.declared.users.copy.CopyEnd.{CopyEnd}
 use Rattle.access_calls.specs.declared.users.copy.CopyEnd.TheVariants.{Done, Stopped, WriteFault}
 
@@ -64,10 +64,8 @@ pub record CopyIsStopped (a : AccessView) (c : Copied) (old new : Option (List �
 abbrev pub IsCopyEnd : CopyEnd → AccessView → Copied → Option (List ℕ) → Option (List ℕ) → Type 0
 IsCopyEnd Done a c old new = CopyIsDone a c old new
 IsCopyEnd (Stopped (Cut r)) a c old new = CopyIsStopped a c old new
-IsCopyEnd (Stopped (BenchFault issued confirmed)) a c old new = ⊤
-IsCopyEnd (Stopped ReplyBad) a c old new = ⊤
-IsCopyEnd (Stopped OutOfMemory) a c old new = ⊤
 IsCopyEnd WriteFault a c old new = c.stopped ≡ None
+IsCopyEnd other a c old new = ⊤
 
 -- the end of the access, by the end of the copy: the one that is answered, or none
 abbrev pub AccessEndsAs : CopyEnd → Option Stop → Type 0

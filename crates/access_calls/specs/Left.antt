@@ -3,7 +3,7 @@ use Rattle.std.specs.Prelude.{◌≡◌, ℕ, Option, Some, None}
 use Rattle.target_calls.specs.World.{AtLeast}
 use Rattle.access_calls.specs.Reported.{AccessView}
 use Rattle.access_calls.specs.declared.stop.Stop.{Stop}
-use Rattle.access_calls.specs.declared.stop.Stop.TheVariants.{Cut, BenchFault, ReplyBad, OutOfMemory}
+use Rattle.access_calls.specs.declared.stop.Stop.TheVariants.{Cut}
 use Rattle.access_calls.specs.declared.stop.StopCause.{StopCause}
 use Rattle.access_calls.specs.declared.stop.StopCause.TheVariants.{Faulted, NoAnswer}
 
@@ -14,11 +14,8 @@ IsLeftCut NoAnswer lines came answered = answered ≡ Some lines
 
 -- by its end, so many calls may still be answered in a world that is left
 abbrev pub IsLeftAt : Option Stop → ℕ → ℕ → Option ℕ → Type 0
-IsLeftAt None lines came answered = AtLeast came answered
 IsLeftAt (Some (Cut r)) lines came answered = IsLeftCut r.cause lines came answered
-IsLeftAt (Some (BenchFault issued confirmed)) lines came answered = AtLeast came answered
-IsLeftAt (Some ReplyBad) lines came answered = AtLeast came answered
-IsLeftAt (Some OutOfMemory) lines came answered = AtLeast came answered
+IsLeftAt other lines came answered = AtLeast came answered
 
 -- By what the access reports, so many calls may be answered: at least those that came, and after an ended retry exactly those
 -- whose lines come before it.
@@ -32,11 +29,8 @@ answered_cut NoAnswer lines = Some lines
 
 -- the same by the end of an access: without an ended retry all calls may be answered
 abbrev pub answered_at_end : Option Stop → ℕ → Option ℕ
-answered_at_end None lines = None
 answered_at_end (Some (Cut r)) lines = answered_cut r.cause lines
-answered_at_end (Some (BenchFault issued confirmed)) lines = None
-answered_at_end (Some ReplyBad) lines = None
-answered_at_end (Some OutOfMemory) lines = None
+answered_at_end other lines = None
 
 -- How many calls are answered, as a caller takes it at its end: all, or after an ended retry those whose lines come before it.
 abbrev pub answered_by : AccessView → Option ℕ

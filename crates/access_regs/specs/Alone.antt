@@ -1,5 +1,5 @@
 -- Calls made alone and at once, one after the other; and what the journal says of them.
-use Rattle.std.specs.Prelude.{◌≡◌, ◌≢◌, ℕ, true, false, List, [], ◌∷◌, ◌++◌}
+use Rattle.std.specs.Prelude.{◌≡◌, ◌≢◌, ℕ, true, false, List, [], ◌∷◌, ◌++◌, ⊤}
 use Rattle.target_machine.specs.Plain.{Action, acted, call_done, given, is_fault, result_of, CallDone, Faulted}
 use Rattle.target_machine.specs.State.{TargetState}
 use Rattle.target_machine.specs.declared.unit.Call.{Call}
@@ -24,7 +24,7 @@ large_of_all t large (c ∷ cs) = large_of_all (alone t large c).next (alone t l
 
 -- No call ends at a fault; forgiving ones may have met some.
 abbrev pub NoneFaults : TargetState → List ℕ → List Ask → Type 0
-NoneFaults t large [] = Unit {0}
+NoneFaults t large [] = ⊤
 NoneFaults t large (c ∷ cs) = ((alone t large c).end ≢ Faulted) × NoneFaults (alone t large c).next (alone t large c).large cs
 
 -- Of these entries one is the first that gives a fault which its unit does not forgive.
@@ -56,7 +56,7 @@ pub record AnswersWith (t : TargetState) (entries : List Entry) (units : ℕ) (c
 
 -- Each step but the one that its unit is for leaves the memory as it is.
 abbrev pub KeepsMemory : TargetState → List Step → Type 0
-KeepsMemory t [] = Unit {0}
+KeepsMemory t [] = ⊤
 KeepsMemory t (s ∷ steps) = (s.part ≢ Ends → (acted t s.action).next.words ≡ t.words) × KeepsMemory (acted t s.action).next steps
 
 -- what the calls issue, each made alone

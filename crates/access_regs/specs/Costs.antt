@@ -17,7 +17,7 @@ use Rattle.target_calls.specs.NeedPoints.{Cost}
 use Rattle.target_calls.specs.Weights.{weight}
 use Rattle.target_calls.specs.declared.calls.Ask.{Ask}
 use Rattle.target_calls.specs.declared.journal.Part.{Part}
-use Rattle.target_calls.specs.declared.journal.Part.TheVariants.{Settles, Leads, Ends, Skips}
+use Rattle.target_calls.specs.declared.journal.Part.TheVariants.{Leads}
 use Rattle.access_regs.specs.Entries.{kept_by, target_by}
 use Rattle.access_regs.specs.Journal.{Step, alone_at, gives, issue_of, making, planned, port_of}
 use Rattle.access_regs.specs.Kept.{Kept}
@@ -34,9 +34,7 @@ reads (Commands c) = false
 -- the step leads to the access that the unit is for, and reads a register: CSW or CFG
 abbrev pub is_leading_read : Part → Action → Bool
 is_leading_read Leads action = reads action
-is_leading_read Settles action = false
-is_leading_read Ends action = false
-is_leading_read (Skips attempted) action = false
+is_leading_read other action = false
 
 -- how many of these steps are such reads
 abbrev pub leading_reads : List Step → ℕ
@@ -57,11 +55,9 @@ command_cost other = 2
 
 -- the need points of a call that forgives nothing, besides those of reads of CSW and CFG
 abbrev pub call_cost : Kept → TargetState → Call → ℕ
-call_cost k t (Access (unit.Memory size read ap address value)) = 0
-call_cost k t (Access (unit.Ap read ap addr value)) = 0
-call_cost k t (Access (unit.Dp read addr value)) = 0
 call_cost k t (Access (unit.Poll mask value turns)) = poll_cost k t mask value turns
 call_cost k t (Probe command) = command_cost command
+call_cost k t other = 0
 
 -- A call that is asked after others: its reads of CSW and CFG come before it counts as asked. A forgiving one makes five more.
 abbrev pub planned_cost : TargetState → List Ask → Ask → Cost

@@ -1,5 +1,5 @@
 -- How a call goes that is made by what it issues, against the same call alone and at once.
-use Rattle.std.specs.Prelude.{◌≡◌, ◌≢◌, Bool, true, false, ◌&&◌, List, [], ◌∷◌, ◌++◌}
+use Rattle.std.specs.Prelude.{◌≡◌, ◌≢◌, Bool, true, false, ◌&&◌, List, [], ◌∷◌, ◌++◌, ⊤}
 use Rattle.target_machine.specs.Lists.{after, PassTo}
 use Rattle.target_machine.specs.Plain.{Action, Commands, acted, forgives, given, is_fault, result_of, CallDone, Answered, Skipped, Faulted, Small}
 use Rattle.target_machine.specs.State.{TargetState}
@@ -42,7 +42,7 @@ pub record IsSmall (i : Issue) (d : CallDone) (u : TargetState) : Type 0 where
 
 -- no step that settles faults
 abbrev pub IsPassing : TargetState → List Step → Type 0
-IsPassing u [] = Unit {0}
+IsPassing u [] = ⊤
 IsPassing u (s ∷ steps) = ((is_fault (acted u s.action).outcome && settles s.part) ≡ false) × IsPassing (acted u s.action).next steps
 
 -- The call is skipped, as it forgives a fault of its own: one step faults, and the write of ABORT comes right after it and last.

@@ -1,5 +1,5 @@
 -- The entries that calls issue: what one more call adds, and which unit, weight and answer an entry has.
-use Rattle.std.specs.Prelude.{◌≡◌, ℕ, ◌+◌, ◌/◌, ◌%◌, ◌^◌, ◌≤◌, ◌<◌, Bool, true, false, not, List, [], ◌∷◌, ◌++◌, length}
+use Rattle.std.specs.Prelude.{◌≡◌, ℕ, ◌+◌, ◌/◌, ◌%◌, ◌^◌, ◌≤◌, ◌<◌, Bool, true, false, not, List, [], ◌∷◌, ◌++◌, length, ⊤}
 use Rattle.target_machine.specs.Attempt.{attempt}
 use Rattle.target_machine.specs.Fresh.{IsFresh}
 use Rattle.target_machine.specs.Plain.{Makes, acted, given, is_fault, result_of, Answered, select_of, ap_access_of}
@@ -63,7 +63,7 @@ CallAnswers = (p : Planner) (t : TargetState) (asks : List Ask) (ask : Ask) (mor
 
 -- None of these accesses faults.
 abbrev pub NoneFault : TargetState → List RegAccess → Type 0
-NoneFault u [] = Unit {0}
+NoneFault u [] = ⊤
 NoneFault u (a ∷ rest) = (is_fault (acted u (Makes a)).outcome ≡ false) × NoneFault (acted u (Makes a)).next rest
 
 -- A write of SELECT, which comes before the read of CFG or CSW and before the access of an AP register, does not fault.

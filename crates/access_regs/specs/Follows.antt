@@ -1,5 +1,5 @@
 -- How a target after planned units follows one after plain units.
-use Rattle.std.specs.Prelude.{◌≡◌, ℕ, ◌^◌, ◌<◌, true, false, ◌==◌, if◌then◌else◌, length, List, Option, Some, None, bit_and}
+use Rattle.std.specs.Prelude.{◌≡◌, ℕ, ◌^◌, ◌<◌, true, false, ◌==◌, if◌then◌else◌, length, List, Option, Some, None, bit_and, ⊤}
 use Rattle.std.specs.FinMap as map
 use Rattle.target_machine.specs.Attempt.{acknowledges, stored_csw}
 use Rattle.target_machine.specs.Plain.{contains}
@@ -37,7 +37,7 @@ unsettled_tar k ap = tar_if k.unsettled ap
 
 -- An AP, where there is one, after the units alone and after the planned ones.
 abbrev pub FollowsPort : Known → Option ℕ → Option ApState → Option ApState → Type 0
-FollowsPort n unsettled None None = Unit {0}
+FollowsPort n unsettled None None = ⊤
 FollowsPort n None (Some plain) (Some planned) = (planned ≡ plain) × IsTrueOf n planned
 FollowsPort n (Some tar) (Some plain) (Some planned) = IsUnsettledPort n tar plain planned × IsTrueOf n planned
 FollowsPort n unsettled None (Some planned) = ⊥

@@ -1,9 +1,9 @@
 -- Memory units of one size on one AP, at rising neighbouring addresses.
-use Rattle.std.specs.Prelude.{◌≡◌, ◌+◌, ◌*◌, ◌%◌, ◌^◌, ◌≤◌, ◌<◌, ◌⊎◌, ℕ, Bool, true, false, nat_lt, if◌then◌else◌, List, [], ◌∷◌, ◌++◌, length}
+use Rattle.std.specs.Prelude.{◌≡◌, ◌+◌, ◌*◌, ◌%◌, ◌^◌, ◌≤◌, ◌<◌, ◌⊎◌, ℕ, Bool, true, false, nat_lt, if◌then◌else◌, List, [], ◌∷◌, ◌++◌, length, ⊤}
 use Rattle.target_machine.specs.State.{TargetState}
 use Rattle.target_machine.specs.Plain.{Action, Makes, drw_of}
 use Rattle.target_machine.specs.declared.unit.Call.{Call}
-use Rattle.target_machine.specs.declared.unit.Call.TheVariants.{Access, Probe}
+use Rattle.target_machine.specs.declared.unit.Call.TheVariants.{Access}
 use Rattle.target_machine.specs.declared.unit.Unit.TheVariants as unit
 use Rattle.access_regs.specs.Journal.{entries_at, issued_from}
 use Rattle.target_calls.specs.Journal.{Entry, actions_in, settles}
@@ -24,7 +24,7 @@ pub record IsUnitAt (size ap address : ℕ) (c : Ask) : Type 0 where
 
 -- The calls are such units, each at the address after the one before.
 abbrev pub AreNeighbours : ℕ → ℕ → ℕ → List Ask → Type 0
-AreNeighbours size ap address [] = Unit {0}
+AreNeighbours size ap address [] = ⊤
 AreNeighbours size ap address (c ∷ cs) = IsUnitAt size ap address c × AreNeighbours size ap (address + size) cs
 
 -- How many own entries neighbouring units have at most besides one each. They have more on an AP with large addresses, and most where CFG is
@@ -42,10 +42,7 @@ NeighboursAreFew = (units : ℕ) (k : Kept) (t : TargetState) (size ap address :
 -- the access by DRW of a call, where that is a memory unit
 abbrev pub drw_in : Call → List Action
 drw_in (Access (unit.Memory size read ap address value)) = Makes (drw_of read address value) ∷ []
-drw_in (Access (unit.Ap read ap addr value)) = []
-drw_in (Access (unit.Dp read addr value)) = []
-drw_in (Access (unit.Poll mask value turns)) = []
-drw_in (Probe command) = []
+drw_in other = []
 
 -- those of calls, in order
 abbrev pub drws_in : List Ask → List Action

@@ -1,5 +1,5 @@
 -- What the replies to a flight show, how it ends by that, and what it did.
-use Rattle.std.specs.Prelude.{◌≡◌, ◌⊎◌, ◌<◌, ◌≤◌, ◌^◌, ℕ, Bool, true, false, if◌then◌else◌, List, length, Option, Some, None}
+use Rattle.std.specs.Prelude.{◌≡◌, ◌⊎◌, ◌<◌, ◌≤◌, ◌^◌, ℕ, Bool, true, false, if◌then◌else◌, List, length, Option, Some, None, ⊤}
 use Rattle.dap_base.specs.Causes.{Rose}
 use Rattle.target_machine.specs.declared.access.RegAccess.{RegAccess}
 use Rattle.dap_messages.specs.declared.request.Response.{Response}
@@ -54,8 +54,8 @@ EndsBy (Some part) (Some (ends.Cut cut)) values = IsCutOf part cut values
 EndsBy (Some part) (Some ends.ReplyBad) values = ⊥
 EndsBy None None values = ⊥
 EndsBy None (Some (ends.Cut cut)) values = ⊥
-EndsBy None (Some ends.ReplyBad) values = Unit {0}
-EndsBy found (Some ends.BenchFault) values = Unit {0}
+EndsBy None (Some ends.ReplyBad) values = ⊤
+EndsBy found (Some ends.BenchFault) values = ⊤
 
 -- all accesses, each of them good
 abbrev pub whole_part : List RegAccess → List (Option ℕ) → Part
@@ -113,4 +113,4 @@ end_of (Some progress) = end_at progress.response progress
 -- A cut names accesses of a flight of so many: the performed ones are among them, and not all are confirmed.
 abbrev pub IsShort : ℕ → Option FlightEnd → Type 0
 IsShort count (Some (ends.Cut cut)) = (cut.performed ≤ count) × (cut.confirmed < count)
-IsShort count end = Unit {0}
+IsShort count end = ⊤

@@ -1,5 +1,5 @@
 -- The packets of a flight, which of them it ended at, and what is kept of them.
-use Rattle.std.specs.Prelude.{◌≡◌, ℕ, List, [], ◌∷◌, length, Option, Some, None}
+use Rattle.std.specs.Prelude.{◌≡◌, ℕ, List, [], ◌∷◌, length, Option, Some, None, ⊤}
 use Rattle.target_machine.specs.declared.access.RegAccess.{RegAccess}
 use Rattle.dap_messages.specs.Commands.{command_bytes}
 use Rattle.probe_core.specs.Bench.{Exchange, Reported, counted}
@@ -25,12 +25,12 @@ form_ended_at Chain size accesses replies = chain_ended_at size accesses replies
 
 -- these packets were sent, where something was
 abbrev pub AreSent : Option Form → ℕ → List RegAccess → List (List ℕ) → Type 0
-AreSent None size accesses packets = Unit {0}
+AreSent None size accesses packets = ⊤
 AreSent (Some form) size accesses packets = packets ≡ form_packets form size accesses
 
 -- as many replies came as packets were sent, where something was
 abbrev pub AreReplied : Option Form → Exchange → Type 0
-AreReplied None last = Unit {0}
+AreReplied None last = ⊤
 AreReplied (Some form) last = length last.replies ≡ length last.packets
 
 -- the flight ended at the packet and reply of this number

@@ -1,5 +1,5 @@
 -- What the reply to a packet says of the accesses of its command.
-use Rattle.std.specs.Prelude.{◌≡◌, ℕ, ◌+◌, ◌-◌, ◌≤◌, List, ◌++◌, length, take, Option, Some, None, Result, Ok, Err, IfSome}
+use Rattle.std.specs.Prelude.{◌≡◌, ℕ, ◌+◌, ◌-◌, ◌≤◌, List, ◌++◌, length, take, Option, Some, None, Result, Ok, Err, IfSome, ⊤}
 use Rattle.std.specs.List.{AllByRecursion}
 use Rattle.dap_messages.specs.declared.command.PacketKind.{PacketKind}
 use Rattle.dap_messages.specs.declared.command_value.CommandValue.{CommandValue}
@@ -65,7 +65,7 @@ part_with progress values = record {
 
 -- The numbers and the values are what was shown, where something was.
 abbrev pub IsSeen : Option Part → Option Progress → List (Option ℕ) → Type 0
-IsSeen None None values = Unit {0}
+IsSeen None None values = ⊤
 IsSeen (Some part) (Some progress) values = part ≡ part_with progress values
 IsSeen _ _ values = ⊥
 

@@ -1,5 +1,5 @@
 -- A fault at the end of a flight, and the write of ABORT that clears STICKYERR after it.
-use Rattle.std.specs.Prelude.{◌≡◌, ◌⊎◌, ◌==◌, ◌≤◌, Bool, false, List, [], ◌∷◌, length, bit_and}
+use Rattle.std.specs.Prelude.{◌≡◌, ◌⊎◌, ◌==◌, ◌≤◌, Bool, false, List, [], ◌∷◌, length, bit_and, ⊤}
 use Rattle.target_machine.specs.InRange.{IsInRange}
 use Rattle.target_machine.specs.Plain.{Commands, forgives}
 use Rattle.target_machine.specs.declared.access.RegAccess.{RegAccess}
@@ -20,7 +20,7 @@ is_fault_end ends.ReplyBad = false
 -- One access, or up to four of which the first is no write of DRW: whatever the limits are, they are sent as one Transfer.
 abbrev pub IsOneTransfer : List RegAccess → Type 0
 IsOneTransfer [] = ⊥
-IsOneTransfer (a ∷ []) = Unit {0}
+IsOneTransfer (a ∷ []) = ⊤
 IsOneTransfer (a ∷ b ∷ rest) = (length rest ≤ 2) × (writes_drw a ≡ false)
 
 -- A bench over which ABORT does what is said of it: one over which a flight does, but STICKYERR may be set.

@@ -1,5 +1,5 @@
 -- What each function of a wire keeps, and what the parts of a poll or of a delay come to, each in a packet or a flight of its own.
-use Rattle.std.specs.Prelude.{◌≡◌, ◌⊎◌, ℕ, ◌+◌, ◌*◌, ◌^◌, ◌<◌, ◌≤◌, false, true, is_some, slice_get, List, [], length, Option, None, Some, Result, IfErr, OnOk}
+use Rattle.std.specs.Prelude.{◌≡◌, ◌⊎◌, ℕ, ◌+◌, ◌*◌, ◌^◌, ◌<◌, ◌≤◌, false, true, is_some, slice_get, List, [], length, Option, None, Some, Result, IfErr, OnOk, ⊤}
 use Rattle.target_machine.specs.Attempt.{attempt, bank}
 use Rattle.target_machine.specs.InRange.{IsInRange}
 use Rattle.target_machine.specs.Lines.{delayed}
@@ -90,8 +90,8 @@ MadeOrNot x (ends.Cut cut) m o = ⊥
 
 -- it is no cut
 abbrev pub IsNoCut : FlightEnd → Type 0
-IsNoCut ends.BenchFault = Unit {0}
-IsNoCut ends.ReplyBad = Unit {0}
+IsNoCut ends.BenchFault = ⊤
+IsNoCut ends.ReplyBad = ⊤
 IsNoCut (ends.Cut cut) = ⊥
 
 -- What a function of a wire keeps that makes a command and leaves the limits of the flight. No cut ends it.

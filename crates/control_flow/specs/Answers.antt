@@ -1,5 +1,5 @@
 -- What a run answers.
-use Rattle.std.specs.Prelude.{◌≡◌, ◌⊎◌, ℕ, ◌+◌, ◌≤◌, List, length, Option, Some, None}
+use Rattle.std.specs.Prelude.{◌≡◌, ◌⊎◌, ℕ, ◌+◌, ◌≤◌, List, length, Option, Some, None, ⊤}
 use Rattle.dap_base.specs.Causes.{Rose}
 use Rattle.target_calls.specs.Asks.{settled_last}
 use Rattle.target_calls.specs.NeedPoints.{Asks, finished, needed}
@@ -43,19 +43,14 @@ pub record IsAll (o : Outcome) (r : Ran) : Type 0 where
 
 -- the outcome ends at a fault
 abbrev pub EndsAtFault : runs.Ending → Type 0
-EndsAtFault runs.Done = ⊥
-EndsAtFault (runs.Halted cause) = ⊥
-EndsAtFault (runs.Faulted call) = Unit {0}
-EndsAtFault runs.Unanswered = ⊥
-EndsAtFault runs.Lost = ⊥
+EndsAtFault (runs.Faulted call) = ⊤
+EndsAtFault other = ⊥
 
 -- the outcome is Done or Halted
 abbrev pub EndsWhole : runs.Ending → Type 0
-EndsWhole runs.Done = Unit {0}
-EndsWhole (runs.Halted cause) = Unit {0}
-EndsWhole (runs.Faulted call) = ⊥
-EndsWhole runs.Unanswered = ⊥
-EndsWhole runs.Lost = ⊥
+EndsWhole runs.Done = ⊤
+EndsWhole (runs.Halted cause) = ⊤
+EndsWhole other = ⊥
 
 -- One list of calls goes on from what was asked, and from the calls of the outcome. Where the outcome is Done or Halted, that list has no
 -- more calls than it.
@@ -87,47 +82,27 @@ abbrev pub RunEndsAs : Ending → ℕ → Outcome → Ran → Type 0
 RunEndsAs e.Done lines o r = (o.ending ≡ runs.Done) × IsAll o r
 RunEndsAs (e.Halted cause) lines o r = (o.ending ≡ runs.Halted cause) × IsAll o r
 RunEndsAs (e.Cut report) lines o r = EndsAtCut report.cause lines o r
-RunEndsAs (e.BenchFault issued confirmed) lines o r = IsPartOfOutcome o r
-RunEndsAs e.ReplyBad lines o r = IsPartOfOutcome o r
-RunEndsAs e.WriteFault lines o r = IsPartOfOutcome o r
-RunEndsAs e.OutOfMemory lines o r = IsPartOfOutcome o r
+RunEndsAs other lines o r = IsPartOfOutcome o r
 
 -- Where a run is Done or Halted, what was asked has the need points of the meaning with results that come later, and one for the end.
 abbrev pub HasNeeds : Ending → Asks → Out Value Late (Unit {0}) → Type 0
 HasNeeds e.Done asks out = asks ≡ needed (finished (end_state out).rest.asks)
 HasNeeds (e.Halted cause) asks out = asks ≡ needed (finished (end_state out).rest.asks)
-HasNeeds (e.Cut report) asks out = Unit {0}
-HasNeeds (e.BenchFault issued confirmed) asks out = Unit {0}
-HasNeeds e.ReplyBad asks out = Unit {0}
-HasNeeds e.WriteFault asks out = Unit {0}
-HasNeeds e.OutOfMemory asks out = Unit {0}
+HasNeeds other asks out = ⊤
 
 -- the end of the access is the one that is answered, and else it has none
 abbrev pub EndBy : Ending → Option Stop → Type 0
-EndBy e.Done end = end ≡ None
-EndBy (e.Halted cause) end = end ≡ None
 EndBy (e.Cut r) end = end ≡ Some (stop.Cut r)
 EndBy (e.BenchFault issued confirmed) end = end ≡ Some (stop.BenchFault issued confirmed)
 EndBy e.ReplyBad end = end ≡ Some stop.ReplyBad
-EndBy e.WriteFault end = end ≡ None
-EndBy e.OutOfMemory end = end ≡ None
+EndBy other end = end ≡ None
 
 -- the sink's count of faults rose where the sink failed, and else it is the same
 abbrev pub RunHasSinkCause : Ending → ℕ → ℕ → Type 0
-RunHasSinkCause e.Done before now = now ≡ before
-RunHasSinkCause (e.Halted cause) before now = now ≡ before
-RunHasSinkCause (e.Cut r) before now = now ≡ before
-RunHasSinkCause (e.BenchFault issued confirmed) before now = now ≡ before
-RunHasSinkCause e.ReplyBad before now = now ≡ before
 RunHasSinkCause e.WriteFault before now = Rose before now
-RunHasSinkCause e.OutOfMemory before now = now ≡ before
+RunHasSinkCause other before now = now ≡ before
 
 -- Whole lines were written; only where the sink failed a part of a line may be.
 abbrev pub HasLines : Ending → Option (List ℕ) → Option (List ℕ) → Type 0
-HasLines e.Done old new = AppendsLines old new
-HasLines (e.Halted cause) old new = AppendsLines old new
-HasLines (e.Cut r) old new = AppendsLines old new
-HasLines (e.BenchFault issued confirmed) old new = AppendsLines old new
-HasLines e.ReplyBad old new = AppendsLines old new
-HasLines e.WriteFault old new = Unit {0}
-HasLines e.OutOfMemory old new = AppendsLines old new
+HasLines e.WriteFault old new = ⊤
+HasLines other old new = AppendsLines old new

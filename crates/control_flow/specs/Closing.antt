@@ -29,28 +29,15 @@ AreAsked calls (b ∷ bs) = IsAsked calls b.value × AreAsked calls bs
 abbrev pub OutIs : Ending → State Value Late → Out Value Late (Unit {0}) → Type 0
 OutIs e.Done s out = out ≡ Ok (tt, s)
 OutIs (e.Halted cause) s out = out ≡ Err (machine.Halted cause, s)
-OutIs (e.Cut report) s out = ⊥
-OutIs (e.BenchFault issued confirmed) s out = ⊥
-OutIs e.ReplyBad s out = ⊥
-OutIs e.WriteFault s out = ⊥
-OutIs e.OutOfMemory s out = ⊥
+OutIs other s out = ⊥
 
 -- the run is Done or Halted
 abbrev pub ComesToEnd : Ending → Type 0
-ComesToEnd e.Done = Unit {0}
-ComesToEnd (e.Halted cause) = Unit {0}
-ComesToEnd (e.Cut report) = ⊥
-ComesToEnd (e.BenchFault issued confirmed) = ⊥
-ComesToEnd e.ReplyBad = ⊥
-ComesToEnd e.WriteFault = ⊥
-ComesToEnd e.OutOfMemory = ⊥
+ComesToEnd e.Done = ⊤
+ComesToEnd (e.Halted cause) = ⊤
+ComesToEnd other = ⊥
 
 -- the sink did not fail
 abbrev pub RunHasNoWriteFault : Ending → Type 0
-RunHasNoWriteFault e.Done = Unit {0}
-RunHasNoWriteFault (e.Halted cause) = Unit {0}
-RunHasNoWriteFault (e.Cut report) = Unit {0}
-RunHasNoWriteFault (e.BenchFault issued confirmed) = Unit {0}
-RunHasNoWriteFault e.ReplyBad = Unit {0}
 RunHasNoWriteFault e.WriteFault = ⊥
-RunHasNoWriteFault e.OutOfMemory = Unit {0}
+RunHasNoWriteFault other = ⊤

@@ -1,5 +1,5 @@
 -- How a command of normal requests ends: where, and which of its accesses are known to have been good.
-use Rattle.std.specs.Prelude.{◌≡◌, ℕ, ◌+◌, ◌≤◌, Bool, true, false, not, ◌&&◌, ◌||◌, ◌==◌, if◌then◌else◌, List, [], ◌∷◌, length, take, map, fold, count_by}
+use Rattle.std.specs.Prelude.{◌≡◌, ℕ, ◌+◌, ◌≤◌, Bool, true, false, not, ◌&&◌, ◌||◌, ◌==◌, if◌then◌else◌, List, [], ◌∷◌, length, take, map, fold, count_by, ⊤}
 use Rattle.target_machine.specs.Registers.{abort_address, ctrl_stat_address, dpidr_address}
 use Rattle.target_machine.specs.Counts.{one_if}
 use Rattle.target_machine.specs.State.{TargetState}
@@ -24,7 +24,7 @@ writes_ap a = a.ap && not a.read
 -- No access that may act where STICKYERR is set follows a write of an access port directly; before these requests such a
 -- write was made or not.
 abbrev pub AreGuarded : Bool → List Request → Type 0
-AreGuarded after_write [] = Unit {0}
+AreGuarded after_write [] = ⊤
 AreGuarded after_write (r ∷ rs) = ((after_write && may_be_free (access_of r)) ≡ false) × AreGuarded (writes_ap (access_of r)) rs
 
 -- Whether the outcome of the last executed access is not known: at WAIT where a read was outstanding or a write unchecked,

@@ -1,6 +1,6 @@
 -- Words of helper contracts and proofs alone: a run of wire transfers as a recursion that stops, and what the code keeps from
 -- request to request. No public clause cites them.
-use Rattle.std.specs.Prelude.{◌≡◌, ℕ, ◌+◌, Option, Some, None, Result, Ok, Err, ◌||◌, ◌-◌, ◌^◌, min, Bool, true, false, not, if◌then◌else◌, List, [], ◌∷◌, ◌++◌}
+use Rattle.std.specs.Prelude.{◌≡◌, ℕ, ◌+◌, Option, Some, None, Result, Ok, Err, ◌||◌, ◌-◌, ◌^◌, min, Bool, true, false, not, if◌then◌else◌, List, [], ◌∷◌, ◌++◌, ⊤}
 use Rattle.target_machine.specs.declared.access.RegAccess.{RegAccess}
 use Rattle.dap_messages.specs.declared.request.Request.{Request}
 use Rattle.dap_messages.specs.declared.request.RequestKind.{RequestKind}
@@ -97,7 +97,7 @@ close_ran p notes = run p.setting notes.unchecked p.line (fetch_if notes.outstan
 
 -- what the notes say after the end of a command
 abbrev pub IsClosed : Response → RunResult → Notes → Type 0
-IsClosed Good ran new = Unit {0}
+IsClosed Good ran new = ⊤
 IsClosed _ ran new = (new.outstanding || new.unchecked) ≡ ran.pending
 
 -- the probe where a command has ended

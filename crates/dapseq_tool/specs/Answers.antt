@@ -1,5 +1,5 @@
 -- What is written besides reports, and the exit statuses.
-use Rattle.std.specs.Prelude.{ℕ, List, [], ◌++◌, codes, decimal, Option, Some, None, Result, Ok, Err}
+use Rattle.std.specs.Prelude.{ℕ, List, [], ◌++◌, codes, decimal, Option, Some, None, Result, Ok, Err, ⊤}
 use Rattle.access_calls.specs.declared.ended.Ending.{Ending}
 use Rattle.access_calls.specs.declared.ended.Ending.TheVariants as e
 use Rattle.check_lines.specs.CheckLines.{check_text}
@@ -90,11 +90,11 @@ status_after (Err end) ending close = text_status end
 
 -- a status that an answer can have, written whole or not
 abbrev pub IsAnswerStatus : Status → Type 0
-IsAnswerStatus status.Done = Unit {0}
-IsAnswerStatus status.Refused = Unit {0}
-IsAnswerStatus status.Usage = Unit {0}
-IsAnswerStatus status.WriteFault = Unit {0}
-IsAnswerStatus status.OutOfMemory = Unit {0}
+IsAnswerStatus status.Done = ⊤
+IsAnswerStatus status.Refused = ⊤
+IsAnswerStatus status.Usage = ⊤
+IsAnswerStatus status.WriteFault = ⊤
+IsAnswerStatus status.OutOfMemory = ⊤
 IsAnswerStatus other = ⊥
 
 -- a status that a run can have
@@ -102,7 +102,7 @@ abbrev pub IsRunStatus : Status → Type 0
 IsRunStatus status.Refused = ⊥
 IsRunStatus status.Usage = ⊥
 IsRunStatus status.ReadFault = ⊥
-IsRunStatus other = Unit {0}
+IsRunStatus other = ⊤
 
 -- the line that stands first where a job is made of a number
 abbrev pub head_text : Option ℕ → List ℕ

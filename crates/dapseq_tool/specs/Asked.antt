@@ -35,23 +35,14 @@ IsNoCommand words = (c : Command) → WordsAreCommand words c → ⊥
 
 -- the command reads the source
 abbrev pub ReadsSource : Command → Type 0
-ReadsSource (commands.Check s) = ⊤
-ReadsSource (commands.Run s sequence) = ⊤
-ReadsSource (commands.Trace s sequence) = ⊤
-ReadsSource (commands.Load s sequence) = ⊤
-ReadsSource (commands.Scan s sequence ap) = ⊤
 ReadsSource (commands.Gen number) = ⊥
-ReadsSource commands.Audit = ⊤
+ReadsSource other = ⊤
 
 -- the command runs a sequence
 abbrev pub IsRunCommand : Command → Type 0
 IsRunCommand (commands.Check s) = ⊥
-IsRunCommand (commands.Run s sequence) = ⊤
-IsRunCommand (commands.Trace s sequence) = ⊤
-IsRunCommand (commands.Load s sequence) = ⊤
-IsRunCommand (commands.Scan s sequence ap) = ⊤
-IsRunCommand (commands.Gen number) = ⊤
 IsRunCommand commands.Audit = ⊥
+IsRunCommand other = ⊤
 
 -- the words are a command that reads the source
 abbrev pub IsReadLine : List (List ℕ) → Type 0

@@ -1,5 +1,5 @@
 -- What a whole call does, by what is known of its objects before and after it.
-use Rattle.std.specs.Prelude.{◌≡◌, ◌⊎◌, ℕ, Bool, false, List, ◌++◌, Option, Some, None, IsSome}
+use Rattle.std.specs.Prelude.{◌≡◌, ◌⊎◌, ℕ, Bool, false, List, ◌++◌, Option, Some, None, IsSome, ⊤}
 use Rattle.std.specs.Io.KnownBytes.{Appends}
 use Rattle.dap_base.specs.Causes.{IsQuiet, Rose}
 use Rattle.dap_base.specs.Streams.{AppendsPrefix}
@@ -66,15 +66,15 @@ pub record BenchCall : Type 0 where
 
 -- a call can fail while it writes a text so
 abbrev pub FailsWriting : Status → Type 0
-FailsWriting status.BenchFault = Unit {0}
-FailsWriting status.WriteFault = Unit {0}
-FailsWriting status.OutOfMemory = Unit {0}
+FailsWriting status.BenchFault = ⊤
+FailsWriting status.WriteFault = ⊤
+FailsWriting status.OutOfMemory = ⊤
 FailsWriting other = ⊥
 
 -- a call can fail while it writes a text that no bench is asked for
 abbrev pub FailsPutting : Status → Type 0
-FailsPutting status.WriteFault = Unit {0}
-FailsPutting status.OutOfMemory = Unit {0}
+FailsPutting status.WriteFault = ⊤
+FailsPutting status.OutOfMemory = ⊤
 FailsPutting other = ⊥
 
 -- The text was appended, and the status is its own; or writing it failed, and a part of it was appended, from its front.

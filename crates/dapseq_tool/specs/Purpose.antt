@@ -13,10 +13,8 @@ use Rattle.dapseq_tool.specs.declared.asking.Run as asked
 
 -- the packets are shown
 abbrev pub shows_packets : Purpose → Bool
-shows_packets Run = false
 shows_packets Trace = true
-shows_packets Load = false
-shows_packets (Scan ap) = false
+shows_packets other = false
 
 -- what follows the sequence: the load of the image that the job has, or a scan
 abbrev pub sequel_by : Purpose → Option JobImage → Option (Sequel Close)

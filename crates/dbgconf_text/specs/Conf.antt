@@ -1,5 +1,5 @@
 -- Names and their values as a text: `name = number ;` any number of times.
-use Rattle.std.specs.Prelude.{◌≡◌, ℕ, ◌<◌, Bool, true, List, [], ◌∷◌, map, take, codes, slice_get, Some, Result, Ok, Err}
+use Rattle.std.specs.Prelude.{◌≡◌, ℕ, ◌<◌, Bool, true, List, [], ◌∷◌, map, take, codes, slice_get, Some, Result, Ok, Err, ⊤}
 use Rattle.std.specs.List.{IsDistinct, list_any}
 use Rattle.std.specs.Str.{bytes_eq}
 use Rattle.expr_grammar.specs.declared.token.TokenKind.TheVariants as kinds
@@ -74,7 +74,7 @@ AnswersTokens ts (Ok conf) = IsConf ts conf
 AnswersTokens ts (Err (BadToken at)) = ⊥
 AnswersTokens ts (Err (Unexpected at)) = (i : ℕ) × IsUnexpectedFirst ts i × (at ≡ place_of ts i)
 AnswersTokens ts (Err (Repeated at)) = (i : ℕ) × IsRepeatedFirst ts i × (at ≡ place_of ts i)
-AnswersTokens ts (Err OutOfMemory) = Unit {0}
+AnswersTokens ts (Err OutOfMemory) = ⊤
 
 -- What is answered to a text: what is answered to its tokens; or its first bad token, where it has no tokens.
 pub data AnswersText (text : List ℕ) (answer : Result (List ConfItem) ConfFault) : Type 0 where
@@ -85,11 +85,11 @@ pub data AnswersText (text : List ℕ) (answer : Result (List ConfItem) ConfFaul
 -- these names and values, unless memory ran out
 abbrev pub Gives : List ConfItem → Result (List ConfItem) ConfFault → Type 0
 Gives conf (Ok given) = given ≡ conf
-Gives conf (Err OutOfMemory) = Unit {0}
+Gives conf (Err OutOfMemory) = ⊤
 Gives conf (Err fault) = ⊥
 
 -- this fault, unless memory ran out
 abbrev pub Refuses : ConfFault → Result (List ConfItem) ConfFault → Type 0
 Refuses fault (Ok conf) = ⊥
-Refuses fault (Err OutOfMemory) = Unit {0}
+Refuses fault (Err OutOfMemory) = ⊤
 Refuses fault (Err reported) = reported ≡ fault

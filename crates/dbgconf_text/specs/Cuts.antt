@@ -1,5 +1,5 @@
 -- What is put in the place of the values of declarations, in a text and in its code.
-use Rattle.std.specs.Prelude.{ℕ, ◌+◌, ◌-◌, ◌^◌, ◌<◌, List, [], ◌∷◌, ◌++◌, Option, Some, None, codes, take, drop, if◌then◌else◌}
+use Rattle.std.specs.Prelude.{ℕ, ◌+◌, ◌-◌, ◌^◌, ◌<◌, List, [], ◌∷◌, ◌++◌, Option, Some, None, codes, take, drop, if◌then◌else◌, ⊤}
 use Rattle.std.specs.Str.{bytes_eq}
 use Rattle.text_lines.specs.Hex.{hex}
 use Rattle.expr_grammar.specs.Lexeme.{Lexeme}
@@ -13,7 +13,7 @@ pub record Setting : Type 0 where
 
 -- each value has 64 bits
 abbrev pub AreSmall : List Setting → Type 0
-AreSmall [] = Unit {0}
+AreSmall [] = ⊤
 AreSmall (s ∷ more) = (s.value < 2 ^ 64) × AreSmall more
 
 -- the value that is set for a name: the first one

@@ -1,5 +1,5 @@
 -- The text of debug variables with the values of a list of names and values.
-use Rattle.std.specs.Prelude.{◌≡◌, ℕ, Bool, false, ◌||◌, ◌&&◌, List, [], ◌∷◌, map, codes, Option, Some, None, Result, Ok, Err, if◌then◌else◌}
+use Rattle.std.specs.Prelude.{◌≡◌, ℕ, Bool, false, ◌||◌, ◌&&◌, List, [], ◌∷◌, map, codes, Option, Some, None, Result, Ok, Err, if◌then◌else◌, ⊤}
 use Rattle.std.specs.Str.{bytes_eq}
 use Rattle.dap_base.specs.declared.text.Place.{Place}
 use Rattle.expr_grammar.specs.Lexeme.{Lexeme}
@@ -41,7 +41,7 @@ AreCode ts = (code : List StmtTree) × IsAccepted ReadsCode Statement ts code
 abbrev pub AnswersCode : List ℕ → List Lexeme → List ConfItem → Result (List ℕ) ReplaceFault → Type 0
 AnswersCode text ts conf (Ok new) = (undefined ts conf ≡ None) × (new ≡ spliced text 0 (cuts (settings_of conf) ts))
 AnswersCode text ts conf (Err (UndefinedName at)) = undefined ts conf ≡ Some at
-AnswersCode text ts conf (Err OutOfMemory) = Unit {0}
+AnswersCode text ts conf (Err OutOfMemory) = ⊤
 
 -- What is answered: the text as it is, where it is no code; and else what is answered to code. Apart from memory there is one such answer (`laws::one_replacement`).
 pub data Replaces (text : List ℕ) (conf : List ConfItem) (answer : Result (List ℕ) ReplaceFault) : Type 0 where

@@ -1,5 +1,5 @@
 -- Names and values written as a text.
-use Rattle.std.specs.Prelude.{◌≡◌, ℕ, ◌^◌, ◌<◌, List, [], ◌∷◌, ◌++◌, codes}
+use Rattle.std.specs.Prelude.{◌≡◌, ℕ, ◌^◌, ◌<◌, List, [], ◌∷◌, ◌++◌, codes, ⊤}
 use Rattle.std.specs.List.{flat_map, IsDistinct}
 use Rattle.std.specs.Str.{bytes_eq}
 use Rattle.text_lines.specs.Hex.{hex}
@@ -20,7 +20,7 @@ conf_bytes conf = flat_map item_bytes conf
 
 -- each name is spelled as a name, and each value has 64 bits
 abbrev pub AreSpelled : List ConfItem → Type 0
-AreSpelled [] = Unit {0}
+AreSpelled [] = ⊤
 AreSpelled (item ∷ more) = IsNameText item.name.text × (item.value < 2 ^ 64) × AreSpelled more
 
 -- Names and values as they can be read from a text: each name is spelled as one, no name stands twice, and each value has 64 bits.

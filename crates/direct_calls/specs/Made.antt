@@ -1,5 +1,5 @@
 -- How the code of a call at once is the call.
-use Rattle.std.specs.Prelude.{◌≡◌, ℕ, Bool, true, false, List, Result, Ok, Err, if◌then◌else◌}
+use Rattle.std.specs.Prelude.{◌≡◌, ℕ, Bool, true, false, List, Result, Ok, Err, if◌then◌else◌, ⊤}
 use Rattle.dap_base.specs.declared.text.OutOfMemory.{OutOfMemory}
 use Rattle.target_machine.specs.Plain.{CallDone, CallEnd, Answered, Skipped, Faulted, Small, from_lanes, given, is_fault, needs_cfg}
 use Rattle.target_machine.specs.declared.unit.Call.{Call}
@@ -31,7 +31,7 @@ takes_memory large _ = false
 -- the call was made; nothing is said where memory was refused
 abbrev pub MadeAs : CallDone → Result Made OutOfMemory → TargetState → List ℕ → Type 0
 MadeAs d (Ok m) next large = IsDone d (call_end_of m) next large
-MadeAs d (Err e) next large = Unit {0}
+MadeAs d (Err e) next large = ⊤
 
 -- Memory was refused where it has to be taken, and nothing was made.
 pub record IsRefused (takes : Bool) (old new : TargetState) (listed large : List ℕ) : Type 0 where

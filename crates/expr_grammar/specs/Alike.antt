@@ -1,5 +1,5 @@
 -- Tokens that differ only in their place and in how a number is spelled.
-use Rattle.std.specs.Prelude.{◌≡◌, List, [], ◌∷◌}
+use Rattle.std.specs.Prelude.{◌≡◌, List, [], ◌∷◌, ⊤}
 use Rattle.dap_base.specs.Number.{number_value}
 use Rattle.expr_grammar.specs.declared.token.TokenKind.TheVariants as kinds
 use Rattle.expr_grammar.specs.Lexeme.{Lexeme}
@@ -11,7 +11,7 @@ pub data Alike : Lexeme → Lexeme → Type 0 where
 
 -- the same, one for one
 abbrev pub AllAlike : List Lexeme → List Lexeme → Type 0
-AllAlike [] [] = Unit {0}
+AllAlike [] [] = ⊤
 AllAlike [] (b ∷ bs) = ⊥
 AllAlike (a ∷ more) [] = ⊥
 AllAlike (a ∷ more) (b ∷ bs) = Alike a b × AllAlike more bs

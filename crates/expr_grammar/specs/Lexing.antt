@@ -1,4 +1,5 @@
 -- How a text is cut into tokens, with blanks and comments between them.
+use Rattle.std.specs.Prelude.{⊤}
 use Rattle.std.specs.Prelude.{◌≡◌, ℕ, ◌+◌, ◌<◌, ◌≤◌, Bool, true, false, not, ◌&&◌, ◌||◌, ◌==◌, List, [], ◌∷◌, length, take, drop, slice_index, count_by, Result, Ok, Err}
 use Rattle.std.specs.List.{suffix_len}
 use Rattle.dap_base.specs.declared.text.Place.{Place}
@@ -105,16 +106,16 @@ pub record IsFirstBad (text : List ℕ) (bad : ℕ) : Type 0 where
 abbrev pub Lexes : List ℕ → Result (List Lexeme) TokenError → Type 0
 Lexes text (Ok ts) = AreTokensOf text ts
 Lexes text (Err (BadToken at)) = (bad : ℕ) × IsFirstBad text bad × (at ≡ place_at text bad)
-Lexes text (Err OutOfMemory) = Unit {0}
+Lexes text (Err OutOfMemory) = ⊤
 
 -- these tokens, unless memory ran out
 abbrev pub GivesTokens : List Lexeme → Result (List Lexeme) TokenError → Type 0
 GivesTokens ts (Ok given) = given ≡ ts
 GivesTokens ts (Err (BadToken at)) = ⊥
-GivesTokens ts (Err OutOfMemory) = Unit {0}
+GivesTokens ts (Err OutOfMemory) = ⊤
 
 -- a bad token at this place, unless memory ran out
 abbrev pub GivesBad : Place → Result (List Lexeme) TokenError → Type 0
 GivesBad at (Ok given) = ⊥
 GivesBad at (Err (BadToken reported)) = reported ≡ at
-GivesBad at (Err OutOfMemory) = Unit {0}
+GivesBad at (Err OutOfMemory) = ⊤

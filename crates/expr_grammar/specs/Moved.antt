@@ -1,5 +1,5 @@
 -- Texts that begin alike, and tokens that are the same except for their places.
-use Rattle.std.specs.Prelude.{◌≡◌, ℕ, List, [], ◌∷◌, take}
+use Rattle.std.specs.Prelude.{◌≡◌, ℕ, List, [], ◌∷◌, take, ⊤}
 use Rattle.expr_grammar.specs.Lexeme.{Lexeme}
 
 -- the first n bytes of both are the same; or both have fewer, and are the same
@@ -13,7 +13,7 @@ pub record IsMovedToken (t u : Lexeme) : Type 0 where
 
 -- the same tokens, one for one, at whichever places
 abbrev pub AreMoved : List Lexeme → List Lexeme → Type 0
-AreMoved [] [] = Unit {0}
+AreMoved [] [] = ⊤
 AreMoved [] (u ∷ us) = ⊥
 AreMoved (t ∷ ts) [] = ⊥
 AreMoved (t ∷ ts) (u ∷ us) = IsMovedToken t u × AreMoved ts us

@@ -1,5 +1,5 @@
 -- The tokens that an expression can have.
-use Rattle.std.specs.Prelude.{◌≡◌, false, List, [], ◌∷◌, codes}
+use Rattle.std.specs.Prelude.{◌≡◌, false, List, [], ◌∷◌, codes, ⊤}
 use Rattle.expr_grammar.specs.Lexeme.{Lexeme}
 use Rattle.expr_grammar.specs.Reading.{is_mark}
 
@@ -10,5 +10,5 @@ pub record IsPlain (k : Lexeme) : Type 0 where
 
 -- each of the tokens is neither
 abbrev pub ArePlain : List Lexeme → Type 0
-ArePlain [] = Unit {0}
+ArePlain [] = ⊤
 ArePlain (k ∷ ts) = IsPlain k × ArePlain ts

@@ -1,5 +1,5 @@
 -- Reading from left to right: what private contracts cite. An error is how many tokens are left where it is met.
-use Rattle.std.specs.Prelude.{◌≡◌, ℕ, zero, suc, ◌+◌, Bool, true, false, ◌&&◌, ◌==◌, List, [], ◌∷◌, length}
+use Rattle.std.specs.Prelude.{◌≡◌, ℕ, zero, suc, ◌+◌, Bool, true, false, ◌&&◌, ◌==◌, List, [], ◌∷◌, length, ⊤}
 use Rattle.std.specs.Prelude.{Option, Some, None, Result, Ok, Err, nat_lt, if◌then◌else◌, codes}
 use Rattle.std.specs.Str.{bytes_eq}
 use Rattle.dap_base.specs.declared.text.Place.{Place}
@@ -21,7 +21,7 @@ use Rattle.expr_grammar.specs.Grammar.{level}
 
 -- the fault is that of reading, with as many tokens left, unless memory ran out
 abbrev pub Fails : {Y : Type 0} → Fault → Result Y ℕ → Type 0
-Fails faults.Memory read = Unit {0}
+Fails faults.Memory read = ⊤
 Fails (faults.Unexpected left) read = read ≡ Err left
 
 -- What a function returned, seen by view, is what reading gives, unless memory ran out.
@@ -147,7 +147,7 @@ pub record IsNext (text : List ℕ) (ts rest : List Lexeme) : Type 0 where
 
 -- this mark does not come next
 abbrev pub IsNotNext : List ℕ → List Lexeme → Type 0
-IsNotNext text [] = Unit {0}
+IsNotNext text [] = ⊤
 IsNotNext text (k ∷ ts) = is_mark text k ≡ false
 
 -- a name

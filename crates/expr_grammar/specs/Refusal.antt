@@ -1,5 +1,5 @@
 -- Where tokens are refused, and what a parser answers.
-use Rattle.std.specs.Prelude.{◌≡◌, ℕ, zero, suc, ◌+◌, ◌-◌, ◌<◌, ◌≤◌, List, [], ◌∷◌, ◌++◌, length, take, count_by, Result, Ok, Err, codes}
+use Rattle.std.specs.Prelude.{◌≡◌, ℕ, zero, suc, ◌+◌, ◌-◌, ◌<◌, ◌≤◌, List, [], ◌∷◌, ◌++◌, length, take, count_by, Result, Ok, Err, codes, ⊤}
 use Rattle.std.specs.List.{after_last}
 use Rattle.dap_base.specs.declared.text.Place.{Place}
 use Rattle.expr_grammar.specs.declared.limit.Span.{Span}
@@ -92,17 +92,17 @@ module _ {V X : Type 0} (view : V → X) (R : List Lexeme → X → Type 0) (spa
   Answers (Ok v) = IsAccepted R span ts (view v)
   Answers (Err (Unexpected at)) = (i : ℕ) × IsUnexpectedFirst R span ts i × (at ≡ place_of ts i)
   Answers (Err (TooDeep at)) = (i : ℕ) × IsDeepFirst R span ts i × (at ≡ place_of ts i)
-  Answers (Err OutOfMemory) = Unit {0}
+  Answers (Err OutOfMemory) = ⊤
 
 -- this value, unless memory ran out
 abbrev pub Accepts : {V X : Type 0} → (V → X) → X → Result V ParseError → Type 0
 Accepts view x (Ok v) = view v ≡ x
-Accepts view x (Err OutOfMemory) = Unit {0}
+Accepts view x (Err OutOfMemory) = ⊤
 Accepts view x (Err (Unexpected at)) = ⊥
 Accepts view x (Err (TooDeep at)) = ⊥
 
 -- this error, unless memory ran out
 abbrev pub Refuses : {V : Type 0} → ParseError → Result V ParseError → Type 0
 Refuses error (Ok v) = ⊥
-Refuses error (Err OutOfMemory) = Unit {0}
+Refuses error (Err OutOfMemory) = ⊤
 Refuses error (Err reported) = reported ≡ error

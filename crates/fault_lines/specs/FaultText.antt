@@ -16,21 +16,14 @@ use Rattle.fault_lines.specs.Counted.{counts_line}
 
 -- the name that a fault of this kind is about, which begins at its column of the line
 abbrev pub name_in : FaultKind → List ℕ → ℕ → Option (List ℕ)
-name_in k.Syntax line column = None
 name_in k.UndefinedName line column = Some (name_at_column line column)
 name_in k.Redeclared line column = Some (name_at_column line column)
 name_in k.UndefinedSequence line column = Some (quoted_at line column)
 name_in k.UndefinedFunction line column = Some (name_at_column line column)
 name_in k.ArgumentCount line column = Some (name_at_column line column)
-name_in k.TextExpected line column = None
-name_in k.NumberExpected line column = None
-name_in k.FormatMismatch line column = None
-name_in k.BadDebugvars line column = None
-name_in k.UnboundedLoop line column = None
-name_in k.TimeoutTooLong line column = None
-name_in k.NestedTooDeep line column = None
 name_in k.CallCycle line column = called_at line column
 name_in k.CallsTooDeep line column = called_at line column
+name_in other line column = None
 
 -- the same in the line of the fault, where it has one
 abbrev pub name_if : FaultKind → Option (List ℕ) → ℕ → Option (List ℕ)

@@ -1,5 +1,5 @@
 -- Which pack the bytes of a job have.
-use Rattle.std.specs.Prelude.{◌≡◌, ◌≢◌, ℕ, codes, List, Result, Ok, Err}
+use Rattle.std.specs.Prelude.{◌≡◌, ◌≢◌, ℕ, codes, List, Result, Ok, Err, ⊤}
 use Rattle.serde_json.specs.Data.{Data}
 use Rattle.json_form.specs.declared.fault.JobFault.{JobFault}
 use Rattle.json_form.specs.declared.fault.JobFault.TheVariants as faults
@@ -36,12 +36,7 @@ pack_in_job d = do
 abbrev pub NoPack : List ℕ → Refusal → Type 0
 NoPack bytes refusals.BadJson = (d : Data) → IsTextOf bytes d → ⊥
 NoPack bytes (refusals.Job fault) = (d : Data) × IsTextOf bytes d × (pack_in_job d ≡ Err fault) × (fault ≢ faults.OutOfMemory)
-NoPack bytes refusals.NoDevice = ⊥
-NoPack bytes refusals.AmbiguousDevice = ⊥
-NoPack bytes refusals.NoVariant = ⊥
-NoPack bytes (refusals.Dbgconf kind at) = ⊥
-NoPack bytes (refusals.Image what line) = ⊥
-NoPack bytes (refusals.Check kind spot) = ⊥
+NoPack bytes other = ⊥
 
 -- ---- what is answered to bytes
 
@@ -49,7 +44,7 @@ NoPack bytes (refusals.Check kind spot) = ⊥
 abbrev pub IsPackAnswer : Pack → Result Pack CheckRefusal → Type 0
 IsPackAnswer pack (Ok read) = read ≡ pack
 IsPackAnswer pack (Err (ends.Refused r)) = ⊥
-IsPackAnswer pack (Err ends.OutOfMemory) = Unit {0}
+IsPackAnswer pack (Err ends.OutOfMemory) = ⊤
 
 -- it is what reading gives, unless memory ran out
 abbrev pub AnswersPack : List ℕ → Result Pack CheckRefusal → Type 0

@@ -1,5 +1,5 @@
 -- A guarded chain: commands of which each makes accesses only where the one before came to its end.
-use Rattle.std.specs.Prelude.{◌≡◌, ◌+◌, ◌-◌, ◌==◌, false, List, [], ◌∷◌, ◌++◌, take, bit_and}
+use Rattle.std.specs.Prelude.{◌≡◌, ◌+◌, ◌-◌, ◌==◌, false, List, [], ◌∷◌, ◌++◌, take, bit_and, ⊤}
 use Rattle.std.specs.List.{AllByRecursion}
 use Rattle.target_machine.specs.declared.access.RegAccess.{RegAccess}
 use Rattle.dap_messages.specs.declared.request.Response.{Response}
@@ -84,7 +84,7 @@ CutAs _ replies rest = AllByRecursion IsShut replies
 
 -- the first reply that is not OK is WAIT or FAULT, and all after it say that nothing was executed
 abbrev pub IsCutOnce : List Transferred → Type 0
-IsCutOnce [] = Unit {0}
+IsCutOnce [] = ⊤
 IsCutOnce (d ∷ replies) = CutAs d.response replies (IsCutOnce replies)
 
 -- A chain of these parts does a part of its accesses, which its replies show. The guard is open after it where it came to its end, and else

@@ -1,5 +1,5 @@
 -- The commands of a flight, and the replies to them.
-use Rattle.std.specs.Prelude.{ℕ, ◌+◌, ◌≤◌, false, List, [], ◌∷◌, length}
+use Rattle.std.specs.Prelude.{ℕ, ◌+◌, ◌≤◌, false, List, [], ◌∷◌, length, ⊤}
 use Rattle.std.specs.List.{AllByRecursion}
 use Rattle.target_machine.specs.declared.access.RegAccess.{RegAccess}
 use Rattle.dap_messages.specs.declared.command.PacketKind.{PacketKind}
@@ -56,6 +56,6 @@ block_answer d = reply.Block d.executed (code_of d.response)
 
 -- each reply is one that the guarded command of its part may get
 abbrev pub AnswerChain : List (List RegAccess) → List Transferred → Type 0
-AnswerChain [] [] = Unit {0}
+AnswerChain [] [] = ⊤
 AnswerChain (accesses ∷ parts) (d ∷ replies) = Answers (guarded_command accesses) (transfer_answer d) × AnswerChain parts replies
 AnswerChain _ _ = ⊥

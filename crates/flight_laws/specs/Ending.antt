@@ -1,5 +1,5 @@
 -- How an access ends whose calls lie in a flight, and what is true of it from its beginning to its end.
-use Rattle.std.specs.Prelude.{◌≡◌, ◌⊎◌, ℕ, ◌+◌, ◌*◌, ◌<◌, ◌≤◌, true, false, List, [], ◌∷◌, length, take, Option, Some, None}
+use Rattle.std.specs.Prelude.{◌≡◌, ◌⊎◌, ℕ, ◌+◌, ◌*◌, ◌<◌, ◌≤◌, true, false, List, [], ◌∷◌, length, take, Option, Some, None, ⊤}
 use Rattle.target_machine.specs.State.{Agree}
 use Rattle.target_machine.specs.declared.access.RegAccess.{RegAccess}
 use Rattle.dap_messages.specs.declared.request.Response.{Response}
@@ -74,7 +74,7 @@ response_of_cause NoAnswer = Wait
 -- at a fault the flight has only entries whose faults are not forgiven
 abbrev pub IsStrictAt : StopCause → List Entry → Type 0
 IsStrictAt Faulted flying = AreStrict flying
-IsStrictAt NoAnswer flying = Unit {0}
+IsStrictAt NoAnswer flying = ⊤
 
 -- The access is cut: it reports the end, with the numbers of a stop, and counts as come the calls that have their lines before it.
 pub record IsCutOff (p : Planner) (r : Report) (b : AccessView) (m0 : BenchState) : Type 0 where

@@ -44,10 +44,7 @@ joined_outcome w o c = record {
 -- only a run that was done goes on
 abbrev pub followed_at : {C : Type 0} → World → Sequel C → Outcome → Ending → Outcome
 followed_at w s o runs.Done = joined_outcome w o (comes (world_after w o.calls) s)
-followed_at w s o (runs.Halted cause) = o
-followed_at w s o (runs.Faulted call) = o
-followed_at w s o runs.Unanswered = o
-followed_at w s o runs.Lost = o
+followed_at w s o other = o
 
 -- The outcome of a run, with what follows it.
 abbrev pub followed : {C : Type 0} → Option (Sequel C) → World → Outcome → Outcome
@@ -76,10 +73,7 @@ close_of (Some close) = close
 -- only a run that was done goes on
 abbrev pub closed_at : World → Sequel Close → Outcome → Ending → Close
 closed_at w s o runs.Done = close_of (comes (world_after w o.calls) s).end
-closed_at w s o (runs.Halted cause) = Nothing
-closed_at w s o (runs.Faulted call) = Nothing
-closed_at w s o runs.Unanswered = Nothing
-closed_at w s o runs.Lost = Nothing
+closed_at w s o other = Nothing
 
 -- How what follows a run came to its end: `Nothing` where nothing follows, where the run was not done, and where the calls of what follows stop.
 abbrev pub close_after_run : Option (Sequel Close) → World → Outcome → Close

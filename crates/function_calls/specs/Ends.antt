@@ -9,7 +9,7 @@ use Rattle.access_calls.specs.Answers.{AtCut}
 use Rattle.access_calls.specs.Reported.{AccessView}
 use Rattle.access_calls.specs.declared.stop.Report.{Report}
 use Rattle.access_calls.specs.declared.stop.Stop.{Stop}
-use Rattle.access_calls.specs.declared.stop.Stop.TheVariants.{Cut, BenchFault, ReplyBad, OutOfMemory}
+use Rattle.access_calls.specs.declared.stop.Stop.TheVariants.{OutOfMemory}
 use Rattle.sequence_rules.specs.Calls as meaning
 use Rattle.sequence_rules.specs.Late.{Late, Later}
 use Rattle.sequence_rules.specs.Machine as machine
@@ -21,10 +21,8 @@ use Rattle.function_calls.specs.declared.end.End.TheVariants as end
 -- the access has ended; refused memory is no end
 abbrev pub HasEnded : Option Stop → Type 0
 HasEnded None = ⊥
-HasEnded (Some (Cut r)) = ⊤
-HasEnded (Some (BenchFault issued confirmed)) = ⊤
-HasEnded (Some ReplyBad) = ⊤
 HasEnded (Some OutOfMemory) = ⊥
+HasEnded other = ⊤
 
 -- the access has ended, and where a cut ended it this is so
 abbrev pub AtEnd : Option Stop → (Report → Type 0) → Type 0
@@ -73,19 +71,14 @@ CallEndIs (Err end.WriteFault) end = end ≡ None
 
 -- one call was asked for each unit that is counted; nothing is said where the access stopped or memory was refused
 abbrev pub CountsAskedUnits : {A : Type 0} → Result A End → ℕ → List Ask → Type 0
-CountsAskedUnits (Ok x) units calls = units ≡ length calls
-CountsAskedUnits (Err (end.Halted cause)) units calls = units ≡ length calls
-CountsAskedUnits (Err end.Stopped) units calls = Unit {0}
-CountsAskedUnits (Err end.OutOfMemory) units calls = Unit {0}
-CountsAskedUnits (Err end.WriteFault) units calls = units ≡ length calls
+CountsAskedUnits (Err end.Stopped) units calls = ⊤
+CountsAskedUnits (Err end.OutOfMemory) units calls = ⊤
+CountsAskedUnits other units calls = units ≡ length calls
 
 -- the sink's count of faults rose where the answer says that the sink failed, and else it is the same
 abbrev pub CallHasSinkCause : {A : Type 0} → Result A End → ℕ → ℕ → Type 0
-CallHasSinkCause (Ok x) before now = now ≡ before
-CallHasSinkCause (Err (end.Halted cause)) before now = now ≡ before
-CallHasSinkCause (Err end.Stopped) before now = now ≡ before
-CallHasSinkCause (Err end.OutOfMemory) before now = now ≡ before
 CallHasSinkCause (Err end.WriteFault) before now = Rose before now
+CallHasSinkCause other before now = now ≡ before
 
 -- a step is counted, or the run halts, as in the meaning
 abbrev pub CountsStep : Result (Unit {0}) HaltCause → State Value Late → Out Value Late (Unit {0}) → Type 0
@@ -94,15 +87,10 @@ CountsStep (Err cause) now out = out ≡ Err (machine.Halted cause, now)
 
 -- the access stopped here
 abbrev pub IsStopAt : World → List Ask → AccessView → End → Type 0
-IsStopAt w calls a (end.Halted cause) = ⊥
 IsStopAt w calls a end.Stopped = StopsHere w calls a
-IsStopAt w calls a end.OutOfMemory = ⊥
-IsStopAt w calls a end.WriteFault = ⊥
+IsStopAt w calls a other = ⊥
 
 -- the answer does not say that a sink failed
 abbrev pub NoWriteFault : {A : Type 0} → Result A End → Type 0
-NoWriteFault (Ok x) = Unit {0}
-NoWriteFault (Err (end.Halted cause)) = Unit {0}
-NoWriteFault (Err end.Stopped) = Unit {0}
-NoWriteFault (Err end.OutOfMemory) = Unit {0}
 NoWriteFault (Err end.WriteFault) = ⊥
+NoWriteFault other = ⊤

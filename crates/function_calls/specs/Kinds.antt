@@ -42,12 +42,7 @@ call_kind_of f.LoadDebugInfo = kind.Writes line.Load
 -- memory is accessed by 1, 2, 4 or 8 bytes
 abbrev pub IsSized : Kind → Type 0
 IsSized (kind.Memory size read) = (size ≡ 1) ⊎ ((size ≡ 2) ⊎ ((size ≡ 4) ⊎ (size ≡ 8)))
-IsSized (kind.Ap read) = ⊤
-IsSized (kind.Dp read) = ⊤
-IsSized (kind.Probe probe) = ⊤
-IsSized (kind.Writes line) = ⊤
-IsSized kind.Unsupported = ⊤
-IsSized kind.Nothing = ⊤
+IsSized other = ⊤
 
 -- what a write writes: its second number; a read has none
 abbrev pub written_value : Bool → List ℕ → ℕ

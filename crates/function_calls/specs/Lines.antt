@@ -1,5 +1,5 @@
 -- Whole lines, as calls write them.
-use Rattle.std.specs.Prelude.{◌≡◌, ℕ, List, [], ◌++◌, codes, Option, Result, Ok, Err}
+use Rattle.std.specs.Prelude.{◌≡◌, ℕ, List, [], ◌++◌, codes, Option, Result, Err, ⊤}
 use Rattle.std.specs.Io.KnownBytes.{Appends}
 use Rattle.function_calls.specs.declared.end.End.{End}
 use Rattle.function_calls.specs.declared.end.End.TheVariants as end
@@ -17,8 +17,5 @@ pub record AppendsLines (old new : Option (List ℕ)) : Type 0 where
 
 -- Only where the sink failed a part of a line may be written.
 abbrev pub WritesLines : {A : Type 0} → Result A End → Option (List ℕ) → Option (List ℕ) → Type 0
-WritesLines (Ok x) old new = AppendsLines old new
-WritesLines (Err (end.Halted cause)) old new = AppendsLines old new
-WritesLines (Err end.Stopped) old new = AppendsLines old new
-WritesLines (Err end.OutOfMemory) old new = AppendsLines old new
-WritesLines (Err end.WriteFault) old new = Unit {0}
+WritesLines (Err end.WriteFault) old new = ⊤
+WritesLines other old new = AppendsLines old new

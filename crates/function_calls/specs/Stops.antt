@@ -6,7 +6,5 @@ use Rattle.function_calls.specs.declared.end.End.TheVariants as end
 
 -- the access stopped, or memory was refused
 abbrev pub end_at_stop : Stop → End
-end_at_stop (stop.Cut r) = end.Stopped
-end_at_stop (stop.BenchFault issued confirmed) = end.Stopped
-end_at_stop stop.ReplyBad = end.Stopped
 end_at_stop stop.OutOfMemory = end.OutOfMemory
+end_at_stop other = end.Stopped

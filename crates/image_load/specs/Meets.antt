@@ -3,7 +3,7 @@ use Rattle.std.specs.Prelude.{◌≡◌, ◌⊎◌, ℕ, ◌+◌, ◌≤◌, Lis
 use Rattle.hex_image.specs.Image.{Bytes}
 use Rattle.target_calls.specs.World.{World, world_after}
 use Rattle.target_calls.specs.declared.calls.Ask.{Ask}
-use Rattle.access_calls.specs.declared.stop.Stop.TheVariants.{Cut, BenchFault, ReplyBad, OutOfMemory}
+use Rattle.access_calls.specs.declared.stop.Stop.TheVariants.{Cut}
 use Rattle.access_calls.specs.declared.stop.StopCause.{StopCause}
 use Rattle.access_calls.specs.declared.stop.StopCause.TheVariants.{Faulted, NoAnswer}
 use Rattle.sequels.specs.Meeting.{CutOff, Gave}
@@ -55,6 +55,4 @@ abbrev pub MeetsSequel : World → ℕ → Bytes → Result Loaded LoadEnd → L
 MeetsSequel w ap image (Ok l) old lines = GivesAll w ap image old (close.Loaded l.bytes l.writes)
 MeetsSequel w ap image (Err (e.Differs address wanted found)) old lines = GivesAll w ap image old (close.Differs address wanted found)
 MeetsSequel w ap image (Err (e.Stop (Cut r))) old lines = MeetsCut r.cause w ap image old lines
-MeetsSequel w ap image (Err (e.Stop (BenchFault issued confirmed))) old lines = IsFrontOf w ap image old
-MeetsSequel w ap image (Err (e.Stop ReplyBad)) old lines = IsFrontOf w ap image old
-MeetsSequel w ap image (Err (e.Stop OutOfMemory)) old lines = IsFrontOf w ap image old
+MeetsSequel w ap image other old lines = IsFrontOf w ap image old

@@ -33,11 +33,8 @@ pieces (a ∷ b ∷ c ∷ d ∷ rest) =
 
 -- The word with which bytes begin, where their first four are those of a word.
 abbrev pub leading_word : Bytes → Option Piece
-leading_word [] = None
-leading_word (a ∷ []) = None
-leading_word (a ∷ b ∷ []) = None
-leading_word (a ∷ b ∷ c ∷ []) = None
 leading_word (a ∷ b ∷ c ∷ d ∷ rest) = if are_word_addresses a.0 b.0 c.0 d.0 then Some (word_piece a.0 a.1 b.1 c.1 d.1) else None
+leading_word other = None
 
 -- A piece may be written: it is a word or a byte at a multiple of its size, below 2^32, and its value fits.
 pub record IsPiece (p : Piece) : Type 0 where

@@ -1,5 +1,5 @@
 -- What the check of a job's sequences answers.
-use Rattle.std.specs.Prelude.{◌≡◌, ℕ, List, Option, Result, Ok, Err}
+use Rattle.std.specs.Prelude.{◌≡◌, ℕ, List, Option, Result, Ok, Err, ⊤}
 use Rattle.device_tree.specs.declared.pack.Pack.{Pack}
 use Rattle.sequence_resolve.specs.declared.selection.Selection.{Selection}
 use Rattle.sequence_resolve.specs.declared.entry.SeqSet.{SeqSet}
@@ -26,34 +26,19 @@ use Rattle.job_check.specs.declared.answer.CheckRefusal.TheVariants as ends
 abbrev pub NoJob : List ℕ → Refusal → Type 0
 NoJob bytes refusals.BadJson = IsRefused bytes jobs.BadJson
 NoJob bytes (refusals.Job fault) = IsRefused bytes (jobs.Fault fault)
-NoJob bytes refusals.NoDevice = ⊥
-NoJob bytes refusals.AmbiguousDevice = ⊥
-NoJob bytes refusals.NoVariant = ⊥
-NoJob bytes (refusals.Dbgconf kind at) = ⊥
-NoJob bytes (refusals.Image what line) = ⊥
-NoJob bytes (refusals.Check kind spot) = ⊥
+NoJob bytes other = ⊥
 
 -- the pack has no set for the selection: no device of the name, several, or no variant of the name
 abbrev pub NoSet : Pack → Selection → Refusal → Type 0
 NoSet pack s refusals.NoDevice = HasNone pack s.device s.variant resolving.NoDevice
 NoSet pack s refusals.AmbiguousDevice = HasNone pack s.device s.variant resolving.AmbiguousDevice
 NoSet pack s refusals.NoVariant = HasNone pack s.device s.variant resolving.NoVariant
-NoSet pack s refusals.BadJson = ⊥
-NoSet pack s (refusals.Job fault) = ⊥
-NoSet pack s (refusals.Dbgconf kind at) = ⊥
-NoSet pack s (refusals.Image what line) = ⊥
-NoSet pack s (refusals.Check kind spot) = ⊥
+NoSet pack s other = ⊥
 
 -- the set is not valid, and this is its first fault
 abbrev pub NoValid : SeqSet → Refusal → Type 0
 NoValid set (refusals.Check kind spot) = IsFirstFaultOf set kind spot
-NoValid set refusals.BadJson = ⊥
-NoValid set (refusals.Job fault) = ⊥
-NoValid set (refusals.Dbgconf kind at) = ⊥
-NoValid set (refusals.Image what line) = ⊥
-NoValid set refusals.NoDevice = ⊥
-NoValid set refusals.AmbiguousDevice = ⊥
-NoValid set refusals.NoVariant = ⊥
+NoValid set other = ⊥
 
 -- ---- answers
 
@@ -95,16 +80,16 @@ pub record AreTreesOf (set : SeqSet) (checked : Checked) : Type 0 where
 -- a fact on the refusal, unless memory ran out
 abbrev pub OnRefusal : (Refusal → Type 0) → CheckRefusal → Type 0
 OnRefusal P (ends.Refused r) = P r
-OnRefusal P ends.OutOfMemory = Unit {0}
+OnRefusal P ends.OutOfMemory = ⊤
 
 -- what is answered is so, unless memory ran out
 abbrev pub OnAnswer : (Result SeqSet Refusal → Type 0) → Result ValidSet CheckRefusal → Type 0
 OnAnswer P (Ok found) = P (Ok found.set)
 OnAnswer P (Err (ends.Refused r)) = P (Err r)
-OnAnswer P (Err ends.OutOfMemory) = Unit {0}
+OnAnswer P (Err ends.OutOfMemory) = ⊤
 
 -- this answer, unless memory ran out
 abbrev pub AnswersAs : Result SeqSet Refusal → Result ValidSet CheckRefusal → Type 0
 AnswersAs answer (Ok found) = answer ≡ Ok found.set
 AnswersAs answer (Err (ends.Refused r)) = answer ≡ Err r
-AnswersAs answer (Err ends.OutOfMemory) = Unit {0}
+AnswersAs answer (Err ends.OutOfMemory) = ⊤

@@ -1,5 +1,5 @@
 -- Which sequence of a job runs, or why none does.
-use Rattle.std.specs.Prelude.{◌≡◌, ℕ, Bool, true, false, List, Option, Ok, Err}
+use Rattle.std.specs.Prelude.{◌≡◌, ℕ, Bool, true, false, List, Option, Ok, Err, ⊤}
 use Rattle.std.specs.List.{list_any}
 use Rattle.std.specs.Str.{bytes_eq}
 use Rattle.sequence_resolve.specs.declared.entry.SeqEntry.{SeqEntry}
@@ -107,7 +107,7 @@ pub data IsRefusedRun (bytes : List ℕ) (own : Own) (s : Selection) (name : Lis
 abbrev pub OnEnd : (RunRefusal → Type 0) → RunRefusal → Type 0
 OnEnd P (ends.Refused r) = P (ends.Refused r)
 OnEnd P ends.NoSequence = P ends.NoSequence
-OnEnd P ends.OutOfMemory = Unit {0}
+OnEnd P ends.OutOfMemory = ⊤
 
 -- why no sequence runs, by why there is no valid set
 abbrev pub run_refusal_of : CheckRefusal → RunRefusal

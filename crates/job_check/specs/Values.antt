@@ -35,13 +35,7 @@ IsConfFault text kinds.UndefinedName at = ⊥
 -- the text of the values has this fault
 abbrev pub HasConfFault : List ℕ → Refusal → Type 0
 HasConfFault text (refusals.Dbgconf kind at) = IsConfFault text kind at
-HasConfFault text refusals.BadJson = ⊥
-HasConfFault text (refusals.Job fault) = ⊥
-HasConfFault text refusals.NoDevice = ⊥
-HasConfFault text refusals.AmbiguousDevice = ⊥
-HasConfFault text refusals.NoVariant = ⊥
-HasConfFault text (refusals.Image what line) = ⊥
-HasConfFault text (refusals.Check kind spot) = ⊥
+HasConfFault text other = ⊥
 
 -- the job has a text of values, which is no list of names and values, with this fault
 abbrev pub NoConf : Option (List ℕ) → Refusal → Type 0
@@ -65,16 +59,7 @@ HasStartingValues (Some text) items plain set = (set.entries ≡ plain.entries) 
 -- no `__var` of these debug variables declares a name: the place of the first such name in the text of the values
 abbrev pub HasUndefined : List ConfItem → List ℕ → Refusal → Type 0
 HasUndefined items debugvars (refusals.Dbgconf kinds.UndefinedName at) = Replaces debugvars items (Err (replacing.UndefinedName at))
-HasUndefined items debugvars (refusals.Dbgconf kinds.BadToken at) = ⊥
-HasUndefined items debugvars (refusals.Dbgconf kinds.Unexpected at) = ⊥
-HasUndefined items debugvars (refusals.Dbgconf kinds.Repeated at) = ⊥
-HasUndefined items debugvars refusals.BadJson = ⊥
-HasUndefined items debugvars (refusals.Job fault) = ⊥
-HasUndefined items debugvars refusals.NoDevice = ⊥
-HasUndefined items debugvars refusals.AmbiguousDevice = ⊥
-HasUndefined items debugvars refusals.NoVariant = ⊥
-HasUndefined items debugvars (refusals.Image what line) = ⊥
-HasUndefined items debugvars (refusals.Check kind spot) = ⊥
+HasUndefined items debugvars other = ⊥
 
 -- the refusal of a name that is not declared, or that memory ran out
 abbrev pub name_refusal : ReplaceFault → CheckRefusal

@@ -8,13 +8,8 @@ use Rattle.access_calls.specs.declared.ended.Ending.TheVariants as e
 
 -- the bench's count of faults rose where the run ended because the bench failed, and else it is the same
 abbrev pub HasBenchCause : Ending → ℕ → ℕ → Type 0
-HasBenchCause e.Done before now = now ≡ before
-HasBenchCause (e.Halted cause) before now = now ≡ before
-HasBenchCause (e.Cut report) before now = now ≡ before
 HasBenchCause (e.BenchFault issued confirmed) before now = Rose before now
-HasBenchCause e.ReplyBad before now = now ≡ before
-HasBenchCause e.WriteFault before now = now ≡ before
-HasBenchCause e.OutOfMemory before now = now ≡ before
+HasBenchCause other before now = now ≡ before
 
 -- The last exchange began since, and one of its replies has this transfer response for one of its commands.
 pub record HasGotResponse (code : ℕ) (old new : BenchReported) : Type 0 where

@@ -297,7 +297,7 @@ LeavesAs e.OutOfMemory run l = IsLeftOff run l
 -- the access did not begin because the bench failed or memory was refused
 abbrev pub IsUnopened : Ending → Type 0
 IsUnopened (e.BenchFault issued confirmed) = (issued ≡ 0) × (confirmed ≡ 0)
-IsUnopened e.OutOfMemory = Unit {0}
+IsUnopened e.OutOfMemory = ⊤
 IsUnopened other = ⊥
 
 -- The access did not begin. Nothing was written, no work was done, and of the probe as it was after the load the settings have changed or

@@ -16,13 +16,9 @@ use Rattle.sequels.specs.declared.close.Close.TheVariants as close
 
 -- a run has a report, unless it could not write or had no memory
 abbrev pub has_report : Ending → Bool
-has_report e.Done = true
-has_report (e.Halted cause) = true
-has_report (e.Cut report) = true
-has_report (e.BenchFault issued confirmed) = true
-has_report e.ReplyBad = true
 has_report e.WriteFault = false
 has_report e.OutOfMemory = false
+has_report other = true
 
 -- the lines of the trace, where it is shown
 abbrev pub trace_part : Bool → Log → List ℕ

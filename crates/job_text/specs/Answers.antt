@@ -1,5 +1,5 @@
 -- What an answer to the bytes of a job says.
-use Rattle.std.specs.Prelude.{◌≡◌, ◌≢◌, ℕ, List, Some, Result, Ok, Err, IsUtf8}
+use Rattle.std.specs.Prelude.{◌≡◌, ◌≢◌, ℕ, List, Some, Result, Ok, Err, IsUtf8, ⊤}
 use Rattle.serde_json.specs.Data.{Data}
 use Rattle.serde_json.specs.Read.{read}
 use Rattle.json_form.specs.declared.fault.JobFault.TheVariants as faults
@@ -21,7 +21,7 @@ Describes bytes job = (d : Data) × IsTextOf bytes d × IsJob d job
 abbrev pub IsRefused : List ℕ → JobRefusal → Type 0
 IsRefused bytes refusals.BadJson = (d : Data) → IsTextOf bytes d → ⊥
 IsRefused bytes (refusals.Fault fault) = (d : Data) × IsTextOf bytes d × (job_in d ≡ Err fault) × (fault ≢ faults.OutOfMemory)
-IsRefused bytes refusals.OutOfMemory = Unit {0}
+IsRefused bytes refusals.OutOfMemory = ⊤
 
 -- it is what reading gives, unless memory ran out
 abbrev pub Answers : List ℕ → Result Job JobRefusal → Type 0
@@ -33,4 +33,4 @@ abbrev pub IsAnswer : Job → Result Job JobRefusal → Type 0
 IsAnswer job (Ok read) = read ≡ job
 IsAnswer job (Err refusals.BadJson) = ⊥
 IsAnswer job (Err (refusals.Fault fault)) = ⊥
-IsAnswer job (Err refusals.OutOfMemory) = Unit {0}
+IsAnswer job (Err refusals.OutOfMemory) = ⊤

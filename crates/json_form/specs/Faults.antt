@@ -1,5 +1,5 @@
 -- Faults with their paths, and what a function that reads a value answers.
-use Rattle.std.specs.Prelude.{◌≡◌, ℕ, codes, List, Option, Some, None, Result, Ok, Err, ◌∷◌}
+use Rattle.std.specs.Prelude.{◌≡◌, ℕ, codes, List, Option, Some, None, Result, Ok, Err, ◌∷◌, ⊤}
 use Rattle.json_form.specs.declared.fault.JobFault.{JobFault}
 use Rattle.json_form.specs.declared.fault.JobFault.TheVariants.{Missing, WrongKind, UnknownKey, Repeated, BadNumber, TooMany, OutOfMemory}
 use Rattle.json_form.specs.declared.path.PathStep.{PathStep}
@@ -47,21 +47,16 @@ Fails (UnknownKey path) read = read ≡ Err (UnknownKey path)
 Fails (Repeated path) read = read ≡ Err (Repeated path)
 Fails (BadNumber path) read = read ≡ Err (BadNumber path)
 Fails (TooMany path) read = read ≡ Err (TooMany path)
-Fails OutOfMemory read = Unit {0}
+Fails OutOfMemory read = ⊤
 
 -- the fault is one of the value, and not that memory was refused
 abbrev pub IsValueFault : JobFault → Type 0
-IsValueFault (Missing path) = Unit {0}
-IsValueFault (WrongKind path) = Unit {0}
-IsValueFault (UnknownKey path) = Unit {0}
-IsValueFault (Repeated path) = Unit {0}
-IsValueFault (BadNumber path) = Unit {0}
-IsValueFault (TooMany path) = Unit {0}
 IsValueFault OutOfMemory = ⊥
+IsValueFault other = ⊤
 
 -- reading gives a value, or a fault of it
 abbrev pub IsDecided : {A : Type 0} → Result A JobFault → Type 0
-IsDecided (Ok x) = Unit {0}
+IsDecided (Ok x) = ⊤
 IsDecided (Err fault) = IsValueFault fault
 
 -- A function answered what reading gives: the value, the first fault with its path, or that memory ran out.

@@ -1,5 +1,5 @@
 -- Which JSON value stands for which value, said apart from any order of reading.
-use Rattle.std.specs.Prelude.{◌≡◌, ℕ, ◌≤◌, ◌⊎◌, Bool, true, false, List, [], ◌∷◌, ◌++◌, Option, Some, None}
+use Rattle.std.specs.Prelude.{◌≡◌, ℕ, ◌≤◌, ◌⊎◌, Bool, true, false, List, [], ◌∷◌, ◌++◌, Option, Some, None, ⊤}
 use Rattle.serde_json.specs.Data.{Data, boolean, number, string, array, object, unsigned, Items, no_items, item, Members, no_members, member}
 use Rattle.serde_json.specs.Find.{get}
 use Rattle.dap_base.specs.Number.{number_value}
@@ -34,7 +34,7 @@ Such passes R d n = R d n × (passes n ≡ true)
 
 -- each name is one of these
 abbrev pub NamesAmong : List (List ℕ) → Members → Type 0
-NamesAmong known no_members = Unit {0}
+NamesAmong known no_members = ⊤
 NamesAmong known (member name d rest) = (is_among known name ≡ true) × NamesAmong known rest
 
 -- the value is an object that has no keys other than these

@@ -49,18 +49,7 @@ event_line depth Returns = below_line (depth - 1) (codes "return")
 abbrev pub depth_after : ℕ → Event → ℕ
 depth_after depth (Calls name) = depth + 1
 depth_after depth Returns = depth - 1
-depth_after depth (Begins spot st) = depth
-depth_after depth (Tests spot e) = depth
-depth_after depth (Chooses spot n) = depth
-depth_after depth (Loops spot e n) = depth
-depth_after depth (Turns spot n) = depth
-depth_after depth (Finds spot n) = depth
-depth_after depth (Leaves spot n) = depth
-depth_after depth (TimesOut spot n) = depth
-depth_after depth (Matches spot) = depth
-depth_after depth (Assigns name n) = depth
-depth_after depth (Makes u) = depth
-depth_after depth (Writes line) = depth
+depth_after depth other = depth
 
 -- A log: its text so far, and how deep the running sequence is.
 pub record LogText : Type 0 where

@@ -27,9 +27,7 @@ place_words place = codes " " ++ decimal place.line ++ codes ":" ++ decimal plac
 abbrev pub code_place : Part → Place → List ℕ
 code_place parts.Debugvars place = place_words place
 code_place parts.Block place = place_words place
-code_place parts.Control place = []
-code_place parts.If place = []
-code_place parts.While place = []
+code_place other place = []
 
 -- a place
 abbrev pub spot_words : Spot → List ℕ

@@ -1,5 +1,5 @@
 -- The program, and what follows from what a call of it does.
-use Rattle.std.specs.Prelude.{ℕ, List, Option}
+use Rattle.std.specs.Prelude.{ℕ, List, Option, ⊤}
 use Rattle.job_source.specs.Source.{AreBytesOf}
 use Rattle.tool_calls.specs.Calls.{FaultStatuses, Tool}
 use Rattle.log_tool.specs.Answers.{log_answer_status, log_answer_text}
@@ -18,9 +18,9 @@ log_program = record { IsLine = IsLogLine; Asks = AsksForLog; text = log_answer_
 
 -- the status of a run
 abbrev pub IsOfRun : Status → Type 0
-IsOfRun status.Done = Unit {0}
-IsOfRun status.Stopped = Unit {0}
-IsOfRun status.Failed = Unit {0}
+IsOfRun status.Done = ⊤
+IsOfRun status.Stopped = ⊤
+IsOfRun status.Failed = ⊤
 IsOfRun other = ⊥
 
 -- the bytes of the source, where it is observable, are a job of which a sequence runs with this status

@@ -54,10 +54,7 @@ end_line ending.Lost units = []
 -- where a run stopped, unless it is done: the place that the running sequence reached
 abbrev pub stop_place : Ending → List Event → Option Spot
 stop_place ending.Done seen = None
-stop_place (ending.Halted cause) seen = slice_get (places_reached seen) 0
-stop_place (ending.Faulted call) seen = slice_get (places_reached seen) 0
-stop_place ending.Unanswered seen = slice_get (places_reached seen) 0
-stop_place ending.Lost seen = slice_get (places_reached seen) 0
+stop_place other seen = slice_get (places_reached seen) 0
 
 -- the line of that place, where there is one
 abbrev pub at_line : Option Spot → List ℕ

@@ -1,5 +1,5 @@
 -- What a logged run holds, as a state of the meaning; how what the code answers is that of the meaning; and what it notes.
-use Rattle.std.specs.Prelude.{◌≡◌, ℕ, suc, ◌+◌, Bool, false, codes, nat_eq, if◌then◌else◌, List, [], ◌++◌, length, Some, None, Result, Ok, Err}
+use Rattle.std.specs.Prelude.{◌≡◌, ℕ, suc, ◌+◌, Bool, false, codes, nat_eq, if◌then◌else◌, List, [], ◌++◌, length, Some, None, Result, Ok, Err, ⊤}
 use Rattle.target_calls.specs.declared.calls.Ask.{Ask}
 use Rattle.sequence_trees.specs.declared.spot.Spot.{Spot}
 use Rattle.target_machine.specs.Plain.{Answered}
@@ -43,7 +43,7 @@ logged_state_of held target = record {
 abbrev pub CodeEndsAs : {A : Type 0} → LoggedEnd → State ℕ Now → Out ℕ Now A → Type 0
 CodeEndsAs (end.Halted cause) now out = out ≡ Err (machine.Halted cause, now)
 CodeEndsAs (end.Faulted u) now out = out ≡ Err (machine.Faulted (Access u), now)
-CodeEndsAs end.OutOfMemory now out = Unit {0}
+CodeEndsAs end.OutOfMemory now out = ⊤
 
 -- what the code answers and the state that it leaves are those of the meaning
 abbrev pub Means : {A : Type 0} → LoggedEnd → Result A Stopped → State ℕ Now → Out ℕ Now A → Type 0
@@ -59,7 +59,7 @@ abbrev pub Unless : {A : Type 0} → LoggedEnd → Result A Stopped → Type 0 �
 Unless e (Ok x) P = P
 Unless (end.Halted cause) (Err stopped) P = P
 Unless (end.Faulted u) (Err stopped) P = P
-Unless end.OutOfMemory (Err stopped) P = Unit {0}
+Unless end.OutOfMemory (Err stopped) P = ⊤
 
 -- the port of a memory or AP call, as the meaning has it
 abbrev pub port_view : CallPort → Port
@@ -96,7 +96,7 @@ abbrev pub LineNoted : {A : Type 0} → LoggedEnd → Result A Stopped → State
 LineNoted e (Ok x) s r old new line = (r.lines ≡ s.lines + 1) × (new ≡ lines_after_event old (Writes line)) × (r.rest.calls ≡ s.rest.calls)
 LineNoted (end.Halted cause) (Err stopped) s r old new line = (r.lines ≡ s.lines) × (new ≡ old) × (r.rest.calls ≡ s.rest.calls)
 LineNoted (end.Faulted u) (Err stopped) s r old new line = ⊥
-LineNoted end.OutOfMemory (Err stopped) s r old new line = Unit {0}
+LineNoted end.OutOfMemory (Err stopped) s r old new line = ⊤
 
 -- The code writes a line on any target, and answers the value. It answers and leaves what the meaning does, and notes the line.
 pub record WritesLine (old new : Held) (result : Result ℕ Stopped) (line : List ℕ) (value : ℕ) : Type 0 where

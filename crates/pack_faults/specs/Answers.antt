@@ -42,16 +42,12 @@ AreChecked pack (s ∷ ss) checked = (c : Checked) × (more : List Checked) × I
 -- a text could not be read, so that names, arguments and calls were not checked
 abbrev pub is_unread : Phase → Bool
 is_unread phases.Syntax = true
-is_unread phases.Rules = false
-is_unread phases.Cycles = false
-is_unread phases.Depth = false
+is_unread other = false
 
 -- a phase of the check was not reached
 abbrev pub is_unfinished : Phase → Bool
-is_unfinished phases.Syntax = true
-is_unfinished phases.Rules = true
-is_unfinished phases.Cycles = true
 is_unfinished phases.Depth = false
+is_unfinished other = true
 
 -- the faults of the sets that are requested, each once, with exactly the sets that have it
 pub record ArePackFaults (pack : Pack) (r : Request) (answer : PackFaults) : Type 0 where

@@ -1,4 +1,5 @@
 -- Sets that several devices and variants share: what private contracts cite.
+use Rattle.std.specs.Prelude.{⊤}
 use Rattle.std.specs.Prelude.{◌≡◌, ◌≤◌, ◌+◌, ℕ, Bool, ◌&&◌, is_none, List, [], ◌∷◌, ◌++◌, length, map, count_by, slice_get, Option, None, Some, option_map, if◌then◌else◌}
 use Rattle.std.specs.List.{All}
 use Rattle.std.specs.Borrow.{Bor}
@@ -75,7 +76,7 @@ pub record AreSetsOf (r : Request) (known : List KnownSet) (path : List LevelAt)
 
 -- the same, where there are some
 abbrev pub AreShared : Request → List KnownSet → List LevelAt → Option (List PnameSet) → Type 0
-AreShared r known path None = Unit {0}
+AreShared r known path None = ⊤
 AreShared r known path (Some sets) = AreSetsOf r known path sets
 
 -- ---- the sets of devices

@@ -1,5 +1,5 @@
 -- How far an access has come with the calls that were asked of it, and where it began.
-use Rattle.std.specs.Prelude.{◌≡◌, ℕ, zero, suc, ◌+◌, ◌-◌, ◌*◌, ◌^◌, ◌<◌, ◌≤◌, Bool, true, false, List, [], ◌∷◌, ◌++◌, length, map, take, slice_index, Option, Some}
+use Rattle.std.specs.Prelude.{◌≡◌, ℕ, zero, suc, ◌+◌, ◌-◌, ◌*◌, ◌^◌, ◌<◌, ◌≤◌, Bool, true, false, List, [], ◌∷◌, ◌++◌, length, map, take, slice_index, Option, Some, ⊤}
 use Rattle.std.specs.Prelude.{None, refl}
 use Rattle.std.specs.List.{AllByRecursion}
 use Rattle.target_machine.specs.Plain.{Makes}
@@ -79,10 +79,8 @@ strict_entries unit part accesses = map (λ a. record { unit = unit; part = part
 
 -- the unit is no poll
 abbrev pub IsNoPoll : AccessUnit → Type 0
-IsNoPoll (unit.Memory size read ap address value) = Unit {0}
-IsNoPoll (unit.Ap read ap addr value) = Unit {0}
-IsNoPoll (unit.Dp read addr value) = Unit {0}
 IsNoPoll (unit.Poll mask value turns) = ⊥
+IsNoPoll other = ⊤
 
 -- steps of the last of so many calls, which forgives nothing
 abbrev pub steps_left : LogState → List Step → List Entry

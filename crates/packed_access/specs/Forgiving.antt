@@ -1,5 +1,5 @@
 -- How far a unit that is made alone has come, in flights of its own, which forgives a fault or not.
-use Rattle.std.specs.Prelude.{◌≡◌, ◌⊎◌, ℕ, ◌+◌, ◌-◌, ◌^◌, min, Bool, true, false, not, if◌then◌else◌, List, [], ◌∷◌, ◌++◌, length, map, slice_get, take, Option}
+use Rattle.std.specs.Prelude.{◌≡◌, ◌⊎◌, ℕ, ◌+◌, ◌-◌, ◌^◌, min, Bool, true, false, not, if◌then◌else◌, List, [], ◌∷◌, ◌++◌, length, map, slice_get, take, Option, ⊤}
 use Rattle.std.specs.Prelude.{Some, None}
 use Rattle.target_machine.specs.Lists.{after}
 use Rattle.target_machine.specs.Plain.{Action, Makes, acted, call_actions, cfg_actions, given, has_large, in_order, is_fault, may_forgive}
@@ -123,7 +123,7 @@ CfgShows asked t large = (is_fault (in_order t (cfg_actions (port_of asked))).ou
 -- the unit ended because its access port has no large addresses; or it did not, was skipped or made
 abbrev pub IsSmallBy : Bool → Option ℕ → AccessUnit → Kept → TargetState → Type 0
 IsSmallBy true w asked k t = (needs_cfg k asked ≡ true) × CfgShows asked t false
-IsSmallBy false None asked k t = Unit {0}
+IsSmallBy false None asked k t = ⊤
 IsSmallBy false (Some v) asked k t = (needs_cfg k asked ≡ false) ⊎ ((needs_cfg k asked ≡ true) × CfgShows asked t true)
 
 -- what it came to, by that

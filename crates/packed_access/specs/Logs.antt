@@ -17,7 +17,7 @@ use Rattle.access_calls.specs.Reported.{AccessView}
 use Rattle.access_calls.specs.declared.issued.Issued.{Issued}
 use Rattle.access_calls.specs.declared.stop.Report.{Report}
 use Rattle.access_calls.specs.declared.stop.Stop.{Stop}
-use Rattle.access_calls.specs.declared.stop.Stop.TheVariants.{Cut, BenchFault, ReplyBad, OutOfMemory}
+use Rattle.access_calls.specs.declared.stop.Stop.TheVariants.{Cut, BenchFault, ReplyBad}
 use Rattle.access_calls.specs.declared.stop.StopCause.{StopCause}
 use Rattle.access_calls.specs.declared.stop.StopCause.TheVariants.{Faulted, NoAnswer}
 use Rattle.batch_packer.specs.SlotList.{slot_at}
@@ -126,11 +126,9 @@ nothing_logged = record {
 
 -- the packet or the reply of the exchange that ended an access: only a cut and a bad reply have one
 abbrev pub bytes_kept_at : Option Stop → List ℕ → List ℕ
-bytes_kept_at None bytes = []
 bytes_kept_at (Some (Cut r)) bytes = bytes
-bytes_kept_at (Some (BenchFault issued confirmed)) bytes = []
 bytes_kept_at (Some ReplyBad) bytes = bytes
-bytes_kept_at (Some OutOfMemory) bytes = []
+bytes_kept_at other bytes = []
 
 -- the calls with their need points
 abbrev pub asks_of : LogState → Asks
@@ -259,11 +257,9 @@ LogIsStopped ends.ReplyBad old new s = (s ≡ ReplyBad) × (new ≡ record old {
 
 -- a lemma: so it is at each end
 keeps_at : (end : Option Stop) (a : AccessView) (sent got : List ℕ) → a.sent ≡ bytes_kept_at end sent → a.got ≡ bytes_kept_at end got → KeepsReplyAt end a
-keeps_at None a sent got s g = record { sent = s; got = g }
 keeps_at (Some (Cut r)) a sent got s g = tt
-keeps_at (Some (BenchFault issued confirmed)) a sent got s g = record { sent = s; got = g }
 keeps_at (Some ReplyBad) a sent got s g = tt
-keeps_at (Some OutOfMemory) a sent got s g = record { sent = s; got = g }
+keeps_at other a sent got s g = record { sent = s; got = g }
 
 -- the law of the contract
 pub keeps_by : (bench : BenchReported) (state : Option BenchState) (log : LogState) (sent got : List ℕ) →

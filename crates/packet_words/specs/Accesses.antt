@@ -7,7 +7,7 @@ use Rattle.dap_messages.specs.declared.command_value.CommandValue.TheVariants as
 use Rattle.dap_messages.specs.declared.error.MessageError.{MessageError}
 use Rattle.dap_messages.specs.declared.request.Request.{Request}
 use Rattle.dap_messages.specs.declared.request.RequestKind.{RequestKind}
-use Rattle.dap_messages.specs.declared.request.RequestKind.TheVariants.{Posted, Read, Match, Mask, Write}
+use Rattle.dap_messages.specs.declared.request.RequestKind.TheVariants.{Match, Write}
 use Rattle.dap_messages.specs.Commands.{Packet, requests_of}
 use Rattle.dap_messages.specs.PacketReading.{packet_read}
 use Rattle.dap_messages.specs.Requests.{kind}
@@ -35,9 +35,7 @@ one_access register is_write = record { register = register; is_write = is_write
 unfoldable pub done_accesses : RequestKind → Register → List Access
 done_accesses Write register = one_access register true
 done_accesses Match register = one_access register false
-done_accesses Mask register = []
-done_accesses Posted register = []
-done_accesses Read register = []
+done_accesses other register = []
 
 -- the access of a request to this register, by what became of it
 unfoldable pub access_by_fate : RequestKind → Register → Fate → List Access

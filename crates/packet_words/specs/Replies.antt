@@ -1,7 +1,7 @@
 -- The replies to the commands of a packet, one after the other.
 use Rattle.std.specs.Prelude.{ℕ, ◌+◌, ◌-◌, ◌*◌, ◌==◌, nat_lt, Bool, not, ◌&&◌, List, [], ◌∷◌, length, take, min, if◌then◌else◌}
 use Rattle.dap_messages.specs.declared.command_value.CommandValue.{CommandValue}
-use Rattle.dap_messages.specs.declared.command_value.CommandValue.TheVariants.{Info, Configure, Transfer, WriteBlock, Abort, Delay, Pins, Clock, Line}
+use Rattle.dap_messages.specs.declared.command_value.CommandValue.TheVariants.{Info, Transfer, WriteBlock}
 use Rattle.dap_messages.specs.declared.request.Request.{Request}
 use Rattle.dap_messages.specs.Commands.{longest_reply}
 use Rattle.dap_messages.specs.Replies.{last_is_posted}
@@ -24,13 +24,8 @@ transfer_size rs bytes = length bytes
 unfoldable pub reply_size : CommandValue → List ℕ → ℕ
 reply_size (Transfer requests) bytes = transfer_size requests bytes
 reply_size (Info id) bytes = longest_reply (Info id)
-reply_size (Configure idle retry matches) bytes = 2
 reply_size (WriteBlock request words) bytes = 4
-reply_size (Abort word) bytes = 2
-reply_size (Delay time) bytes = 2
-reply_size (Pins output select wait) bytes = 2
-reply_size (Clock clock) bytes = 2
-reply_size (Line count bits) bytes = 2
+reply_size other bytes = 2
 
 -- how many of the bytes are the reply to a command: all where no command follows
 abbrev pub own_bytes : List CommandValue → CommandValue → List ℕ → ℕ

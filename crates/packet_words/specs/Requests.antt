@@ -61,9 +61,7 @@ left_after_request left r = record { read = left.read; done = left.done - 1; wor
 unfoldable pub after_done : RequestKind → Known → Register → ℕ → Known
 after_done Write known register word = after_write known register word
 after_done Match known register word = after_match known register
-after_done Mask known register word = known
-after_done Posted known register word = known
-after_done Read known register word = known
+after_done other known register word = known
 
 -- what is known after a request, by what became of it
 unfoldable pub after_request : Known → Request → Fate → Known
@@ -95,9 +93,7 @@ subject Read known byte = register_name (register_of known.select byte)
 unfoldable pub read_part : Fate → List ℕ
 read_part (fates.Gave word) = codes " -> " ++ hex8 word
 read_part fates.NoWord = codes " -> no word"
-read_part fates.Done = codes " read"
-read_part fates.Skipped = codes " read"
-read_part fates.NotKnown = codes " read"
+read_part other = codes " read"
 
 -- what is written, matched or read
 unfoldable pub value_part : RequestKind → ℕ → Fate → List ℕ
@@ -145,9 +141,7 @@ match_note known register word = note known register (Some word)
 unfoldable pub done_note : RequestKind → Known → Register → ℕ → List ℕ
 done_note Write known register word = note known register (Some word)
 done_note Match known register word = match_note known register word
-done_note Mask known register word = []
-done_note Posted known register word = []
-done_note Read known register word = []
+done_note other known register word = []
 
 -- what is known of the value of a request, by what became of it
 unfoldable pub request_note : Known → Request → Fate → List ℕ

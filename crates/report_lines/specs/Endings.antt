@@ -76,7 +76,4 @@ abbrev pub shows_target : Ending → Bool
 shows_target endings.Done = true
 shows_target (endings.Halted cause) = true
 shows_target (endings.Cut report) = true
-shows_target (endings.BenchFault issued confirmed) = false
-shows_target endings.ReplyBad = false
-shows_target endings.WriteFault = false
-shows_target endings.OutOfMemory = false
+shows_target other = false

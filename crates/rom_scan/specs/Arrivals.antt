@@ -1,5 +1,5 @@
 -- How a walk goes on, and how much of it is left.
-use Rattle.std.specs.Prelude.{◌≡◌, ℕ, ◌+◌, ◌-◌, ◌*◌, ◌%◌, ◌≤◌, sum_by, length, List, Option, None, Result, Ok, Err}
+use Rattle.std.specs.Prelude.{◌≡◌, ℕ, ◌+◌, ◌-◌, ◌*◌, ◌%◌, ◌≤◌, sum_by, length, List, Option, None, Result, Ok, Err, ⊤}
 use Rattle.dap_base.specs.Causes.{Rose}
 use Rattle.target_calls.specs.World.{World}
 use Rattle.target_calls.specs.declared.calls.Ask.{Ask}
@@ -25,17 +25,13 @@ Walks w lines ap s (Err (e.Stop st)) opening more old new before now = StopsIn w
 
 -- the access has ended where it stopped, and else it goes on
 abbrev pub ScanEndIs : {A : Type 0} → Result A ScanEnd → Option Stop → Type 0
-ScanEndIs (Ok x) end = end ≡ None
-ScanEndIs (Err e.Full) end = end ≡ None
-ScanEndIs (Err e.WriteFault) end = end ≡ None
 ScanEndIs (Err (e.Stop s)) end = EndsByStop s end
+ScanEndIs other end = end ≡ None
 
 -- the sink's count of faults rose, or is at its last value, where the sink failed, and else it is the same
 abbrev pub ScanHasSinkCause : Result ℕ ScanEnd → ℕ → ℕ → Type 0
-ScanHasSinkCause (Ok n) before now = now ≡ before
-ScanHasSinkCause (Err e.Full) before now = now ≡ before
 ScanHasSinkCause (Err e.WriteFault) before now = Rose before now
-ScanHasSinkCause (Err (e.Stop s)) before now = now ≡ before
+ScanHasSinkCause other before now = now ≡ before
 
 -- how many entries and components are left to be read, at most: a component that is read takes 970, and its table gives 961
 abbrev pub reads_left : List Table → List Component → ℕ
@@ -48,7 +44,5 @@ pub record IsOpenTable (t : Table) : Type 0 where
 
 -- so it is where there were too many components
 abbrev pub AtFull : Result ℕ ScanEnd → Type 0 → Type 0
-AtFull (Ok n) P = Unit {0}
 AtFull (Err e.Full) P = P
-AtFull (Err e.WriteFault) P = Unit {0}
-AtFull (Err (e.Stop s)) P = Unit {0}
+AtFull other P = ⊤

@@ -1,5 +1,5 @@
 -- What the words of a target show to a scan.
-use Rattle.std.specs.Prelude.{◌≡◌, ◌⊎◌, ℕ, ◌≤◌, true, length, take, Option, Some, None}
+use Rattle.std.specs.Prelude.{◌≡◌, ◌⊎◌, ℕ, ◌≤◌, true, length, take, Option, Some, None, ⊤}
 use Rattle.std.specs.FinMap as map
 use Rattle.target_machine.specs.Aim.{can_aim}
 use Rattle.target_machine.specs.InRange.{EachValue, IsInRange}
@@ -32,7 +32,7 @@ base_at t ap = base_in (map.get t.aps ap)
 
 -- the upper word of TAR is 0
 abbrev pub HasLowTar : Option ApState → Type 0
-HasLowTar None = Unit {0}
+HasLowTar None = ⊤
 HasLowTar (Some port) = port.high ≡ 0
 
 -- a word has no list of more than one value

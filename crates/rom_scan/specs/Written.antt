@@ -1,5 +1,5 @@
 -- What is written to a sink, over any access.
-use Rattle.std.specs.Prelude.{ℕ, List, Option, Result, Ok, Err}
+use Rattle.std.specs.Prelude.{ℕ, List, Option, Result, Err, ⊤}
 use Rattle.std.specs.Io.KnownBytes.{Appends}
 use Rattle.rom_scan.specs.Listing.{component_lines}
 use Rattle.rom_scan.specs.declared.component.Component.{Component}
@@ -13,7 +13,5 @@ pub record AppendsComponents (old new : Option (List ℕ)) : Type 0 where
 
 -- Only where the sink failed a part of a line may be written.
 abbrev pub WritesComponents : Result ℕ ScanEnd → Option (List ℕ) → Option (List ℕ) → Type 0
-WritesComponents (Ok n) old new = AppendsComponents old new
-WritesComponents (Err e.Full) old new = AppendsComponents old new
-WritesComponents (Err e.WriteFault) old new = Unit {0}
-WritesComponents (Err (e.Stop s)) old new = AppendsComponents old new
+WritesComponents (Err e.WriteFault) old new = ⊤
+WritesComponents other old new = AppendsComponents old new

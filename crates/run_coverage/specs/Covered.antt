@@ -3,7 +3,7 @@ use Rattle.std.specs.Prelude.{◌≡◌, ℕ, Bool, false, List, [], ◌∷◌, 
 use Rattle.std.specs.List.{list_any}
 use Rattle.std.specs.Str.{bytes_eq}
 use Rattle.dap_base.specs.declared.text.OutOfMemory.{OutOfMemory}
-use Rattle.run_events.specs.Events.{Event, Begins, Tests, Chooses, Loops, Turns, Finds, Leaves, TimesOut, Matches, Assigns, Makes, Writes, Calls, Returns}
+use Rattle.run_events.specs.Events.{Event, Begins, Chooses, Leaves, TimesOut, Matches}
 use Rattle.log_lines.specs.Places.{spot_words}
 use Rattle.run_coverage.specs.declared.coverage.Coverage.{Coverage}
 use Rattle.run_coverage.specs.Items.{ran_words, branch_words, left_words, timed_out_words}
@@ -15,15 +15,7 @@ event_words (Chooses spot n) = Some (branch_words n ++ spot_words spot)
 event_words (Leaves spot n) = Some (left_words spot)
 event_words (Matches spot) = Some (left_words spot)
 event_words (TimesOut spot n) = Some (timed_out_words spot)
-event_words (Tests spot e) = None
-event_words (Loops spot e n) = None
-event_words (Turns spot n) = None
-event_words (Finds spot n) = None
-event_words (Assigns name n) = None
-event_words (Makes u) = None
-event_words (Writes line) = None
-event_words (Calls name) = None
-event_words Returns = None
+event_words other = None
 
 -- an event, if it has words, has these
 abbrev pub has_item_words : List ℕ → Option (List ℕ) → Bool

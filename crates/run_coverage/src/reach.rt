@@ -8,10 +8,8 @@ use crate::calls::push_names;
 use crate::names::Names;
 use dap_base::{ItemList, OutOfMemory, Words};
 use seq_check::Checked;
+use sequence_rules::MOST_CALLS_DEEP;
 use std::alloc::Global;
-
-// Calls lead from a run's sequence at most so deep.
-const MOST_DEEP: u32 = 31;
 
 // Appends the sequences that the sequence of the name calls.
 fn push_called(
@@ -53,7 +51,7 @@ pub fn reached_names(alloc: Global, checked: &Checked, start: &str) -> Result<Na
 {
     let mut names = Names::new(alloc);
     names.add(alloc, start)?;
-    for _ in 0..MOST_DEEP {
+    for _ in 0..MOST_CALLS_DEEP {
         go_deeper(alloc, checked, &mut names)?;
     }
     Ok(names)

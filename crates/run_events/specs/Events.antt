@@ -123,14 +123,7 @@ places_after places (Loops spot e n) = spot ∷ drop 1 places
 places_after places (Turns spot n) = spot ∷ drop 1 places
 places_after places (Calls name) = take 1 places ++ places
 places_after places Returns = drop 1 places
-places_after places (Chooses spot n) = places
-places_after places (Finds spot n) = places
-places_after places (Leaves spot n) = places
-places_after places (TimesOut spot n) = places
-places_after places (Matches spot) = places
-places_after places (Assigns name n) = places
-places_after places (Makes u) = places
-places_after places (Writes line) = places
+places_after places other = places
 
 -- the places that these events reached
 abbrev pub places_reached : List Event → List Spot

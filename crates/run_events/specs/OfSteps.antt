@@ -9,7 +9,7 @@ use Rattle.sequence_trees.specs.Trees.{CodeStep, CodeSteps}
 use Rattle.sequence_trees.specs.declared.spot.Part.{Part}
 use Rattle.sequence_trees.specs.declared.spot.Part.TheVariants as part
 use Rattle.sequence_trees.specs.declared.spot.Spot.{Spot}
-use Rattle.target_machine.specs.Plain.{CallEnd, Answered, Skipped, Faulted, Small}
+use Rattle.target_machine.specs.Plain.{CallEnd, Answered}
 use Rattle.sequence_rules.specs.Direct.{Now, direct}
 use Rattle.sequence_rules.specs.Machine.{State, Out, end_state}
 use Rattle.sequence_rules.specs.Polls.{poll_of}
@@ -48,10 +48,7 @@ is_last_turn left (Err e) = true
 -- how a poll ended, by the end of its unit
 abbrev pub poll_end : Spot → ℕ → Option CallEnd → List Event
 poll_end spot turns (Some (Answered n)) = (if nat_eq n 0 then TimesOut spot turns else Matches spot) ∷ []
-poll_end spot turns (Some Skipped) = []
-poll_end spot turns (Some Faulted) = []
-poll_end spot turns (Some Small) = []
-poll_end spot turns None = []
+poll_end spot turns other = []
 
 -- the units of a poll, each with how the poll ended
 abbrev pub polled_events : Spot → ℕ → List MadeUnit → List Event

@@ -1,5 +1,5 @@
 -- What `check` answers.
-use Rattle.std.specs.Prelude.{◌≡◌, Result, Ok, Err}
+use Rattle.std.specs.Prelude.{◌≡◌, Result, Ok, Err, ⊤}
 use Rattle.sequence_resolve.specs.declared.entry.SeqSet.{SeqSet}
 use Rattle.sequence_trees.specs.declared.spot.Spot.{Spot}
 use Rattle.sequence_trees.specs.Trees.{SetTrees}
@@ -19,16 +19,16 @@ checked_trees c = set_trees c.set
 abbrev pub AnswersCheck : SeqSet → Result Checked CheckFault → Type 0
 AnswersCheck set (Ok checked) = ReadsSet set (checked_trees checked) × IsSound (checked_trees checked)
 AnswersCheck set (Err (faults.Fault kind spot)) = IsFirstFaultOf set kind spot
-AnswersCheck set (Err faults.OutOfMemory) = Unit {0}
+AnswersCheck set (Err faults.OutOfMemory) = ⊤
 
 -- these trees, unless memory ran out
 abbrev pub GivesTrees : SetTrees → Result Checked CheckFault → Type 0
 GivesTrees trees (Ok checked) = checked_trees checked ≡ trees
 GivesTrees trees (Err (faults.Fault kind spot)) = ⊥
-GivesTrees trees (Err faults.OutOfMemory) = Unit {0}
+GivesTrees trees (Err faults.OutOfMemory) = ⊤
 
 -- this fault, unless memory ran out
 abbrev pub ReportsFault : FaultKind → Spot → Result Checked CheckFault → Type 0
 ReportsFault kind spot (Ok checked) = ⊥
 ReportsFault kind spot (Err (faults.Fault reported_kind reported)) = (reported_kind ≡ kind) × (reported ≡ spot)
-ReportsFault kind spot (Err faults.OutOfMemory) = Unit {0}
+ReportsFault kind spot (Err faults.OutOfMemory) = ⊤

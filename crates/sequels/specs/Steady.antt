@@ -1,5 +1,5 @@
 -- Sequels each of whose calls has a known result.
-use Rattle.std.specs.Prelude.{◌≡◌, ℕ, false}
+use Rattle.std.specs.Prelude.{◌≡◌, ℕ, false, ⊤}
 use Rattle.target_calls.specs.World.{World, done_now, end_result, next_world, stops_here}
 use Rattle.target_calls.specs.declared.calls.Ask.{Ask}
 use Rattle.sequels.specs.Sequel.{Sequel, Ends, Asks, Writes}
@@ -12,6 +12,6 @@ pub record Steady (P : World → Type 0) (Q : Ask → Type 0) (f : Ask → ℕ) 
 
 -- Each call that a sequel may ask is of this kind.
 abbrev pub OnlyAsks : {X : Type 0} → (Ask → Type 0) → Sequel X → Type 0
-OnlyAsks Q (Ends x) = Unit {0}
+OnlyAsks Q (Ends x) = ⊤
 OnlyAsks Q (Asks ask on) = Q ask × ((n : ℕ) → OnlyAsks Q (on n))
 OnlyAsks Q (Writes line on) = OnlyAsks Q on

@@ -1,5 +1,5 @@
 -- What the direct runner answers.
-use Rattle.std.specs.Prelude.{◌≡◌, ℕ, List, [], ◌++◌, Option, None, Result, Ok, Err}
+use Rattle.std.specs.Prelude.{◌≡◌, ℕ, List, [], ◌++◌, Option, None, Result, Ok, Err, ⊤}
 use Rattle.target_calls.specs.World.{start_world, world_after}
 use Rattle.dap_base.specs.Causes.{Rose}
 use Rattle.sequence_rules.specs.Late.{Grows}
@@ -26,12 +26,12 @@ Records o (d.Halted cause variables) calls skipped target written =
     IsOutcome o (ending.Halted cause) (variables_of variables) calls skipped target written
 Records o (d.Faulted unit what) calls skipped target written =
     IsOutcome o (ending.Faulted (Access what)) [] calls skipped target written × (unit ≡ units_of o)
-Records o d.WriteFault calls skipped target written = Unit {0}
+Records o d.WriteFault calls skipped target written = ⊤
 
 -- What is answered, the target and what was written are those of the outcome. Where memory was refused, see `Leaves`.
 abbrev pub AnswersOutcome : Outcome → Result Recorded OutOfMemory → TargetState → Option (List ℕ) → Type 0
 AnswersOutcome o (Ok r) target written = Records o r.ending r.calls r.skipped target written
-AnswersOutcome o (Err e) target written = Unit {0}
+AnswersOutcome o (Err e) target written = ⊤
 
 -- So much of a run on a target was done. These calls come first among those of the outcome, and the target is the one that they leave. What was
 -- written comes first in what the outcome has written.
@@ -52,10 +52,8 @@ Leaves start o (Err e) target written = LeavesSome start o target written
 
 -- by a count of the sink's faults: the sink failed only where it rose, or is at its last value, and any other ending leaves it
 abbrev pub IsEndingCaused : Direct → ℕ → ℕ → Type 0
-IsEndingCaused (d.Done variables) before now = now ≡ before
-IsEndingCaused (d.Halted cause variables) before now = now ≡ before
-IsEndingCaused (d.Faulted unit what) before now = now ≡ before
 IsEndingCaused d.WriteFault before now = Rose before now
+IsEndingCaused other before now = now ≡ before
 
 -- the same of the answer of a direct run
 abbrev pub IsDirectCaused : Result Direct OutOfMemory → ℕ → ℕ → Type 0
@@ -74,4 +72,4 @@ EndsAs o ended target written = Records o ended o.calls o.skipped target written
 -- the same, unless memory was refused
 abbrev pub AnswersDirect : Outcome → Result Direct OutOfMemory → TargetState → Option (List ℕ) → Type 0
 AnswersDirect o (Ok ended) target written = EndsAs o ended target written
-AnswersDirect o (Err e) target written = Unit {0}
+AnswersDirect o (Err e) target written = ⊤

@@ -65,10 +65,8 @@ MeansDirect e (Err stopped) now out = EndsDirect e now out
 
 -- Why the code ends, by a count of the sink's faults. The sink failed only where it rose, or is at its last value, and any other end leaves it.
 abbrev pub IsEndCaused : DirectEnd → ℕ → ℕ → Type 0
-IsEndCaused (end.Halted cause) before now = now ≡ before
-IsEndCaused (end.Faulted u) before now = now ≡ before
 IsEndCaused end.WriteFault before now = Rose before now
-IsEndCaused end.OutOfMemory before now = now ≡ before
+IsEndCaused other before now = now ≡ before
 
 -- the sink's count of faults rose where the code stopped because it failed, and else it is the same
 abbrev pub IsCaused : {A : Type 0} → DirectEnd → Result A Stopped → ℕ → ℕ → Type 0

@@ -1,5 +1,5 @@
 -- The sequences that apply to a device: of each name the greatest candidate, and of equals the last.
-use Rattle.std.specs.Prelude.{◌≡◌, ℕ, ◌+◌, ◌*◌, ◌<◌, ◌≤◌, Bool, true, false, List, [], ◌∷◌, ◌++◌, map, Option, Some, None, is_some, if◌then◌else◌}
+use Rattle.std.specs.Prelude.{◌≡◌, ℕ, ◌+◌, ◌*◌, ◌<◌, ◌≤◌, Bool, true, false, List, [], ◌∷◌, ◌++◌, map, Option, Some, None, is_some, if◌then◌else◌, ⊤}
 use Rattle.std.specs.List.{AllByRecursion}
 use Rattle.std.specs.Str.{bytes_eq}
 use Rattle.device_tree.specs.StepTree.{no_steps}
@@ -52,12 +52,12 @@ names_after seen (c ∷ cs) = names_after (name_added seen c.sequence.name) cs
 
 -- none of its name stands above it
 abbrev pub NoneAbove : List Candidate → Candidate → Type 0
-NoneAbove [] w = Unit {0}
+NoneAbove [] w = ⊤
 NoneAbove (c ∷ cs) w = (bytes_eq c.sequence.name w.sequence.name ≡ true → c.rank ≤ w.rank) × NoneAbove cs w
 
 -- all of its name stand below it
 abbrev pub AllBelow : List Candidate → Candidate → Type 0
-AllBelow [] w = Unit {0}
+AllBelow [] w = ⊤
 AllBelow (c ∷ cs) w = (bytes_eq c.sequence.name w.sequence.name ≡ true → c.rank < w.rank) × AllBelow cs w
 
 -- the last of the greatest of its name: none of them before it stands above it, and all of them after it stand below it

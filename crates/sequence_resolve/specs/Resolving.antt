@@ -1,5 +1,5 @@
 -- The effective set of a device, and when there is none.
-use Rattle.std.specs.Prelude.{◌≡◌, ℕ, ◌<◌, List, [], ◌∷◌, length, map, Option, Some, None, Result, Ok, Err}
+use Rattle.std.specs.Prelude.{◌≡◌, ℕ, ◌<◌, List, [], ◌∷◌, length, map, Option, Some, None, Result, Ok, Err, ⊤}
 use Rattle.device_tree.specs.declared.pack.Variant.{Variant}
 use Rattle.device_tree.specs.declared.pack.Pack.{Pack}
 use Rattle.sequence_resolve.specs.declared.entry.SeqSet.{SeqSet}
@@ -35,7 +35,7 @@ abbrev pub HasNone : Pack → List ℕ → Option (List ℕ) → ResolveFault �
 HasNone pack device variant_name faults.NoDevice = named device pack ≡ []
 HasNone pack device variant_name faults.AmbiguousDevice = 1 < length (named device pack)
 HasNone pack device variant_name faults.NoVariant = (place : DevicePlace) × (named device pack ≡ place ∷ []) × (requested_variant variant_name place.device ≡ None)
-HasNone pack device variant_name faults.OutOfMemory = Unit {0}
+HasNone pack device variant_name faults.OutOfMemory = ⊤
 
 -- the only one of the places, or why there is none
 abbrev pub FindsOnly : List DevicePlace → Result code.DevicePlace ResolveFault → Type 0
@@ -43,4 +43,4 @@ FindsOnly places (Ok place) = places ≡ place_view place ∷ []
 FindsOnly places (Err faults.NoDevice) = places ≡ []
 FindsOnly places (Err faults.AmbiguousDevice) = 1 < length places
 FindsOnly places (Err faults.NoVariant) = ⊥
-FindsOnly places (Err faults.OutOfMemory) = Unit {0}
+FindsOnly places (Err faults.OutOfMemory) = ⊤

@@ -1,5 +1,5 @@
 -- What the readers of texts and of sets answer.
-use Rattle.std.specs.Prelude.{◌≡◌, ℕ, List, Result, Ok, Err}
+use Rattle.std.specs.Prelude.{◌≡◌, ℕ, List, Result, Ok, Err, ⊤}
 use Rattle.dap_base.specs.declared.text.Place.{Place}
 use Rattle.sequence_resolve.specs.declared.entry.SeqSet.{SeqSet}
 use Rattle.expr_grammar.specs.declared.code.Expr.{Expr}
@@ -44,7 +44,7 @@ module _ {V X : Type 0} (view : V → X) (R : List Lexeme → X → Type 0) (spa
   abbrev pub AnswersText : Result V TextFault → Type 0
   AnswersText (Ok v) = IsTextOf R span text (view v)
   AnswersText (Err (texts.Syntax at)) = IsFaultyText R span text at
-  AnswersText (Err texts.OutOfMemory) = Unit {0}
+  AnswersText (Err texts.OutOfMemory) = ⊤
 
 -- the code of the text, or the place of its first fault
 abbrev pub AnswersCode : List ℕ → Result (List Stmt) TextFault → Type 0
@@ -58,13 +58,13 @@ AnswersCondition = AnswersText tree ReadsExpr spans.Text
 abbrev pub GivesValue : {V X : Type 0} → (V → X) → X → Result V TextFault → Type 0
 GivesValue view x (Ok v) = view v ≡ x
 GivesValue view x (Err (texts.Syntax at)) = ⊥
-GivesValue view x (Err texts.OutOfMemory) = Unit {0}
+GivesValue view x (Err texts.OutOfMemory) = ⊤
 
 -- a fault at this place, unless memory ran out
 abbrev pub ReportsPlace : {V : Type 0} → Place → Result V TextFault → Type 0
 ReportsPlace at (Ok v) = ⊥
 ReportsPlace at (Err (texts.Syntax reported)) = reported ≡ at
-ReportsPlace at (Err texts.OutOfMemory) = Unit {0}
+ReportsPlace at (Err texts.OutOfMemory) = ⊤
 
 -- ---- of a set
 
@@ -72,16 +72,16 @@ ReportsPlace at (Err texts.OutOfMemory) = Unit {0}
 abbrev pub AnswersSet : SeqSet → Result ReadSet SetFault → Type 0
 AnswersSet set (Ok read) = ReadsSet set (set_trees read)
 AnswersSet set (Err (sets.Syntax spot)) = IsFirstFault set spot
-AnswersSet set (Err sets.OutOfMemory) = Unit {0}
+AnswersSet set (Err sets.OutOfMemory) = ⊤
 
 -- these trees, unless memory ran out
 abbrev pub GivesSet : SetTrees → Result ReadSet SetFault → Type 0
 GivesSet trees (Ok read) = set_trees read ≡ trees
 GivesSet trees (Err (sets.Syntax spot)) = ⊥
-GivesSet trees (Err sets.OutOfMemory) = Unit {0}
+GivesSet trees (Err sets.OutOfMemory) = ⊤
 
 -- this fault, unless memory ran out
 abbrev pub ReportsSpot : Spot → Result ReadSet SetFault → Type 0
 ReportsSpot spot (Ok given) = ⊥
 ReportsSpot spot (Err (sets.Syntax reported)) = reported ≡ spot
-ReportsSpot spot (Err sets.OutOfMemory) = Unit {0}
+ReportsSpot spot (Err sets.OutOfMemory) = ⊤

@@ -1,5 +1,5 @@
 -- What the readers of steps answer: what private contracts cite.
-use Rattle.std.specs.Prelude.{◌≡◌, ℕ, List, [], ◌∷◌, Some, Result, Ok, Err}
+use Rattle.std.specs.Prelude.{◌≡◌, ℕ, List, [], ◌∷◌, Some, Result, Ok, Err, ⊤}
 use Rattle.device_tree.specs.declared.steps.Step as device
 use Rattle.sequence_trees.specs.declared.spot.Part.{Part}
 use Rattle.sequence_trees.specs.declared.spot.Spot.{Spot}
@@ -17,12 +17,12 @@ use Rattle.sequence_trees.specs.Reading.{ReadsBlock, ReadsControl, ReadsSteps}
 -- the fault is the first of these texts that is faulty
 abbrev pub IsFaultOf : List StepText → StepFault → Type 0
 IsFaultOf all (steps.Syntax f) = IsFirstFaulty all f.path f.part f.place
-IsFaultOf all steps.OutOfMemory = Unit {0}
+IsFaultOf all steps.OutOfMemory = ⊤
 
 -- the fault is the first of these texts of a set that is faulty
 abbrev pub IsSetFaultOf : List (TextAt SetStep) → SetFault → Type 0
 IsSetFaultOf all (sets.Syntax spot) = IsFirstFaulty all (step_of spot) spot.part spot.place
-IsSetFaultOf all sets.OutOfMemory = Unit {0}
+IsSetFaultOf all sets.OutOfMemory = ⊤
 
 -- a value that is `Given`, or the first of the texts that is faulty
 module _ {V : Type 0} (Given : V → Type 0) where
@@ -53,7 +53,7 @@ at_part part texts.OutOfMemory = steps.OutOfMemory
 
 -- the fault in the step of this number, unless memory ran out
 abbrev pub IsUnder : ℕ → StepFault → StepFault → Type 0
-IsUnder number inner steps.OutOfMemory = Unit {0}
+IsUnder number inner steps.OutOfMemory = ⊤
 IsUnder number inner (steps.Syntax reported) = (f : FaultyText) × (inner ≡ steps.Syntax f)
     × (reported ≡ record { path = number ∷ f.path; part = f.part; place = f.place })
 

@@ -1,5 +1,5 @@
 -- The list of all that are so, in an order.
-use Rattle.std.specs.Prelude.{◌≡◌, ◌⊎◌, Bool, true, List, [], ◌∷◌, Contains, if◌then◌else◌}
+use Rattle.std.specs.Prelude.{◌≡◌, ◌⊎◌, Bool, true, List, [], ◌∷◌, Contains, if◌then◌else◌, ⊤}
 use Rattle.std.specs.List.{AllByRecursion}
 use Rattle.dap_base.specs.declared.text.Place.{Place}
 use Rattle.code_check.specs.declared.fault.FaultKind.{FaultKind}
@@ -7,7 +7,7 @@ use Rattle.code_check.specs.declared.fault.CodeFault.{CodeFault}
 
 -- each is before all those after it
 abbrev pub Rises : {F : Type 0} → (F → F → Bool) → List F → Type 0
-Rises before [] = Unit {0}
+Rises before [] = ⊤
 Rises before (f ∷ more) = AllByRecursion (λ g. before f g ≡ true) more × Rises before more
 
 -- the list has all that are so and no others, each once, in this order

@@ -10,15 +10,12 @@ use crate::site::{Site, add_warning};
 use crate::warning::{Warning, WarningKind};
 use dap_base::{ItemList, OutOfMemory, Place};
 use expr_grammar::{Arg, BinaryOp, Expr, Name};
-use sequence_rules::turn_count;
+use sequence_rules::{MOST_UNITS, turn_count};
 use sequence_trees::CheckedStep;
 use std::alloc::Global;
 
 // The microseconds of a turn, where a job names none.
 const TURN_US: u32 = 10;
-
-// The most units of a run.
-const MOST_UNITS: u32 = 1_000_000;
 
 // A form that is there, and the first name in it.
 type Form<'a> = Option<Option<&'a Name>>;

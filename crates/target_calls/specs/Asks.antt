@@ -34,9 +34,7 @@ ForgiveNothing asks = AllByRecursion (λ ask. is_forgiving ask ≡ false) asks
 -- the access is one of memory at an address over 0xFFFFFFFF
 abbrev pub is_wide : AccessUnit → Bool
 is_wide (unit.Memory size read ap address value) = nat_lt 0xFFFF_FFFF address
-is_wide (unit.Ap read ap addr value) = false
-is_wide (unit.Dp read addr value) = false
-is_wide (unit.Poll mask value turns) = false
+is_wide other = false
 
 -- the call is such an access
 abbrev pub is_wide_call : Call → Bool

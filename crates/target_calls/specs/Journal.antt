@@ -1,5 +1,5 @@
 -- The journal: what is issued for calls, entry by entry.
-use Rattle.std.specs.Prelude.{◌≡◌, ℕ, ◌-◌, Bool, true, false, not, ◌&&◌, if◌then◌else◌, List, [], ◌∷◌, map, sum_by, Option, Some, None}
+use Rattle.std.specs.Prelude.{◌≡◌, ℕ, ◌-◌, Bool, true, false, not, ◌&&◌, if◌then◌else◌, List, [], ◌∷◌, map, sum_by, Option, Some, None, ⊤}
 use Rattle.target_machine.specs.Counts.{one_if}
 use Rattle.target_machine.specs.Lists as lists
 use Rattle.target_machine.specs.Plain.{Action, acted, is_fault}
@@ -19,9 +19,7 @@ pub record Entry : Type 0 where
 -- the entry is not its unit's own, but settles what an earlier unit left open
 abbrev pub settles : Part → Bool
 settles Settles = true
-settles Leads = false
-settles Ends = false
-settles (Skips attempted) = false
+settles other = false
 
 -- Its unit counts as attempted from this entry on: it is the access that the unit is for, or the ABORT after an earlier fault.
 abbrev pub completes : Part → Bool
@@ -32,10 +30,8 @@ completes (Skips attempted) = attempted
 
 -- the entry is the write of ABORT after a fault that is forgiven
 abbrev pub is_skip : Part → Bool
-is_skip Settles = false
-is_skip Leads = false
-is_skip Ends = false
 is_skip (Skips attempted) = true
+is_skip other = false
 
 -- the actions of entries, in order
 abbrev pub actions_in : List Entry → List Action
@@ -51,7 +47,7 @@ is_unforgiven t e = is_fault (acted t e.action).outcome && not e.forgiving
 
 -- From t no entry gives a fault that its unit does not forgive.
 abbrev pub Passes : TargetState → List Entry → Type 0
-Passes t [] = Unit {0}
+Passes t [] = ⊤
 Passes t (e ∷ entries) = (is_unforgiven t e ≡ false) × Passes (acted t e.action).next entries
 
 -- The number, from 1, of the first entry that gives a fault which its unit does not forgive.

@@ -1,5 +1,5 @@
 -- What entries weigh: by how much the probe's work grows with each. It shows how many of them were performed.
-use Rattle.std.specs.Prelude.{ℕ, suc, ◌+◌, ◌-◌, ◌<◌, nat_le, if◌then◌else◌, List, [], ◌∷◌, sum_by}
+use Rattle.std.specs.Prelude.{ℕ, suc, ◌+◌, ◌-◌, ◌<◌, nat_le, if◌then◌else◌, List, [], ◌∷◌, sum_by, ⊤}
 use Rattle.std.specs.List.{AllByRecursion}
 use Rattle.target_machine.specs.Packets.{commands_for}
 use Rattle.target_machine.specs.Plain.{Action, Makes, Polls, Commands, acted, polled}
@@ -25,9 +25,9 @@ performed t (e ∷ entries) work =
 
 -- a poll has at least one turn
 abbrev pub IsWeighty : Action → Type 0
-IsWeighty (Makes a) = Unit {0}
+IsWeighty (Makes a) = ⊤
 IsWeighty (Polls mask requested turns) = 0 < turns
-IsWeighty (Commands c) = Unit {0}
+IsWeighty (Commands c) = ⊤
 
 -- no entry is a poll of no turns
 abbrev pub AreWeighty : List Entry → Type 0

@@ -51,10 +51,8 @@ next_world w ask = record { target = (done_now w ask).next; large = (done_now w 
 
 -- the call met a fault that it does not forgive
 abbrev pub is_faulted : CallEnd → Bool
-is_faulted (Answered n) = false
-is_faulted Skipped = false
 is_faulted Faulted = true
-is_faulted Small = false
+is_faulted other = false
 
 -- the calls stop at this one: it is not answered, or meets a fault that it does not forgive
 abbrev pub stops_here : World → Ask → Bool
@@ -63,9 +61,7 @@ stops_here w ask = is_over w.answered || is_faulted (done_now w ask).end
 -- the result of a call by its end: 0 where the call was skipped, or its AP has no large addresses
 abbrev pub end_result : CallEnd → ℕ
 end_result (Answered n) = n
-end_result Skipped = 0
-end_result Faulted = 0
-end_result Small = 0
+end_result other = 0
 
 -- The results of the calls before the one at which they stop.
 abbrev pub results : World → List Ask → List ℕ
@@ -92,10 +88,8 @@ world_after w (ask ∷ asks) = if stops_here w ask then left_at w ask else world
 
 -- 1 where the call was skipped, as it met a fault that it forgives
 abbrev pub one_if_skipped : CallEnd → ℕ
-one_if_skipped (Answered n) = 0
 one_if_skipped Skipped = 1
-one_if_skipped Faulted = 0
-one_if_skipped Small = 0
+one_if_skipped other = 0
 
 -- How many of the calls were skipped.
 abbrev pub skips : World → List Ask → ℕ
@@ -109,10 +103,8 @@ results_within (Some n) values = take n values
 
 -- the call's address is over 0xFFFFFFFF, and its AP has no large addresses
 abbrev pub is_small_end : CallEnd → Bool
-is_small_end (Answered n) = false
-is_small_end Skipped = false
-is_small_end Faulted = false
 is_small_end Small = true
+is_small_end other = false
 
 -- the next call ends so, where the calls before it do not stop
 abbrev pub small_after : Option ℕ → World → Ask → Bool

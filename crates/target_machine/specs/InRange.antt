@@ -1,5 +1,5 @@
 -- The numbers of a target fit the registers, words and counters that hold them.
-use Rattle.std.specs.Prelude.{◌≡◌, ℕ, ◌^◌, ◌<◌, ◌≤◌, Some}
+use Rattle.std.specs.Prelude.{◌≡◌, ℕ, ◌^◌, ◌<◌, ◌≤◌, Some, ⊤}
 use Rattle.std.specs.FinMap as map
 use Rattle.std.specs.List.{All}
 use Rattle.std.specs.Ordering.{nat_cmp}
@@ -72,12 +72,12 @@ abbrev pub IsCommandInRange : ProbeCall → Type 0
 IsCommandInRange (probe.Abort value) = IsWord value
 IsCommandInRange (probe.Clock hertz) = IsWord hertz
 IsCommandInRange (probe.Line count bits) = count ≤ 64
-IsCommandInRange other = Unit {0}
+IsCommandInRange other = ⊤
 
 -- what an action writes is of 32 bits
 abbrev pub IsActionInRange : Action → Type 0
 IsActionInRange (Makes a) = IsWord a.value
-IsActionInRange (Polls mask requested turns) = Unit {0}
+IsActionInRange (Polls mask requested turns) = ⊤
 IsActionInRange (Commands c) = IsCommandInRange c
 
 -- the numbers of a job fit their registers and words

@@ -1,5 +1,5 @@
 -- Lists of actions.
-use Rattle.std.specs.Prelude.{◌≡◌, ℕ, false, List, [], ◌∷◌, fold}
+use Rattle.std.specs.Prelude.{◌≡◌, ℕ, false, List, [], ◌∷◌, fold, ⊤}
 use Rattle.std.specs.FinMap as map
 use Rattle.std.specs.List.{AllByRecursion}
 use Rattle.std.specs.Ordering.{nat_cmp}
@@ -20,8 +20,8 @@ PassTo t (a ∷ rest) u = (is_fault (acted t a).outcome ≡ false) × PassTo (ac
 -- the action does not ask for RDBUFF
 abbrev pub SparesRdbuff : Action → Type 0
 SparesRdbuff (Makes a) = gives_rdbuff a ≡ false
-SparesRdbuff (Polls mask requested turns) = Unit {0}
-SparesRdbuff (Commands c) = Unit {0}
+SparesRdbuff (Polls mask requested turns) = ⊤
+SparesRdbuff (Commands c) = ⊤
 
 -- none of the actions asks for RDBUFF
 abbrev pub SpareRdbuff : List Action → Type 0
@@ -34,5 +34,5 @@ with_ports t rdbuff aps = record t { rdbuff = rdbuff; aps = aps }
 -- the action is no access of an AP, and does not ask for RDBUFF
 abbrev pub SparesAps : Action → Type 0
 SparesAps (Makes a) = (a.ap ≡ false) × (gives_rdbuff a ≡ false)
-SparesAps (Polls mask requested turns) = Unit {0}
-SparesAps (Commands c) = Unit {0}
+SparesAps (Polls mask requested turns) = ⊤
+SparesAps (Commands c) = ⊤

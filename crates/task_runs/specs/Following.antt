@@ -1,5 +1,5 @@
 -- What follows a run, over an access: how far it has come, in a world that is left.
-use Rattle.std.specs.Prelude.{◌≡◌, ◌⊎◌, ℕ, ◌+◌, ◌≤◌, List, ◌++◌, length, Option, Some, None, Result, Ok, Err}
+use Rattle.std.specs.Prelude.{◌≡◌, ◌⊎◌, ℕ, ◌+◌, ◌≤◌, List, ◌++◌, length, Option, Some, None, Result, Ok, Err, ⊤}
 use Rattle.std.specs.Io.KnownBytes.{Appends}
 use Rattle.target_calls.specs.Asks.{settled_last}
 use Rattle.target_calls.specs.declared.calls.Ask.{Ask}
@@ -90,14 +90,14 @@ ClosingHasSinkCause (Err (unclosed.Stopped s)) before now = now ≡ before
 
 -- the answer does not say that a sink failed
 abbrev pub ClosingHasNoWriteFault : {A : Type 0} → Result A Unclosed → Type 0
-ClosingHasNoWriteFault (Ok x) = Unit {0}
+ClosingHasNoWriteFault (Ok x) = ⊤
 ClosingHasNoWriteFault (Err unclosed.WriteFault) = ⊥
-ClosingHasNoWriteFault (Err (unclosed.Stopped s)) = Unit {0}
+ClosingHasNoWriteFault (Err (unclosed.Stopped s)) = ⊤
 
 -- whole lines were written, except perhaps where the sink failed
 abbrev pub ClosingHasLines : {A : Type 0} → Result A Unclosed → Option (List ℕ) → Option (List ℕ) → Type 0
 ClosingHasLines (Ok x) old new = AppendsLines old new
-ClosingHasLines (Err unclosed.WriteFault) old new = Unit {0}
+ClosingHasLines (Err unclosed.WriteFault) old new = ⊤
 ClosingHasLines (Err (unclosed.Stopped s)) old new = AppendsLines old new
 
 -- How what follows a run ends: the access has the end that is answered, and else none; whole lines are written, except perhaps where the

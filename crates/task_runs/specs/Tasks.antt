@@ -1,5 +1,5 @@
 -- What follows a sequence, as a sequel.
-use Rattle.std.specs.Prelude.{◌≡◌, ◌<◌, ℕ, map, Bool, true, false, Option, Some, None, length}
+use Rattle.std.specs.Prelude.{◌≡◌, ◌<◌, ℕ, map, Bool, true, false, Option, Some, None, length, ⊤}
 use Rattle.target_machine.specs.declared.unit.Settings.{Settings}
 use Rattle.function_table.specs.Variables.{predefined}
 use Rattle.access_calls.specs.declared.ended.Ending.{Ending}
@@ -20,12 +20,7 @@ use Rattle.task_runs.specs.declared.followed.Followed.TheVariants.{Nothing, Load
 -- the run is done
 abbrev pub is_done : Ending → Bool
 is_done e.Done = true
-is_done (e.Halted cause) = false
-is_done (e.Cut report) = false
-is_done (e.BenchFault issued confirmed) = false
-is_done e.ReplyBad = false
-is_done e.WriteFault = false
-is_done e.OutOfMemory = false
+is_done other = false
 
 -- how a scan closes
 abbrev pub scan_close : Walked → Close
@@ -56,19 +51,15 @@ task_of p followed = record { program = p; sequel = sequel_of followed }
 
 -- an image was loaded, with these numbers of bytes and writes, or it differs
 abbrev pub ClosesLoad : Bytes → Close → Type 0
-ClosesLoad image close.Nothing = ⊥
 ClosesLoad image (close.Loaded bytes writes) = (bytes ≡ length image) × (writes ≡ length (pieces image))
-ClosesLoad image (close.Differs address wanted found) = Unit {0}
-ClosesLoad image close.Scanned = ⊥
-ClosesLoad image close.Full = ⊥
+ClosesLoad image (close.Differs address wanted found) = ⊤
+ClosesLoad image other = ⊥
 
 -- a ROM table was scanned, or it is too large
 abbrev pub ClosesScan : Close → Type 0
-ClosesScan close.Nothing = ⊥
-ClosesScan (close.Loaded bytes writes) = ⊥
-ClosesScan (close.Differs address wanted found) = ⊥
-ClosesScan close.Scanned = Unit {0}
-ClosesScan close.Full = Unit {0}
+ClosesScan close.Scanned = ⊤
+ClosesScan close.Full = ⊤
+ClosesScan other = ⊥
 
 -- What follows a run that is done closes as it may: nothing by nothing, a load as loaded or differing, a scan as scanned or full.
 abbrev pub ClosesAs : Followed → Close → Type 0

@@ -17,6 +17,7 @@ use hex_image::Image;
 use image_load::{LoadEnd, count_writes, load};
 use rom_scan::{ScanEnd, scan_counting};
 use sequels::Close;
+use sequence_rules::MOST_UNITS;
 use std::alloc::Global;
 
 // How what follows came to its end, and how many units it asked.
@@ -128,7 +129,7 @@ pub(crate) fn follow<A: Access, K: Sink>(
     ensures closes { IfOk result (λ x. ClosesAs followed.now x.close) }
     ensures ends { EndsFollowing A.begun A.reported A.identity K.written K.faults result access.old access.new sink.old sink.new }
 {
-    if units > 1_000_000 {
+    if units > MOST_UNITS {
         return Err(Unclosed::Stopped(Stop::OutOfMemory));
     }
     match followed {

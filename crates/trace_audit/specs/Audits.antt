@@ -1,5 +1,5 @@
 -- What an audit answers.
-use Rattle.std.specs.Prelude.{◌≡◌, ◌≢◌, ℕ, Bool, true, false, not, List, [], ◌∷◌, ◌++◌, length, map, count_by, slice_get, Some, Result, Ok, Err}
+use Rattle.std.specs.Prelude.{◌≡◌, ◌≢◌, ℕ, Bool, true, false, not, List, [], ◌∷◌, ◌++◌, length, map, count_by, slice_get, Some, Result, Ok, Err, ⊤}
 use Rattle.probe_core.specs.Log.{Entry, packet_entry, reply_entry}
 use Rattle.probe_core.specs.Probe.{ProbeState, refusal_of}
 use Rattle.probe_core.specs.Runs.{CanCome, IsRun, after}
@@ -70,7 +70,7 @@ pub record IsFirstWrong (first : ProbeState) (es : List Entry) (fault : AuditFau
 
 -- the first fault of the entries, unless memory ran out
 abbrev pub IsFault : ProbeState → List Entry → AuditFault → Type 0
-IsFault first es faults.OutOfMemory = Unit {0}
+IsFault first es faults.OutOfMemory = ⊤
 IsFault first es fault = IsFirstWrong first es fault
 
 -- The entries are a run of the probe that leads to this one; so many of them are packets, and so many replies.
@@ -87,5 +87,5 @@ Audits first es (Err fault) = IsFault first es fault
 -- the entries are accepted, with this probe after them, unless memory ran out
 abbrev pub Accepts : ProbeState → Result Audited AuditFault → Type 0
 Accepts last (Ok a) = a.probe ≡ last
-Accepts last (Err faults.OutOfMemory) = Unit {0}
+Accepts last (Err faults.OutOfMemory) = ⊤
 Accepts last (Err fault) = ⊥

@@ -1,5 +1,5 @@
 -- The text of an entry: `> ` or `< ` and the digits of its bytes.
-use Rattle.std.specs.Prelude.{◌≡◌, ℕ, ◌≤◌, ◌%◌, ◌==◌, ◌&&◌, ◌||◌, nat_le, Bool, true, false, List, [], ◌∷◌, ◌++◌, length, codes, Ok}
+use Rattle.std.specs.Prelude.{◌≡◌, ℕ, ◌≤◌, ◌%◌, ◌==◌, ◌&&◌, ◌||◌, nat_le, Bool, true, false, List, [], ◌∷◌, ◌++◌, length, codes, Ok, ⊤}
 use Rattle.std.specs.List.{list_all}
 use Rattle.hex.specs.Hex.{decode_of, is_hex_digit}
 use Rattle.probe_core.specs.Log.{Entry}
@@ -23,7 +23,7 @@ IsEntry text = (entry : Entry) × IsEntryText text entry
 
 -- the texts are those of these entries, one by one
 abbrev pub AreEntriesOf : List (List ℕ) → List Entry → Type 0
-AreEntriesOf [] [] = Unit {0}
+AreEntriesOf [] [] = ⊤
 AreEntriesOf (text ∷ texts) (entry ∷ entries) = IsEntryText text entry × AreEntriesOf texts entries
 AreEntriesOf [] (entry ∷ entries) = ⊥
 AreEntriesOf (text ∷ texts) [] = ⊥

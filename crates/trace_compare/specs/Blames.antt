@@ -7,25 +7,17 @@ use Rattle.trace_compare.specs.declared.call.Status.TheVariants as status
 
 -- the statuses of the file
 abbrev pub is_of_file : Status → Bool
-is_of_file status.Done = false
-is_of_file status.Wrong = false
-is_of_file status.Usage = false
-is_of_file status.ReadFault = false
 is_of_file status.FileFault = true
 is_of_file status.NotOpened = true
-is_of_file status.WriteFault = false
-is_of_file status.OutOfMemory = false
+is_of_file other = false
 
 -- the statuses that leave the file's count
 abbrev pub leaves_file : Status → Bool
-leaves_file status.Done = true
-leaves_file status.Wrong = true
-leaves_file status.Usage = true
-leaves_file status.ReadFault = true
 leaves_file status.FileFault = false
 leaves_file status.NotOpened = false
 leaves_file status.WriteFault = false
 leaves_file status.OutOfMemory = false
+leaves_file other = true
 
 -- Two statuses name the file. Where it cannot be opened, its line can fail: then the status names the sink, or memory, and the count of
 -- the file rose all the same.

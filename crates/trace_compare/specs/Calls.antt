@@ -24,10 +24,8 @@ words_exit_code status.OutOfMemory = 7
 
 -- the name after `--against`, where the words are these two
 abbrev pub file_named : List (List ℕ) → Option (List ℕ)
-file_named [] = None
-file_named (option ∷ []) = None
 file_named (option ∷ name ∷ []) = if bytes_eq option (codes "--against") then Some name else None
-file_named (option ∷ name ∷ other ∷ others) = None
+file_named other = None
 
 -- ---- what is written
 
@@ -36,12 +34,10 @@ file_named (option ∷ name ∷ other ∷ others) = None
 abbrev pub WritesWords : List ℕ → Status → Option (List ℕ) → Option (List ℕ) → Type 0
 WritesWords bytes status.Done old new = Appends old new (words_of_trace bytes) × (are_good bytes ≡ true)
 WritesWords bytes status.Wrong old new = Appends old new (words_of_trace bytes) × (are_good bytes ≡ false)
-WritesWords bytes status.Usage old new = ⊥
 WritesWords bytes status.ReadFault old new = AppendsPrefix old new (words_of_trace bytes)
-WritesWords bytes status.FileFault old new = ⊥
-WritesWords bytes status.NotOpened old new = ⊥
 WritesWords bytes status.WriteFault old new = AppendsPrefix old new (words_of_trace bytes)
 WritesWords bytes status.OutOfMemory old new = AppendsPrefix old new (words_of_trace bytes)
+WritesWords bytes other old new = ⊥
 
 -- The same for these bytes of a trace and of the one that it is compared with. It is the whole comparison, and whether both are alike. At a
 -- fault it is a part of it.
@@ -49,11 +45,8 @@ abbrev pub WritesAgainst : List ℕ → List ℕ → Status → Option (List ℕ
 WritesAgainst bytes others status.Done old new = Appends old new (words_against bytes others) × (are_alike bytes others ≡ true)
 WritesAgainst bytes others status.Wrong old new = Appends old new (words_against bytes others) × (are_alike bytes others ≡ false)
 WritesAgainst bytes others status.Usage old new = ⊥
-WritesAgainst bytes others status.ReadFault old new = AppendsPrefix old new (words_against bytes others)
-WritesAgainst bytes others status.FileFault old new = AppendsPrefix old new (words_against bytes others)
 WritesAgainst bytes others status.NotOpened old new = ⊥
-WritesAgainst bytes others status.WriteFault old new = AppendsPrefix old new (words_against bytes others)
-WritesAgainst bytes others status.OutOfMemory old new = AppendsPrefix old new (words_against bytes others)
+WritesAgainst bytes others other old new = AppendsPrefix old new (words_against bytes others)
 
 -- the line of a file that cannot be opened
 unfoldable pub not_opened_line : List ℕ → List ℕ

@@ -5,7 +5,7 @@ use Rattle.access_calls.proofs.KeepLemmas.{keeps_on}
 use Rattle.seq_check.specs.Answers.{checked_trees}
 use Rattle.sequence_trees.specs.Trees.{NoSteps, step_tree, steps_tree, steps_named}
 use Rattle.sequence_rules.specs.Late.{late}
-use Rattle.sequence_rules.specs.Steps.{after_counted, condition, counted, controlled, declared, statement, turn}
+use Rattle.sequence_rules.specs.Steps.{after_counted, condition, counted, controlled, declared, dropped, statement, turn}
 use Rattle.sequence_rules.proofs.LateLemmas.{later_same}
 use Rattle.sequence_rules.proofs.LoopLemmas as loop
 use Rattle.sequence_rules.proofs.Made.{no_cost}
@@ -125,6 +125,12 @@ pub push_value-returns-in-Err : goal.push_value-returns-in-Err
 unfolding appended
 push_value-returns-in-Err g t c =
     writing_on _ c.in_ok-value.ensures (writing_by_call (call_refused (ready_after c.in_ok-value.ensures.ends) (λ w asks written. later_same no_cost w _)))
+
+pub run_expression-returns-in_err-evaluate : goal.run_expression-returns-in_err-evaluate
+unfolding after_counted dropped
+run_expression-returns-in_err-evaluate g t c =
+    writing_on _ (writing_by_call (call_changes {p = λ m. counted m} c.requires.ready c.count_step.ensures.units (λ w asks written. c.in-Ok.ensures.gives g.A.Access.cost w asks written)))
+    (writing_end _ (λ cost w x. later_ok w x.1 _) c.from_residual.ensures.1 c.in_err-evaluate.ensures)
 
 pub call_listed-returns-in_err-evaluate_arguments : goal.call_listed-returns-in_err-evaluate_arguments
 unfolding call_of numbers_of
