@@ -17,3 +17,4 @@ pub mod ForgivingLemmas
 pub mod RoomLemmas
 pub mod WriteLemmas
 pub mod BlockLemmas
+pub mod NextWrites

@@ -5,6 +5,7 @@ pub mod Pushing
 pub mod Stopping
 pub mod Actions
 pub mod Packets
+pub mod Changes
 pub mod GoesOn
 pub mod Small
 pub mod Sending

@@ -16,7 +16,8 @@ use Rattle.flight_forms.specs.Forms.{all_write_drw, writes_drw}
 use Rattle.flight_laws.specs.Packets.{drw_writes_in, is_drw_write}
 use Rattle.flight_laws.proofs.FlightLemmas.{flight_length, head_makes}
 use Rattle.bench_flights.specs.Full.{IsFull, transfer_accesses}
-use Rattle.packed_access.specs.Blocks.{AreBlocks, changes_after, changes_in, differs, others_in}
+use Rattle.flight_laws.specs.Changes.{changes_after, changes_in, differs, others_in}
+use Rattle.packed_access.specs.Blocks.{AreBlocks}
 
 -- ---- more entries, and longer lists
 

@@ -13,7 +13,8 @@ use Rattle.target_calls.specs.declared.calls.Slot.{Slot}
 use Rattle.target_calls.proofs.NeedLemmas.{needed_calls}
 use Rattle.access_regs.specs.Costs.{cost_by}
 use Rattle.packed_access.specs.Logs.{LogState, asks_of, with_asks, with_needs}
-use Rattle.packed_access.specs.Sparing.{AreNeeded, first_cost, marks_in}
+use Rattle.flight_laws.specs.Changes.{marks_in}
+use Rattle.packed_access.specs.Sparing.{AreNeeded, first_cost}
 use Rattle.access_regs.specs.declared.planner.Planner.{Planner}
 use Rattle.access_regs.specs.declared.planner.Planner.TheVariants.{Managed, Plain}
 

@@ -1,30 +1,11 @@
 -- Flights that were sent because there was no room, by how many writes of DRW they have.
-use Rattle.std.specs.Prelude.{◌≡◌, ℕ, ◌+◌, ◌-◌, ◌*◌, ◌/◌, ◌≤◌, Bool, true, false, not, List, [], ◌∷◌, ◌++◌, length, take, sum_by}
-use Rattle.target_machine.specs.declared.access.RegAccess.{RegAccess}
+use Rattle.std.specs.Prelude.{ℕ, ◌+◌, ◌*◌, ◌≤◌, List, take}
 use Rattle.probe_core.specs.declared.job.Limits.{Limits}
-use Rattle.target_machine.specs.Counts.{one_if}
 use Rattle.target_calls.specs.Journal.{Entry}
 use Rattle.access_calls.specs.Bounds.{block_words, flight_capacity}
 use Rattle.bench_flights.specs.Full.{transfer_accesses}
-use Rattle.flight_laws.specs.Packets.{drw_writes_in, is_drw_write}
-
--- how many of these entries are something else than writes of DRW
-abbrev pub others_in : List Entry → ℕ
-others_in entries = sum_by (λ (e : Entry). one_if (not (is_drw_write e.action))) entries
-
--- one where the two are not the same
-abbrev pub differs : Bool → Bool → ℕ
-differs true b = one_if (not b)
-differs false b = one_if b
-
--- how often a write of DRW follows something else, or something else a write of DRW, where one of these came before
-abbrev pub changes_after : Bool → List Entry → ℕ
-changes_after before [] = 0
-changes_after before (e ∷ entries) = differs before (is_drw_write e.action) + changes_after (is_drw_write e.action) entries
-
--- how often it is so from the first write of DRW on
-abbrev pub changes_in : List Entry → ℕ
-changes_in entries = changes_after false entries
+use Rattle.flight_laws.specs.Changes.{changes_in, others_in}
+use Rattle.flight_laws.specs.Packets.{drw_writes_in}
 
 -- So many flights were sent because there was no room, and their accesses are among the first, confirmed entries. Some have a block of writes of
 -- DRW. In others, or where the next entry follows them, writes of DRW and something else follow each other. The rest have the capacity of

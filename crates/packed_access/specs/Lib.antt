@@ -11,7 +11,6 @@ pub mod Planned
 pub mod Sparing
 pub mod Spares
 pub mod Blocks
-pub mod NextWrites
 pub mod Grows
 pub mod Tails
 pub mod Views

@@ -44,10 +44,11 @@ use Rattle.flight_laws.proofs.WriteLemmas.{writes_are_few}
 use Rattle.flight_laws.specs.Packets.{drw_writes_in, is_drw_write}
 use Rattle.packed_access.specs.Begun.{IsOpenAt, IsSince}
 use Rattle.bench_flights.specs.Full.{transfer_accesses}
-use Rattle.packed_access.specs.Blocks.{AreBlocks, changes_after, changes_in, others_in}
+use Rattle.flight_laws.specs.Changes.{changes_after, changes_in, marks_in, others_in}
+use Rattle.packed_access.specs.Blocks.{AreBlocks}
 use Rattle.packed_access.specs.Logs.{LogState, asks_of, reported_by}
-use Rattle.packed_access.specs.NextWrites.{journal_few, mild_write}
-use Rattle.packed_access.specs.Sparing.{AreNeeded, HasBegunSparing, HasPaid, IsSpared, first_cost, keeps_bounds, marks_in, points_left}
+use Rattle.flight_laws.proofs.NextWrites.{journal_few, mild_write}
+use Rattle.packed_access.specs.Sparing.{AreNeeded, HasBegunSparing, HasPaid, IsSpared, first_cost, keeps_bounds, points_left}
 
 -- ---- the first bound
 

@@ -1,5 +1,5 @@
 -- How few starting packets an access has sent.
-use Rattle.std.specs.Prelude.{◌≡◌, ℕ, ◌+◌, ◌*◌, ◌^◌, ◌<◌, ◌≤◌, nat_lt, Bool, true, false, if◌then◌else◌, List, [], ◌∷◌, take, sum_by, Option, Some, None}
+use Rattle.std.specs.Prelude.{◌≡◌, ℕ, ◌+◌, ◌*◌, ◌^◌, ◌<◌, ◌≤◌, nat_lt, Bool, true, false, if◌then◌else◌, List, [], ◌∷◌, take, Option, Some, None}
 use Rattle.target_machine.specs.State.{TargetState}
 use Rattle.target_machine.specs.declared.access.RegAccess.{RegAccess}
 use Rattle.probe_core.specs.Bench.{BenchState}
@@ -20,6 +20,7 @@ use Rattle.bench_flights.specs.Flown.{IsSetTo}
 use Rattle.batch_packer.specs.Flying.{CanFly}
 use Rattle.bench_flights.specs.Flown.{SendsFew}
 use Rattle.packed_access.specs.Begun.{HasBegun}
+use Rattle.flight_laws.specs.Changes.{marks_in}
 use Rattle.packed_access.specs.Blocks.{AreBlocks}
 use Rattle.packed_access.specs.Logs.{LogState, asks_of}
 use Rattle.access_regs.specs.declared.planner.Planner.{Planner}
@@ -60,10 +61,6 @@ keeps_bounds Plain = false
 -- so many need points are counted by the managed planner alone
 abbrev pub managed_points : Planner → ℕ → ℕ
 managed_points p points = if is_alone p false then 0 else points
-
--- how many of the calls have the mark of a `finish`
-abbrev pub marks_in : List Ask → ℕ
-marks_in calls = sum_by (λ (c : Ask). one_if c.settled) calls
 
 -- how many need points the first of these calls makes before it counts as asked
 abbrev pub first_cost : Planner → TargetState → List Ask → ℕ

@@ -1,5 +1,4 @@
 -- Calls that write memory at neighbouring addresses issue few accesses besides their writes of DRW, and these in few places.
--- These are lemmas for the law `spares`, which a reader of definitions may skip.
 use Rattle.std.proofs.Common.{◌≡◌, ◌⊎◌, inl, inr, ◌∙◌, ℕ, zero, suc, ◌+◌, ◌*◌, ◌/◌, ◌%◌, ◌^◌, ◌<◌, ◌≤◌, Bool, true, false, cond, not, ◌&&◌, ◌||◌, List, [], ◌∷◌}
 use Rattle.std.proofs.Common.{◌++◌, length, Option, Some, None, refl, sym, ap, subst, arith, append_assoc}
 use Rattle.std.proofs.lemmas.Bool.{eq-eqb, le-ltb}
@@ -34,8 +33,7 @@ use Rattle.access_regs.proofs.PortFacts.{known_same, table_kept}
 use Rattle.access_regs.proofs.Course.{steps_append}
 use Rattle.access_calls.specs.Bounds.{AreNextWrites, IsWriteAt}
 use Rattle.flight_laws.specs.Packets.{is_drw_write}
-use Rattle.packed_access.specs.Blocks.{changes_after, changes_in, differs, others_in}
-use Rattle.packed_access.specs.Sparing.{marks_in}
+use Rattle.flight_laws.specs.Changes.{changes_after, changes_in, differs, marks_in, others_in}
 
 -- ---- lists of entries
 
