@@ -3,3 +3,4 @@ pub mod Firsts
 pub mod Cycles
 pub mod Search
 pub mod Falls
+pub mod SomeCall

@@ -7,3 +7,4 @@ pub mod ArgLemmas
 pub mod CallLemmas
 pub mod BlockLemmas
 pub mod Visible
+pub mod SomeFault

@@ -27,3 +27,13 @@ pub fn one_block_fault()
     ensures { (s : Scope) (code : List StmtTree) (first other : Option CodeFault) → IsFirst is_before (BlockFault s code) first
         → IsFirst is_before (BlockFault s code) other → first ≡ other }
 {}
+
+/// Each expression has a first fault, or none.
+pub fn some_expr_fault()
+    ensures { (s : Scope) (e : Tree) → (first : Option CodeFault) × IsFirst is_before (ExprFault s e) first }
+{}
+
+/// Each list of statements has a first fault, or none.
+pub fn some_block_fault()
+    ensures { (s : Scope) (code : List StmtTree) → (first : Option CodeFault) × IsFirst is_before (BlockFault s code) first }
+{}

@@ -1,10 +1,11 @@
 -- Words are a command, or they are none.
-use Rattle.std.proofs.Common.{◌≡◌, ◌⊎◌, inl, inr, ℕ, ◌^◌, ◌<◌, ◌≤◌, Bool, true, false, List, [], ◌∷◌, length, bytes_eq, codes, Option, Some, None, refl, sym, ap, subst, ◌∙◌, arith}
+use Rattle.std.proofs.Common.{◌≡◌, ◌⊎◌, inl, inr, ℕ, ◌^◌, ◌<◌, Bool, true, false, List, [], ◌∷◌, length, bytes_eq, codes, Option, Some, None, refl, sym, ap, subst, ◌∙◌}
 use Rattle.std.specs.Char.{digit_value}
 use Rattle.std.specs.Str.Parse.{AllDigits, digits_value}
 use Rattle.std.specs.Cmp.Lexicographic.{bytes_decides, same_text}
-use Rattle.std.proofs.lemmas.Bool.{both_ways, cases_lt}
+use Rattle.std.proofs.lemmas.Bool.{both_ways}
 use Rattle.clap.specs.Words.{Kinds, fault_of}
+use Rattle.dap_base.proofs.Least.{Decided, at_most, less}
 use Rattle.sequence_resolve.specs.declared.selection.Selection.{Selection}
 use Rattle.command_words.specs.declared.answer.Command.{Command}
 use Rattle.command_words.specs.declared.answer.Command.TheVariants.{Check, Run, Trace, Load, Scan, Gen, Audit}
@@ -16,17 +17,7 @@ use Rattle.command_words.specs.Line.{command_line}
 use Rattle.command_words.specs.Table.{IsForPort, IsPort, IsRow, IsShortNumber, WordsAreCommand, for_device, for_number, mode_text, no_options, options_by}
 use Rattle.command_words.proofs.TableLemmas.{mode_of_row, no_audit, no_check, no_gen, no_load, no_run, no_scan, no_trace}
 
--- it is so, or it is not so
-abbrev Decided : Type 0 → Type 0
-Decided P = P ⊎ (P → ⊥)
-
 -- ---- short numbers
-
-less : (n m : ℕ) → Decided (n < m)
-less n m = elim (cases_lt n m) [ inl lt ↦ inl lt | inr le ↦ inr (λ lt. absurd (omega (arith, lt, le))) ]
-
-at_most : (n m : ℕ) → Decided (n ≤ m)
-at_most n m = elim (cases_lt m n) [ inl lt ↦ inr (λ le. absurd (omega (arith, lt, le))) | inr le ↦ inl le ]
 
 all_digits : (text : List ℕ) → Decided (AllDigits 10 text)
 all_digits [] = inl tt

@@ -31,3 +31,6 @@ pub mod Moves
 pub mod Again
 pub mod Plain
 pub mod Fits
+pub mod SomeFront
+pub mod SomeTokens
+pub mod SomeTree

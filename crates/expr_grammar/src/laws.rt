@@ -1,14 +1,15 @@
 //! Laws of the lexer and of the grammar, as the contracts of functions that do nothing.
 
-ghost use Rattle.std.specs.Prelude.{◌≡◌, ℕ, suc, ◌+◌, true, List, [], ◌∷◌, ◌++◌, length, drop, codes};
+ghost use Rattle.std.specs.Prelude.{◌≡◌, ◌⊎◌, ℕ, suc, ◌+◌, true, List, [], ◌∷◌, ◌++◌, length, drop, codes};
+ghost use Rattle.expr_grammar.specs.declared.limit.Span.{Span};
 ghost use Rattle.expr_grammar.specs.declared.limit.Span.TheVariants.{Statement};
 ghost use Rattle.expr_grammar.specs.declared.token.TokenKind.{TokenKind};
 ghost use Rattle.expr_grammar.specs.Lexeme.{Lexeme};
-ghost use Rattle.expr_grammar.specs.Lexing.{IsGapFront, IsTokenFront, Divides};
+ghost use Rattle.expr_grammar.specs.Lexing.{IsGapFront, IsTokenFront, Divides, AreTokensOf, IsFirstBad};
 ghost use Rattle.expr_grammar.specs.Tree.{Tree, StmtTree};
 ghost use Rattle.expr_grammar.specs.Grammar.{ReadsExpr, ReadsCode};
 ghost use Rattle.expr_grammar.specs.Reading.{is_mark};
-ghost use Rattle.expr_grammar.specs.Refusal.{IsAccepted, NoneDeepBefore};
+ghost use Rattle.expr_grammar.specs.Refusal.{IsAccepted, IsUnexpectedFirst, IsDeepFirst, NoneDeepBefore};
 ghost use Rattle.expr_grammar.specs.Alike.{AllAlike};
 ghost use Rattle.expr_grammar.specs.Moved.{SameFront, AreMoved};
 ghost use Rattle.expr_grammar.specs.Bare.{bare, bare_code};
@@ -71,4 +72,14 @@ pub fn tokens_fit()
     ensures other { (own front rest next : List Lexeme) (semicolon : Lexeme) → is_mark (codes ";") semicolon ≡ true → Fits own (front ++ semicolon ∷ rest) → Fits [] next
         → Fits own (front ++ semicolon ∷ next) }
     ensures moved { (ts us : List Lexeme) → Fits [] ts → AreMoved ts us → Fits [] us }
+{}
+
+/// Each text has tokens or a first bad place. Each list of tokens is an expression, or it has a first token, or its end, that is unexpected or
+/// too deep. The same is true of code.
+pub fn every_text_is_read_or_refused()
+    ensures tokens { (text : List ℕ) → ((ts : List Lexeme) × AreTokensOf text ts) ⊎ ((bad : ℕ) × IsFirstBad text bad) }
+    ensures expression { (span : Span) (ts : List Lexeme) → ((e : Tree) × IsAccepted ReadsExpr span ts e)
+        ⊎ (((i : ℕ) × IsUnexpectedFirst ReadsExpr span ts i) ⊎ ((i : ℕ) × IsDeepFirst ReadsExpr span ts i)) }
+    ensures code { (span : Span) (ts : List Lexeme) → ((code : List StmtTree) × IsAccepted ReadsCode span ts code)
+        ⊎ (((i : ℕ) × IsUnexpectedFirst ReadsCode span ts i) ⊎ ((i : ℕ) × IsDeepFirst ReadsCode span ts i)) }
 {}

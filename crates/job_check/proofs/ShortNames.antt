@@ -23,8 +23,8 @@ use Rattle.sequence_resolve.specs.Levels.{LevelAt, one, levels_if_some, path_of}
 use Rattle.sequence_resolve.specs.declared.entry.LevelKind.TheVariants as kinds
 use Rattle.sequence_resolve.specs.Effective.{Candidate, counts_for, candidates_at, candidates, Wins, entry_of}
 use Rattle.sequence_resolve.specs.Resolving.{IsEffectiveSet}
-use Rattle.job_check.proofs.Short.{IsShort, AreShort, ItemsShort}
-use Rattle.job_check.proofs.TextValues.{get_short}
+use Rattle.json_form.specs.Short.{IsShort, AreShort, ItemsShort}
+use Rattle.json_form.proofs.TextValues.{get_short}
 
 -- ---- lists
 
@@ -56,7 +56,7 @@ all_found : {A : Type 0} (P : A → Type 0) (f : A → Bool) (xs : List A) → A
 all_found P f [] a = tt
 all_found P f (x ∷ xs) a = found_by P (f x) x (find f xs) a.0 (all_found P f xs a.1)
 
-pub some_is : {A : Type 0} (P : A → Type 0) (o : Option A) (x : A) → o ≡ Some x → IfSome o P → P x
+some_is : {A : Type 0} (P : A → Type 0) (o : Option A) (x : A) → o ≡ Some x → IfSome o P → P x
 some_is P None x e p = absurd cc
 some_is P (Some y) x e p = (let same : y ≡ x = cc in subst P same p)
 

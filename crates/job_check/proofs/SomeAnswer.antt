@@ -10,7 +10,7 @@ use Rattle.job_check.specs.Answers.{AnswersCheckedSet, valid, not_valid, Answers
 use Rattle.job_check.proofs.SomeValues.{conf_or_none, values_or_none}
 use Rattle.job_check.proofs.SomeJob.{job_or_none}
 use Rattle.job_check.proofs.SomeSet.{set_or_none}
-use Rattle.job_check.proofs.SomeSetFault.{valid_or_fault}
+use Rattle.seq_check.proofs.SomeSetFault.{valid_or_fault}
 
 of_set : (set : SeqSet) → (answer : Result SeqSet Refusal) × AnswersCheckedSet set answer
 of_set set = elim (valid_or_fault set) [

@@ -1,6 +1,5 @@
 -- A job, a selection and a name have a valid set with a sequence of the name, or a reason why none runs. So have the bytes of a job.
-use Rattle.std.proofs.Common.{◌≡◌, ◌⊎◌, inl, inr, ℕ, ◌<◌, ◌^◌, Bool, true, false, List, length, Option, Result, Ok, Err, codes, refl, sym, subst, ◌∙◌, arith}
-use Rattle.serde_json.specs.Read.{read}
+use Rattle.std.proofs.Common.{◌≡◌, ◌⊎◌, inl, inr, ℕ, ◌<◌, ◌^◌, Bool, true, false, List, length, Option, Result, Ok, Err, codes, refl, sym, subst, ◌∙◌}
 use Rattle.device_tree.specs.PackForm.{IsPack}
 use Rattle.sequence_resolve.specs.declared.selection.Selection.{Selection}
 use Rattle.sequence_resolve.specs.declared.entry.SeqSet.{SeqSet}
@@ -21,13 +20,13 @@ use Rattle.job_text.specs.Answers.{Describes}
 use Rattle.dbgconf_text.specs.declared.conf.ConfItem.{ConfItem}
 use Rattle.job_check.specs.Values.{HasConf}
 use Rattle.job_check.specs.Running.{has_sequence, HasPlain, HasRun, HasRunFor, HasRunOf, IsRefusedRun, IsRefusedRunFor, IsRefusedRunOf, IsRunFor, IsRunOfJob, IsSetOfJob, IsValidRun, described, has_own, no_conf, no_own, no_values, not_described, not_named, not_resolved, not_valid}
-use Rattle.job_check.proofs.Short.{AreShort}
-use Rattle.job_check.proofs.TextValues.{read_short}
-use Rattle.job_check.proofs.ShortNames.{some_is, has_short, PackShort, pack_short, EntriesShort, set_short}
+use Rattle.json_form.specs.Short.{AreShort}
+use Rattle.json_form.proofs.TextValues.{value_is_short}
+use Rattle.job_check.proofs.ShortNames.{has_short, PackShort, pack_short, EntriesShort, set_short}
 use Rattle.job_check.proofs.TreeValues.{checked_of}
 use Rattle.job_check.proofs.SomeJob.{job_or_none}
 use Rattle.job_check.proofs.SomeSet.{set_or_none}
-use Rattle.job_check.proofs.SomeSetFault.{valid_or_fault}
+use Rattle.seq_check.proofs.SomeSetFault.{valid_or_fault}
 use Rattle.job_check.proofs.SomeValues.{conf_or_none, values_or_none}
 use Rattle.job_check.proofs.OneValues.{same_entries}
 use Rattle.job_check.proofs.OneRun.{same_names}
@@ -120,7 +119,7 @@ module _ (bytes : List ℕ) (own : Own) (s : Selection) (name : List ℕ) where
       let n = length bytes in
       let d = is.0 in
       let text = is.1 in
-      let values : AreShort n d = some_is (AreShort n) (read bytes) d text.1 (read_short n bytes text.0 (omega arith)) in
+      let values : AreShort n d = value_is_short bytes d text.0 text.1 in
       let pack : PackShort n job.pack = has_short n (codes "pack") IsPack (PackShort n) (λ v p short is. pack_short n v p short is) d job.pack values is.2.pack in
       let plain : EntriesShort n of.plain.entries = set_short n job.pack s.device s.variant s.pname of.plain pack of.of.resolved in
       subst (EntriesShort n) (sym (same_entries job.dbgconf of.items of.plain set of.replaced)) plain

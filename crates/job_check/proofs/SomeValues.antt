@@ -18,8 +18,8 @@ use Rattle.job_check.specs.declared.answer.DbgconfKind.TheVariants as kinds
 use Rattle.job_check.specs.declared.answer.Refusal.{Refusal}
 use Rattle.job_check.specs.declared.answer.Refusal.TheVariants as refusals
 use Rattle.job_check.specs.Values.{HasConf, HasConfFault, HasStartingValues, NoConf, NoValues}
-use Rattle.job_check.proofs.SomeTokens as tokens
-use Rattle.job_check.proofs.SomeTexts.{read_code}
+use Rattle.expr_grammar.proofs.SomeTokens as tokens
+use Rattle.sequence_trees.proofs.SomeTexts.{read_code}
 
 -- ---- the text of the values
 

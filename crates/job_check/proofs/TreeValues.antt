@@ -29,7 +29,7 @@ use Rattle.seq_check.specs.declared.checked.Checked.{Checked}
 use Rattle.seq_check.specs.Valid.{IsSound}
 use Rattle.seq_check.specs.Answers.{checked_trees}
 use Rattle.seq_check.proofs.StepLemmas.{step_tree-Block, step_tree-Control}
-use Rattle.job_check.proofs.Short.{IsShort}
+use Rattle.json_form.specs.Short.{IsShort}
 use Rattle.job_check.proofs.ShortNames.{EntriesShort}
 
 the_global : Global

@@ -8,3 +8,4 @@ pub mod JobFaults
 pub mod RangeLaws
 pub mod SettingLaws
 pub mod AnswerLaws
+pub mod SomeJob

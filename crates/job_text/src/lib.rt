@@ -4,6 +4,7 @@
 mod bench;
 mod image;
 mod job;
+pub mod laws;
 mod memory;
 mod reading;
 mod run;

@@ -6,3 +6,5 @@ pub mod ObjectLaws
 pub mod ListLaws
 pub mod ItemLaws
 pub mod FaultLaws
+pub mod TextBytes
+pub mod TextValues

@@ -6,6 +6,7 @@ mod distinct;
 mod fault;
 mod item_list;
 mod keys;
+pub mod laws;
 mod leaf;
 mod member;
 mod numeric;

@@ -31,7 +31,7 @@ use Rattle.seq_check.proofs.SetLemmas.{drop-at, set_held, set_answer}
 
 -- ---- calls of a graph
 
-abbrev callees : List StepCall → List ℕ
+abbrev pub callees : List StepCall → List ℕ
 callees cs = map (λ c. c.callee) cs
 
 -- a node past the end calls nothing

@@ -7,3 +7,5 @@ pub mod CallLemmas
 pub mod CheckLemmas
 pub mod OrderLaws
 pub mod OneFault
+pub mod SomeStepFault
+pub mod SomeSetFault

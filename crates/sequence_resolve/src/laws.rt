@@ -1,5 +1,5 @@
 //! Laws of effective sets, as the contracts of functions that do nothing.
-ghost use Rattle.std.specs.Prelude.{◌≡◌, ◌≢◌, ℕ, List, Option};
+ghost use Rattle.std.specs.Prelude.{◌≡◌, ◌≢◌, ◌⊎◌, ℕ, List, Option};
 ghost use Rattle.device_tree.specs.declared.pack.Pack.{Pack};
 ghost use Rattle.sequence_resolve.specs.declared.entry.SeqSet.{SeqSet};
 ghost use Rattle.sequence_resolve.specs.declared.fault.ResolveFault.{ResolveFault};
@@ -29,4 +29,10 @@ pub fn one_refusal()
     ensures { (pack : Pack) (device : List ℕ) (variant : Option (List ℕ)) (x y : ResolveFault)
         → HasNone pack device variant x → HasNone pack device variant y
         → x ≢ faults.OutOfMemory → y ≢ faults.OutOfMemory → x ≡ y }
+{}
+
+/// A pack has an effective set for each device, variant and processor, or a cause why it has none, which is not refused memory.
+pub fn some_set_or_refusal()
+    ensures { (pack : Pack) (device : List ℕ) (variant pname : Option (List ℕ)) → ((set : SeqSet) × IsEffectiveSet pack device variant pname set)
+        ⊎ ((fault : ResolveFault) × HasNone pack device variant fault × (fault ≢ faults.OutOfMemory)) }
 {}

@@ -4,3 +4,4 @@ pub mod ReadingLaws
 pub mod StepLemmas
 pub mod SetLaws
 pub mod SetLemmas
+pub mod SomeTexts

@@ -17,9 +17,9 @@ use Rattle.serde_json.specs.Data as d
 use Rattle.serde_json.specs.Data.{Data, put}
 use Rattle.serde_json.specs.Read.{number_of, of_json, of_items, of_members, max_depth, read}
 use Rattle.serde_json.specs.Find.{get, get_member}
-use Rattle.job_check.proofs.Short as words
-use Rattle.job_check.proofs.Short.{IsShort}
-use Rattle.job_check.proofs.TextBytes.{after_ascii, string_good}
+use Rattle.json_form.specs.Short as words
+use Rattle.json_form.specs.Short.{IsShort}
+use Rattle.json_form.proofs.TextBytes.{after_ascii, string_good}
 
 module _ (n : ℕ) where
   abbrev AreShort : Data → Type 0
@@ -336,3 +336,10 @@ module _ (n : ℕ) where
   get_short k (d.string s) is = tt
   get_short k (d.array ds) is = tt
   get_short k (d.object ms) is = get_member_short k ms is
+
+-- the value of a text is short
+pub value_is_short : (text : List ℕ) (v : Data) → IsUtf8 text → read text ≡ Some v → words.AreShort (length text) v
+value_is_short text v utf8 is = by (read text) is (read_short (length text) text utf8 (omega arith)) where
+  by : (o : Option Data) → o ≡ Some v → IfSome o (words.AreShort (length text)) → words.AreShort (length text) v
+  by None e p = absurd cc
+  by (Some w) e p = (let same : w ≡ v = cc in subst (words.AreShort (length text)) same p)

@@ -1,7 +1,6 @@
 -- Steps have a first fault, or none.
-use Rattle.std.proofs.Common.{◌≡◌, inl, inr, ℕ, suc, ◌<◌, ◌≤◌, ◌==◌, nat_lt, ◌&&◌, ◌||◌, not, Bool, false, List, ◌∷◌, Option, Some, None, option_map, refl, ap, arith}
+use Rattle.std.proofs.Common.{◌≡◌, inl, inr, ℕ, suc, ◌<◌, ◌≤◌, not, Option, Some, None, option_map, refl}
 use Rattle.std.specs.Option.{option_or}
-use Rattle.std.proofs.lemmas.Bool.{lt-ltb}
 use Rattle.expr_grammar.specs.Tree.{Tree}
 use Rattle.sequence_trees.specs.declared.spot.Part.{Part}
 use Rattle.sequence_trees.specs.declared.spot.Part.TheVariants as parts
@@ -9,18 +8,17 @@ use Rattle.sequence_trees.specs.Trees.{CodeStep, Block, Control, CodeSteps, NoSt
 use Rattle.code_check.specs.declared.fault.FaultKind.{FaultKind}
 use Rattle.code_check.specs.declared.fault.FaultKind.TheVariants as k
 use Rattle.code_check.specs.declared.fault.CodeFault.{CodeFault}
-use Rattle.code_check.specs.First.{IsFirst, here, there, FaultWhere}
+use Rattle.code_check.specs.First.{IsFirst, FaultWhere}
 use Rattle.code_check.specs.ExprFaults.{Scope}
 use Rattle.code_check.specs.BlockFaults.{seeing, BlockFault}
 use Rattle.seq_check.specs.declared.faulty.PartFault.{PartFault}
-use Rattle.seq_check.specs.StepFaults.{StepFault, path_before, part_rank, fault_before, is_step_before, no_place, under, Under, At, ConditionFault, TimeoutFault, LoopFault, ControlFault, OwnFault, FaultInStep, FaultInSteps, names_after_step}
+use Rattle.seq_check.specs.StepFaults.{StepFault, fault_before, is_step_before, no_place, under, Under, At, ConditionFault, TimeoutFault, LoopFault, ControlFault, OwnFault, FaultInStep, FaultInSteps, names_after_step}
 use Rattle.seq_check.specs.Views.{own_view}
 use Rattle.seq_check.proofs.FirstLemmas.{first_of_none, first_or, first_mapped}
 use Rattle.seq_check.proofs.ControlLemmas.{form_where, form_where_not, form_none, control_first, first_in_part, own_first}
-use Rattle.seq_check.proofs.StepLemmas.{control_own, control_inner, steps_order, under_order, apart}
-use Rattle.seq_check.proofs.SetLemmas.{above}
-use Rattle.job_check.proofs.Least.{Decided}
-use Rattle.job_check.proofs.SomeFault.{at_most, less, same_number, expr_first, block_first}
+use Rattle.seq_check.proofs.StepLemmas.{control_own, control_inner, steps_order, under_order}
+use Rattle.dap_base.proofs.Least.{Decided, at_most, less, same_number}
+use Rattle.code_check.proofs.SomeFault.{expr_first, block_first}
 
 -- ---- a control itself
 
@@ -73,28 +71,6 @@ control_itself s around cond repeat timeout =
     let c = in_part parts.While (ConditionFault s repeat) (repeat_first s repeat) in
     let later = option_or b.0 c.0 in
     (option_or a.0 later, own_first s around cond repeat timeout a.0 b.0 c.0 later (option_or a.0 later) refl refl a.1 b.1 c.1)
-
--- ---- the order of steps
-
--- the path begins with a number from this one on
-record Numbered (from : ℕ) (path : List ℕ) : Type 0 where
-  number : ℕ
-  rest : List ℕ
-  parts : path ≡ number ∷ rest
-  least : from ≤ number
-
-numbered : (s : Scope) (around n : ℕ) (steps : CodeSteps) (f : StepFault) → FaultInSteps s around n steps f → Numbered n f.path
-numbered s around n NoSteps f h = elim h [ ]
-numbered s around n (MoreSteps step more) f h = elim h [
-  | here p ↦ record { number = n; rest = p.inner.path; parts = ap (λ x. x.path) p.is; least = omega arith }
-  | there q ↦ let r = numbered (seeing s (names_after_step s.visible step)) around (suc n) more f q in record { number = r.number; rest = r.rest; parts = r.parts; least = omega (arith, r.least) }
-]
-
-abbrev before_by : (a b : List ℕ) (x y : Part) (f g : CodeFault) → Bool
-before_by a b x y f g = path_before a b || not (path_before b a) && (nat_lt (part_rank x) (part_rank y) || part_rank x == part_rank y && fault_before x f g)
-
-after_path : (a b p q : List ℕ) (n j : ℕ) (x y : Part) (f g : CodeFault) → a ≡ j ∷ p → b ≡ n ∷ q → suc n ≤ j → before_by a b x y f g ≡ false
-after_path a b p q n j x y f g ea eb h = rw (ea, eb, above n j h, apart n j h, lt-ltb n j h) refl
 
 -- ---- steps
 

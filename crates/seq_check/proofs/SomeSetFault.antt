@@ -25,11 +25,11 @@ use Rattle.seq_check.specs.Valid as valid
 use Rattle.seq_check.specs.Valid.{CallsAreSound, IsCallAt, IsFirstCallFault, spot_of, IsSound, IsFirstOf, IsValid, IsFirstFaultOf}
 use Rattle.seq_check.proofs.FirstLemmas.{first_there}
 use Rattle.seq_check.proofs.SetLemmas.{held, first_held, Carries, carries_on, found_there, none_at_end, set_held}
-use Rattle.seq_check.proofs.CheckLemmas.{no_list}
-use Rattle.job_check.proofs.SomeTexts.{read_set}
-use Rattle.job_check.proofs.SomeFault.{block_first}
-use Rattle.job_check.proofs.SomeStepFault.{code_first, steps_first}
-use Rattle.job_check.proofs.SomeCall.{first_in_cycle, first_deep}
+use Rattle.seq_check.proofs.CheckLemmas.{callees, no_list}
+use Rattle.sequence_trees.proofs.SomeTexts.{read_set}
+use Rattle.code_check.proofs.SomeFault.{block_first}
+use Rattle.seq_check.proofs.SomeStepFault.{code_first, steps_first}
+use Rattle.call_graph.proofs.SomeCall.{first_in_cycle, first_deep}
 
 -- ---- the texts and the controls of a set
 
@@ -78,9 +78,6 @@ module _ (set : SetTrees) where
       with_debugvars (option_map (held holders.Debugvars) own.0) (first_held holders.Debugvars (At parts.Debugvars (BlockFault (debugvars_scope set) set.debugvars)) own.0 own.1)
 
 -- ---- calls
-
-abbrev callees : List StepCall → List ℕ
-callees calls = map (λ c. c.callee) calls
 
 no_callee : (calls : List StepCall) (i w : ℕ) → slice_get calls i ≡ None → slice_get (callees calls) i ≡ Some w → ⊥
 no_callee [] zero w none is = absurd cc

@@ -10,7 +10,7 @@ use Rattle.expr_grammar.specs.Lexing as lexing
 use Rattle.expr_grammar.specs.Lexing.{place_at, IsTokenFront, Divides, AreTokensOf, IsFirstBad}
 use Rattle.expr_grammar.specs.Front.{IsGapPiece, IsCut, FrontIs}
 use Rattle.expr_grammar.proofs.Division.{piece_gap, divides_gap, divides_token, token_of}
-use Rattle.job_check.proofs.SomeFront.{front}
+use Rattle.expr_grammar.proofs.SomeFront.{front}
 
 -- its tokens, or its first bad offset
 abbrev pub Cut : List ℕ → Type 0

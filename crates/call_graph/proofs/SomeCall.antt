@@ -11,7 +11,7 @@ use Rattle.call_graph.specs.Marks.{is_marked, callers_of, Reaches, Avoids}
 use Rattle.call_graph.proofs.Chains.{MarksBeginnings, all_begin, callers_begin}
 use Rattle.call_graph.proofs.Firsts.{spot_of, no_call}
 use Rattle.call_graph.proofs.Search.{Searching, left, search_begins, target_reached, never_reached, turn_over, turn_over-less, turn_on, turn_on-less}
-use Rattle.job_check.proofs.Least.{Decided, Least, least}
+use Rattle.dap_base.proofs.Least.{Decided, Least, least}
 
 -- ---- whether calls lead from one node to another
 

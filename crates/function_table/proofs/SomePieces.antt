@@ -1,7 +1,6 @@
 -- A text is a format, or it is none.
 use Rattle.std.proofs.Common.{◌≡◌, ◌⊎◌, inl, inr, ℕ, zero, suc, ◌≤◌, List, [], ◌∷◌, length, Option, Some, None, subst, refl, arith}
 use Rattle.function_table.specs.declared.format.FormatPiece.{FormatPiece}
-use Rattle.function_table.specs.declared.format.FormatPiece.TheVariants as piece
 use Rattle.function_table.specs.Format.{BeginsWith, AreFormatPieces}
 use Rattle.function_table.specs.Front.{front_of}
 use Rattle.function_table.proofs.Fronts.{front_reads, front_found, one_front}

@@ -20,8 +20,8 @@ use Rattle.sequence_trees.specs.Order.{TextAt, moved, IsFirstFaulty, StepText, t
 use Rattle.sequence_trees.specs.Reading.{MayBeCondition, ReadsBlock, ReadsControl, Begins, ReadsSteps, ReadsEntry, ReadsEntries, ReadsSet}
 use Rattle.sequence_trees.proofs.OrderLaws.{AreFine, fine_both, fine_moved, first_before, first_after, first_moved, first_single}
 use Rattle.sequence_trees.proofs.ReadingLaws.{cond_fine, repeat_fine, block_fine, control_fine, steps_fine}
-use Rattle.job_check.proofs.SomeTokens.{cut}
-use Rattle.job_check.proofs.SomeTree.{Parsed, expression, code}
+use Rattle.expr_grammar.proofs.SomeTokens.{cut}
+use Rattle.expr_grammar.proofs.SomeTree.{Parsed, expression, code}
 
 -- ---- one text
 

@@ -14,7 +14,7 @@ use Rattle.expr_grammar.specs.Lexing.{is_blank, is_in_line, begins_line_comment,
 use Rattle.expr_grammar.specs.Front.{FrontIs, ClosesFirst, string_end, mark_len}
 use Rattle.expr_grammar.proofs.Fronts.{first, number_taken, number_stuck}
 use Rattle.expr_grammar.proofs.Pieces.{word_taken, keyword_text, name_text, string_taken, string_stuck, block_taken, block_stuck, line_taken, blank_taken, mark_taken, mark_stuck}
-use Rattle.job_check.proofs.Least.{Decided, least}
+use Rattle.dap_base.proofs.Least.{Decided, least}
 
 -- ---- where a comment is closed
 

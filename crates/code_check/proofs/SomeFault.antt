@@ -1,8 +1,7 @@
 -- An expression, and statements, have a first fault, or none.
-use Rattle.std.proofs.Common.{◌≡◌, inl, inr, ℕ, suc, ◌-◌, ◌<◌, ◌≤◌, Bool, true, false, List, [], ◌∷◌, length, bytes_eq, MatchBool, Option, Some, None, refl, sym, ap, ◌∙◌, arith}
+use Rattle.std.proofs.Common.{◌≡◌, inl, inr, ℕ, suc, ◌-◌, ◌≤◌, Bool, true, false, List, [], ◌∷◌, length, bytes_eq, MatchBool, Option, Some, None, refl, sym, ap, ◌∙◌}
 use Rattle.std.specs.Cmp.Lexicographic.{bytes_decides, same_text}
-use Rattle.std.proofs.lemmas.Bool.{cases_lt, both_ways}
-use Rattle.std.proofs.lemmas.Bool.Decides.{eqb_tells}
+use Rattle.std.proofs.lemmas.Bool.{both_ways}
 use Rattle.dap_base.specs.declared.text.Place.{Place}
 use Rattle.expr_grammar.specs.declared.code.Name.{Name}
 use Rattle.expr_grammar.specs.declared.code.TextArg as string
@@ -27,8 +26,8 @@ use Rattle.code_check.specs.ExprFaults.{Scope, NameFault, arg_count, KindFault, 
 use Rattle.code_check.specs.BlockFaults.{names_after, seeing, StmtFault, BlockFault}
 use Rattle.code_check.proofs.OrderLemmas.{first_of_two, first_of_none, first_where, first_where_not, first_of_where, first_of_where_not}
 use Rattle.code_check.proofs.CallLemmas.{at_function, at_no_function}
-use Rattle.job_check.proofs.Least.{Decided}
-use Rattle.job_check.proofs.SomePieces.{divided}
+use Rattle.dap_base.proofs.Least.{Decided, at_most, same_number}
+use Rattle.function_table.proofs.SomePieces.{divided}
 
 -- ---- what is decided
 
@@ -39,15 +38,6 @@ is_true false = inr (λ e. both_ways false refl e)
 is_false : (b : Bool) → Decided (b ≡ false)
 is_false true = inr (λ e. both_ways true e refl)
 is_false false = inl refl
-
-pub at_most : (n m : ℕ) → Decided (n ≤ m)
-at_most n m = elim (cases_lt m n) [ inl lt ↦ inr (λ le. absurd (omega (arith, lt, le))) | inr le ↦ inl le ]
-
-pub less : (n m : ℕ) → Decided (n < m)
-less n m = elim (cases_lt n m) [ inl lt ↦ inl lt | inr le ↦ inr (λ lt. absurd (omega (arith, lt, le))) ]
-
-pub same_number : (n m : ℕ) → Decided (n ≡ m)
-same_number n m = elim (eqb_tells n m) [ inl w ↦ inl w.1 | inr w ↦ inr w.1 ]
 
 not_so : (P : Type 0) → Decided P → Decided (P → ⊥)
 not_so P (inl is) = inr (λ not. not is)

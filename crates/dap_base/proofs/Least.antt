@@ -1,10 +1,20 @@
--- The least number of a range that passes, or none does.
+-- What is decided of numbers; and the least number of a range that passes, or none does.
 use Rattle.std.proofs.Common.{◌≡◌, ◌⊎◌, inl, inr, ℕ, zero, suc, ◌+◌, ◌<◌, ◌≤◌, subst, arith}
 use Rattle.std.proofs.lemmas.Bool.{cases_lt}
+use Rattle.std.proofs.lemmas.Bool.Decides.{eqb_tells}
 
 -- it is so, or it is not so
 abbrev pub Decided : Type 0 → Type 0
 Decided P = P ⊎ (P → ⊥)
+
+pub at_most : (n m : ℕ) → Decided (n ≤ m)
+at_most n m = elim (cases_lt m n) [ inl lt ↦ inr (λ le. absurd (omega (arith, lt, le))) | inr le ↦ inl le ]
+
+pub less : (n m : ℕ) → Decided (n < m)
+less n m = elim (cases_lt n m) [ inl lt ↦ inl lt | inr le ↦ inr (λ lt. absurd (omega (arith, lt, le))) ]
+
+pub same_number : (n m : ℕ) → Decided (n ≡ m)
+same_number n m = elim (eqb_tells n m) [ inl w ↦ inl w.1 | inr w ↦ inr w.1 ]
 
 -- the least such number of so many from one on
 pub record Least (P : ℕ → Type 0) (from count : ℕ) : Type 0 where

@@ -19,7 +19,7 @@ use Rattle.expr_grammar.proofs.CompleteArgs.{reads_whole}
 use Rattle.expr_grammar.proofs.CompleteCode.{code_complete}
 use Rattle.expr_grammar.proofs.Sound.{whole_outcome, statements_outcome}
 use Rattle.expr_grammar.proofs.Whole.{answers}
-use Rattle.job_check.proofs.Least.{Decided}
+use Rattle.dap_base.proofs.Least.{Decided}
 
 -- ---- the first token that is too deep
 
