@@ -1,5 +1,5 @@
 -- What is noted, one thing after the other.
-use Rattle.std.proofs.Common.{◌≡◌, ◌∙◌, ℕ, nat_le, Bool, true, false, ◌||◌, List, [], ◌∷◌, ◌++◌, cond, nat_eq, fold, OnOk, OnErr, Result, Ok, Err, refl, sym, ap, subst}
+use Rattle.std.proofs.Common.{◌≡◌, ◌∙◌, ℕ, nat_le, Bool, true, false, ◌||◌, List, [], ◌∷◌, ◌++◌, cond, nat_eq, fold, OnOk, OnErr, Result, Ok, Err, IsErr, refl, sym, ap, subst}
 use Rattle.std.proofs.lemmas.Bool.{eq-eqb}
 use Rattle.std.proofs.lemmas.List.{append_assoc, append-nil}
 use Rattle.std.proofs.lemmas.List.Folds.{list_any-append}
@@ -74,6 +74,16 @@ pub unless_stopped : (A B : Type 0) (P Q : Type 0) (e : LoggedEnd) (stopped othe
 unless_stopped A B P Q (end.Halted cause) stopped other f h = f h
 unless_stopped A B P Q (end.Faulted u) stopped other f h = f h
 unless_stopped A B P Q end.OutOfMemory stopped other f h = tt
+
+-- an answer that is no value: why the code ends is why the meaning ends
+pub means_stopped : {A : Type 0} (e : LoggedEnd) (result : Result A Stopped) (now : S) (out : Out ℕ Now A) → IsErr result → CodeEndsAs e now out → Means e result now out
+means_stopped e (Ok x) now out h k = absurd cc
+means_stopped e (Err stopped) now out h k = k
+
+-- an answer that is no value, and what is so unless memory was refused
+pub unless_ended : {A : Type 0} (P : Type 0) (e : LoggedEnd) (stopped : Stopped) (result : Result A Stopped) → IsErr result → Unless {A = A} e (Err stopped) P → Unless e result P
+unless_ended P e stopped (Ok x) h k = absurd cc
+unless_ended {A} P e stopped (Err other) h k = unless_stopped A A P P e stopped other (λ p. p) k
 
 pub refused : (B : Type 0) (P : Type 0) (e : LoggedEnd) (stopped : Stopped) → e ≡ end.OutOfMemory → Unless {A = B} e (Err stopped) P
 refused B P e stopped is = subst (λ x. Unless {A = B} x (Err stopped) P) (sym is) tt

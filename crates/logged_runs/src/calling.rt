@@ -75,10 +75,7 @@ impl<'a> LoggedRunner<'a> {
         ensures noted { SeesWalk self.now.turns walked.old target.old walked.new result (arguments_seen self.now depth args.now numbers.old.items) }
     {
         for arg in args {
-            match self.evaluate_argument(arg, numbers, depth, walked, target) {
-                Ok(()) => {}
-                Err(stopped) => return Err(stopped),
-            }
+            self.evaluate_argument(arg, numbers, depth, walked, target)?;
         }
         Ok(())
     }
@@ -98,10 +95,7 @@ impl<'a> LoggedRunner<'a> {
         ensures noted { SeesWalk self.now.turns walked.old target.old walked.new result (call_seen self.now depth called.now.name args.now) }
     {
         let mut numbers = Vec::new(self.alloc);
-        match self.evaluate_arguments(args, &mut numbers, depth, walked, target) {
-            Ok(()) => {}
-            Err(stopped) => return Err(stopped),
-        }
+        self.evaluate_arguments(args, &mut numbers, depth, walked, target)?;
         self.call_function(
             called.function,
             text_of(args),
@@ -167,18 +161,9 @@ impl<'a> LoggedRunner<'a> {
         ensures gives { WalksAs walked.old target.old walked.new target.new result (function_in_walk self.now depth (Some Function.Sequence) name.now []) }
         ensures noted { SeesWalk self.now.turns walked.old target.old walked.new result (called_seen self.now depth name.now) }
     {
-        match walked.call(name) {
-            Ok(()) => {}
-            Err(stopped) => return Err(stopped),
-        }
-        match self.run_named(name, depth, walked, target) {
-            Ok(()) => {}
-            Err(stopped) => return Err(stopped),
-        }
-        match walked.return_back() {
-            Ok(()) => {}
-            Err(stopped) => return Err(stopped),
-        }
+        walked.call(name)?;
+        self.run_named(name, depth, walked, target)?;
+        walked.return_back()?;
         Ok(0)
     }
 
@@ -229,12 +214,8 @@ impl<'a> LoggedRunner<'a> {
         let ap = walked.get_global("__ap");
         let control = walked.get_global("__errorcontrol");
         let locals = walked.take_locals(self.alloc);
-        match self.run_steps(name, &[], steps, depth, walked, target) {
-            Ok(()) => {
-                walked.give_back(dp, ap, control, locals);
-                Ok(())
-            }
-            Err(stopped) => Err(stopped),
-        }
+        self.run_steps(name, &[], steps, depth, walked, target)?;
+        walked.give_back(dp, ap, control, locals);
+        Ok(())
     }
 }

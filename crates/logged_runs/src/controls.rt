@@ -37,10 +37,7 @@ impl<'a> LoggedRunner<'a> {
         ensures noted { SeesWalk self.now.turns walked.old target.old walked.new result
             (control_seen self.now depth sequence.now path.now cond.now repeat.now timeout steps.now) }
     {
-        let chosen = match self.test_condition(sequence, path, cond, depth, walked, target) {
-            Ok(chosen) => chosen,
-            Err(stopped) => return Err(stopped),
-        };
+        let chosen = self.test_condition(sequence, path, cond, depth, walked, target)?;
         if chosen {
             self.repeat_steps(
                 sequence, path, repeat, timeout, steps, depth, walked, target,
@@ -86,18 +83,9 @@ impl<'a> LoggedRunner<'a> {
         ensures gives { WalksAs walked.old target.old walked.new target.new result (condition_in_walk self.now depth (Some expr.now)) }
         ensures noted { SeesWalk self.now.turns walked.old target.old walked.new result (condition_seen self.now depth sequence.now path.now (Some expr.now)) }
     {
-        match walked.test(sequence, path, expr) {
-            Ok(()) => {}
-            Err(stopped) => return Err(stopped),
-        }
-        let number = match self.evaluate(expr, depth, walked, target) {
-            Ok(number) => number,
-            Err(stopped) => return Err(stopped),
-        };
-        match walked.choose(sequence, path, number) {
-            Ok(()) => {}
-            Err(stopped) => return Err(stopped),
-        }
+        walked.test(sequence, path, expr)?;
+        let number = self.evaluate(expr, depth, walked, target)?;
+        walked.choose(sequence, path, number)?;
         Ok(number != 0)
     }
 
@@ -151,10 +139,7 @@ impl<'a> LoggedRunner<'a> {
         ensures gives { WalksAs walked.old target.old walked.new target.new result (loop_in_walk self.now depth expr.now count steps.now) }
         ensures noted { SeesWalk self.now.turns walked.old target.old walked.new result (begun_seen self.now depth sequence.now path.now expr.now count steps.now) }
     {
-        match walked.begin_loop(sequence, path, expr, count) {
-            Ok(()) => {}
-            Err(stopped) => return Err(stopped),
-        }
+        walked.begin_loop(sequence, path, expr, count)?;
         self.run_loop(sequence, path, expr, count, steps, depth, walked, target)
     }
 
@@ -207,11 +192,11 @@ impl<'a> LoggedRunner<'a> {
         while made < count {
             self.drop_turn(made, mark, &mut walked.held.log);
             mark = walked.held.log.mark();
-            match self.run_turn(sequence, path, made + 1, expr, steps, depth, walked, target) {
-                Ok(true) => made += 1,
-                Ok(false) => return walked.leave_loop(sequence, path, made + 1),
-                Err(stopped) => return Err(stopped),
+            let more = self.run_turn(sequence, path, made + 1, expr, steps, depth, walked, target)?;
+            if !more {
+                return walked.leave_loop(sequence, path, made + 1);
             }
+            made += 1;
         }
         walked.time_out(sequence, path, made)
     }
@@ -242,14 +227,8 @@ impl<'a> LoggedRunner<'a> {
         ensures gives { WalksAs walked.old target.old walked.new target.new result (turn_in_walk self.now depth expr.now steps.now) }
         ensures noted { SeesWalk self.now.turns walked.old target.old walked.new result (turn_seen self.now depth sequence.now path.now number expr.now steps.now) }
     {
-        match walked.turn(sequence, path, number) {
-            Ok(()) => {}
-            Err(stopped) => return Err(stopped),
-        }
-        match count_step(walked) {
-            Ok(()) => {}
-            Err(stopped) => return Err(stopped),
-        }
+        walked.turn(sequence, path, number)?;
+        count_step(walked)?;
         self.test_turn(sequence, path, expr, steps, depth, walked, target)
     }
 
@@ -269,21 +248,12 @@ impl<'a> LoggedRunner<'a> {
         ensures gives { WalksAs walked.old target.old walked.new target.new result (tested_in_walk self.now depth expr.now steps.now) }
         ensures noted { SeesWalk self.now.turns walked.old target.old walked.new result (tested_seen self.now depth sequence.now path.now expr.now steps.now) }
     {
-        let number = match self.evaluate(expr, depth, walked, target) {
-            Ok(number) => number,
-            Err(stopped) => return Err(stopped),
-        };
-        match walked.find(number) {
-            Ok(()) => {}
-            Err(stopped) => return Err(stopped),
-        }
+        let number = self.evaluate(expr, depth, walked, target)?;
+        walked.find(number)?;
         if number == 0 {
             return Ok(false);
         }
-        match self.run_inside(sequence, path, steps, depth, walked, target) {
-            Ok(()) => {}
-            Err(stopped) => return Err(stopped),
-        }
+        self.run_inside(sequence, path, steps, depth, walked, target)?;
         Ok(true)
     }
 
@@ -303,10 +273,7 @@ impl<'a> LoggedRunner<'a> {
         ensures noted { SeesWalk self.now.turns walked.old target.old walked.new result (steps_seen self.now depth sequence.now path.now steps.now) }
     {
         let count = walked.local_count();
-        match self.run_steps(sequence, path, steps, depth, walked, target) {
-            Ok(()) => {}
-            Err(stopped) => return Err(stopped),
-        }
+        self.run_steps(sequence, path, steps, depth, walked, target)?;
         walked.cut_back(count);
         Ok(())
     }
@@ -328,9 +295,6 @@ fn run_poll(
     ensures gives { WalksAs walked.old target.old walked.new target.new result (m.poll_result (direct false) (mask, requested) count) }
     ensures noted { (turns : ℕ) → SeesWalk turns walked.old target.old walked.new result (poll_seen sequence.now path.now (mask, requested) count) }
 {
-    match count_step(walked) {
-        Ok(()) => {}
-        Err(stopped) => return Err(stopped),
-    }
+    count_step(walked)?;
     walked.poll(sequence, path, mask, requested, count, target)
 }

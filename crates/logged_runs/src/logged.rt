@@ -103,10 +103,7 @@ fn answer_run(ended: Result<(), Stopped>, walked: Walked) -> Result<Logged, OutO
         → Unless walked.entry.held.end ended (NotesByTurns turns first (seen_so_far walked.entry) (λ shows. events_in shows (start_world start None) p None))
         → IfOk result (λ run. IsSeenOfRun turns p start run) }
 {
-    let ending = match ending_of(ended, &walked.held) {
-        Ok(ending) => ending,
-        Err(refused) => return Err(refused),
-    };
+    let ending = ending_of(ended, &walked.held)?;
     let Walked {
         held,
         places,
@@ -114,10 +111,7 @@ fn answer_run(ended: Result<(), Stopped>, walked: Walked) -> Result<Logged, OutO
         timed_out,
         error_shown,
     } = walked;
-    let log = match held.log.write_text() {
-        Ok(log) => log,
-        Err(refused) => return Err(refused),
-    };
+    let log = held.log.write_text()?;
     Ok(Logged {
         ending,
         variables: held.globals,
@@ -152,14 +146,8 @@ pub fn run_logged(
     // The log is the text of the events that are shown; the rest is what all events say.
     ensures seen { IfOk result (λ run. IsSeenOfRun turns (program_of (checked_trees checked.now) start.now settings.now) target.old run) }
 {
-    let mut globals = match make_globals(alloc, settings.start.as_slice()) {
-        Ok(globals) => globals,
-        Err(refused) => return Err(refused),
-    };
-    match add_declared(&mut globals, alloc, checked.debugvars().as_slice()) {
-        Ok(()) => {}
-        Err(refused) => return Err(refused),
-    }
+    let mut globals = make_globals(alloc, settings.start.as_slice())?;
+    add_declared(&mut globals, alloc, checked.debugvars().as_slice())?;
     let mut walked = Walked::new(alloc, globals);
     let runner = LoggedRunner {
         alloc,

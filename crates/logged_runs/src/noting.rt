@@ -239,10 +239,7 @@ impl<'a> Walked<'a> {
         ensures gives { WalksAs self.old target.old self.new target.new result (function_result (direct false) function text.now numbers.now) }
         ensures noted { (turns : ℕ) → SeesWalk turns self.old target.old self.new result (λ s shows. function_events function text.now numbers.now s) }
     {
-        let value = match make_call(alloc, function, text, numbers, &mut self.held, target) {
-            Ok(value) => value,
-            Err(stopped) => return Err(stopped),
-        };
+        let value = make_call(alloc, function, text, numbers, &mut self.held, target)?;
         if is_error_call(function, numbers) {
             self.error_shown = true;
         }
@@ -297,10 +294,7 @@ impl<'a> Walked<'a> {
         ensures noted { (turns : ℕ) → SeesWalk turns self.old target.old self.new result
             (λ s shows. polled_events (while_spot sequence.now path.now) count (units_between s (now self.new target.new))) }
     {
-        let value = match ask_poll(mask, requested, count, &mut self.held, target) {
-            Ok(value) => value,
-            Err(stopped) => return Err(stopped),
-        };
+        let value = ask_poll(mask, requested, count, &mut self.held, target)?;
         self.cover_poll(sequence, path, value)
     }
 }

@@ -24,10 +24,7 @@ impl<'a> LoggedRunner<'a> {
         ensures gives { WalksAs walked.old target.old walked.new target.new result (definition_in_walk self.now name.now (tree expr.now)) }
         ensures noted { SeesWalk self.now.turns walked.old target.old walked.new result (λ s shows. defined_events shows self.now name.now (tree expr.now) s) }
     {
-        let number = match self.evaluate(expr, 0, walked, target) {
-            Ok(number) => number,
-            Err(stopped) => return Err(stopped),
-        };
+        let number = self.evaluate(expr, 0, walked, target)?;
         walked.store(name.text.as_str(), number);
         walked.assign(name.text.as_str(), number)
     }
@@ -44,10 +41,7 @@ impl<'a> LoggedRunner<'a> {
     {
         match one {
             Stmt::Declare(name, expr) => {
-                match walked.begin_debug(one) {
-                    Ok(()) => {}
-                    Err(stopped) => return Err(stopped),
-                }
+                walked.begin_debug(one)?;
                 self.define(name, expr, walked, target)
             }
             Stmt::Empty(_) | Stmt::Plain(_, _) => Ok(()),
@@ -66,10 +60,7 @@ impl<'a> LoggedRunner<'a> {
         ensures noted { SeesWalk self.now.turns walked.old target.old walked.new result (debugged_seen self.now code.now) }
     {
         for one in code {
-            match self.define_one(one, walked, target) {
-                Ok(()) => {}
-                Err(stopped) => return Err(stopped),
-            }
+            self.define_one(one, walked, target)?;
         }
         Ok(())
     }
@@ -85,10 +76,7 @@ impl<'a> LoggedRunner<'a> {
         ensures gives { WalksAs walked.old target.old walked.new target.new result (run_in_walk self.now start.now) }
         ensures noted { SeesWalk self.now.turns walked.old target.old walked.new result (run_seen self.now start.now) }
     {
-        match self.define_all(self.set.debugvars().as_slice(), walked, target) {
-            Ok(()) => {}
-            Err(stopped) => return Err(stopped),
-        }
+        self.define_all(self.set.debugvars().as_slice(), walked, target)?;
         self.run_steps(
             start,
             &[],

@@ -35,10 +35,7 @@ impl<'a> LoggedRunner<'a> {
         ensures noted { SeesWalk self.now.turns walked.old target.old walked.new result (steps_seen self.now depth sequence.now path.now steps.now) }
     {
         for (number, step) in steps.iter().enumerate() {
-            match self.run_inner(sequence, path, number as u64, step, depth, walked, target) {
-                Ok(()) => {}
-                Err(stopped) => return Err(stopped),
-            }
+            self.run_inner(sequence, path, number as u64, step, depth, walked, target)?;
         }
         Ok(())
     }
@@ -119,10 +116,7 @@ impl<'a> LoggedRunner<'a> {
         ensures noted { SeesWalk self.now.turns walked.old target.old walked.new result (block_seen self.now depth sequence.now path.now code.now) }
     {
         for one in code {
-            match self.run_statement(sequence, path, one, depth, walked, target) {
-                Ok(()) => {}
-                Err(stopped) => return Err(stopped),
-            }
+            self.run_statement(sequence, path, one, depth, walked, target)?;
         }
         Ok(())
     }
@@ -142,10 +136,7 @@ impl<'a> LoggedRunner<'a> {
         ensures gives { WalksAs walked.old target.old walked.new target.new result (statement_in_walk self.now depth one.now) }
         ensures noted { SeesWalk self.now.turns walked.old target.old walked.new result (statement_seen self.now depth sequence.now path.now one.now) }
     {
-        match walked.begin(sequence, path, one) {
-            Ok(()) => {}
-            Err(stopped) => return Err(stopped),
-        }
+        walked.begin(sequence, path, one)?;
         self.do_statement(one, depth, walked, target)
     }
 
@@ -183,14 +174,8 @@ impl<'a> LoggedRunner<'a> {
         ensures gives { WalksAs walked.old target.old walked.new target.new result (declaration_in_walk self.now depth name.now expr.now) }
         ensures noted { SeesWalk self.now.turns walked.old target.old walked.new result (declared_seen self.now depth name.now expr.now) }
     {
-        match count_step(walked) {
-            Ok(()) => {}
-            Err(stopped) => return Err(stopped),
-        }
-        let number = match self.evaluate(expr, depth, walked, target) {
-            Ok(number) => number,
-            Err(stopped) => return Err(stopped),
-        };
+        count_step(walked)?;
+        let number = self.evaluate(expr, depth, walked, target)?;
         let Ok(()) = walked.declare(self.alloc, &name.text, number) else {
             walked.held.end = LoggedEnd::OutOfMemory;
             return Err(Stopped);
@@ -211,14 +196,9 @@ impl<'a> LoggedRunner<'a> {
         ensures gives { WalksAs walked.old target.old walked.new target.new result (dropped_in_walk self.now depth expr.now) }
         ensures noted { SeesWalk self.now.turns walked.old target.old walked.new result (dropped_seen self.now depth expr.now) }
     {
-        match count_step(walked) {
-            Ok(()) => {}
-            Err(stopped) => return Err(stopped),
-        }
-        match self.evaluate(expr, depth, walked, target) {
-            Ok(_) => Ok(()),
-            Err(stopped) => Err(stopped),
-        }
+        count_step(walked)?;
+        self.evaluate(expr, depth, walked, target)?;
+        Ok(())
     }
 }
 

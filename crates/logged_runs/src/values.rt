@@ -74,14 +74,8 @@ impl<'a> LoggedRunner<'a> {
         ensures gives { WalksAs walked.old target.old walked.new target.new result (strict_in_walk self.now depth op left.now right.now) }
         ensures noted { SeesWalk self.now.turns walked.old target.old walked.new result (strict_seen self.now depth left.now right.now) }
     {
-        let left = match self.evaluate(left, depth, walked, target) {
-            Ok(left) => left,
-            Err(stopped) => return Err(stopped),
-        };
-        let right = match self.evaluate(right, depth, walked, target) {
-            Ok(right) => right,
-            Err(stopped) => return Err(stopped),
-        };
+        let left = self.evaluate(left, depth, walked, target)?;
+        let right = self.evaluate(right, depth, walked, target)?;
         match binary_value(op, left, right) {
             Some(number) => Ok(number),
             None => {
@@ -105,17 +99,11 @@ impl<'a> LoggedRunner<'a> {
         ensures gives { WalksAs walked.old target.old walked.new target.new result (and_in_walk self.now depth left.now right.now) }
         ensures noted { SeesWalk self.now.turns walked.old target.old walked.new result (and_seen self.now depth left.now right.now) }
     {
-        let left = match self.evaluate(left, depth, walked, target) {
-            Ok(left) => left,
-            Err(stopped) => return Err(stopped),
-        };
+        let left = self.evaluate(left, depth, walked, target)?;
         if left == 0 {
             return Ok(0);
         }
-        let right = match self.evaluate(right, depth, walked, target) {
-            Ok(right) => right,
-            Err(stopped) => return Err(stopped),
-        };
+        let right = self.evaluate(right, depth, walked, target)?;
         Ok(truth(right != 0))
     }
 
@@ -133,17 +121,11 @@ impl<'a> LoggedRunner<'a> {
         ensures gives { WalksAs walked.old target.old walked.new target.new result (or_in_walk self.now depth left.now right.now) }
         ensures noted { SeesWalk self.now.turns walked.old target.old walked.new result (or_seen self.now depth left.now right.now) }
     {
-        let left = match self.evaluate(left, depth, walked, target) {
-            Ok(left) => left,
-            Err(stopped) => return Err(stopped),
-        };
+        let left = self.evaluate(left, depth, walked, target)?;
         if left != 0 {
             return Ok(1);
         }
-        let right = match self.evaluate(right, depth, walked, target) {
-            Ok(right) => right,
-            Err(stopped) => return Err(stopped),
-        };
+        let right = self.evaluate(right, depth, walked, target)?;
         Ok(truth(right != 0))
     }
 
@@ -184,10 +166,7 @@ impl<'a> LoggedRunner<'a> {
         ensures gives { WalksAs walked.old target.old walked.new target.new result (choice_in_walk self.now depth test.now first.now second.now) }
         ensures noted { SeesWalk self.now.turns walked.old target.old walked.new result (choice_seen self.now depth test.now first.now second.now) }
     {
-        let number = match self.evaluate(test, depth, walked, target) {
-            Ok(number) => number,
-            Err(stopped) => return Err(stopped),
-        };
+        let number = self.evaluate(test, depth, walked, target)?;
         if number == 0 {
             self.evaluate(second, depth, walked, target)
         } else {

@@ -1,8 +1,9 @@
 -- What a run leaves, however it ends.
-use Rattle.std.proofs.Common.{◌≡◌, ℕ, suc, ◌+◌, Bool, true, false, cond, ◌⊎◌, inl, inr, List, [], ◌∷◌, ◌++◌, length, Option, None, Some, Result, Ok, Err, refl, sym, ap, subst, ◌∙◌, arith}
+use Rattle.std.proofs.Common.{◌≡◌, ℕ, suc, ◌+◌, Bool, true, false, cond, ◌⊎◌, inl, inr, List, [], ◌∷◌, ◌++◌, length, Option, None, Some, Result, Ok, Err, IsErr, refl, sym, ap, subst, ◌∙◌, arith}
 use Rattle.target_calls.specs.World.{World, is_over, later_by, next_world, one_fewer, start_world, stop, stops_here, world_after}
 use Rattle.target_calls.specs.declared.calls.Ask.{Ask}
 use Rattle.target_machine.specs.State.{TargetState}
+use Rattle.dap_base.specs.declared.text.OutOfMemory.{OutOfMemory}
 use Rattle.sequence_rules.specs.declared.bindings.Binding.{Binding}
 use Rattle.sequence_rules.specs.Direct.{Now, direct, now_at}
 use Rattle.sequence_rules.specs.Late.{Grows}
@@ -17,7 +18,8 @@ use Rattle.sequence_rules.proofs.OutcomeLemmas.{over_calls, over_written}
 use Rattle.sequence_meaning.specs.declared.end.DirectEnd.{DirectEnd}
 use Rattle.sequence_meaning.specs.declared.end.DirectEnd.TheVariants as end
 use Rattle.sequence_meaning.specs.declared.held.DirectHeld.{DirectHeld}
-use Rattle.sequence_meaning.specs.Answers.{IsFirstPart}
+use Rattle.sequence_meaning.specs.Answers.{IsFirstPart, Leaves, LeavesSome}
+use Rattle.sequence_meaning.specs.declared.ended.Recorded.{Recorded}
 use Rattle.sequence_meaning.specs.declared.end.Stopped.{Stopped}
 use Rattle.sequence_meaning.specs.Held.{EndsDirect, IsMadeByCalls, MeansDirect, answered_world, made_all, state_of}
 
@@ -105,6 +107,11 @@ first_part ended held start target written out h law made =
       target = ap (λ (x : World). x.target) (sym made.world ∙ after_all (start_world start None) held.calls adds.more refl last);
       lines = subst (λ o. Grows written o) (sym (written_at_end out)) adds.lines;
     }
+
+-- an answer that is no run
+pub no_run_leaves : (start : TargetState) (o : Outcome) (result : Result Recorded OutOfMemory) (target : TargetState) (written : Option (List ℕ)) → IsErr result → LeavesSome start o target written → Leaves start o result target written
+no_run_leaves start o (Ok r) target written h k = absurd cc
+no_run_leaves start o (Err e) target written h k = k
 
 -- nothing was done
 pub no_part : (p : Program) (t : TargetState) (written : Option (List ℕ)) → IsFirstPart t (outcome p t written) [] t written

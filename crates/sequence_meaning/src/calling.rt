@@ -84,10 +84,7 @@ impl DirectRunner<'_> {
             K.written K.faults held.old target.old sink.old held.new target.new sink.new (with_answer numbers.new.items result) }
     {
         for arg in args {
-            match self.evaluate_argument(arg, numbers, depth, held, target, sink) {
-                Ok(()) => {}
-                Err(stopped) => return Err(stopped),
-            }
+            self.evaluate_argument(arg, numbers, depth, held, target, sink)?;
         }
         Ok(())
     }
@@ -302,12 +299,8 @@ impl DirectRunner<'_> {
         let ap = held.globals.ap();
         let control = held.globals.control();
         let locals = held.take_locals(self.alloc);
-        match self.run_steps(steps, depth, held, target, sink) {
-            Ok(()) => {
-                held.give_back(dp, ap, control, locals);
-                Ok(())
-            }
-            Err(stopped) => Err(stopped),
-        }
+        self.run_steps(steps, depth, held, target, sink)?;
+        held.give_back(dp, ap, control, locals);
+        Ok(())
     }
 }

@@ -155,11 +155,11 @@ impl DirectRunner<'_> {
     {
         let mut left = count;
         while left > 0 {
-            match self.run_turn(expr, steps, depth, held, target, sink) {
-                Ok(true) => left -= 1,
-                Ok(false) => return Ok(()),
-                Err(stopped) => return Err(stopped),
+            let more = self.run_turn(expr, steps, depth, held, target, sink)?;
+            if !more {
+                return Ok(());
             }
+            left -= 1;
         }
         Ok(())
     }
@@ -178,14 +178,8 @@ impl DirectRunner<'_> {
         ensures { RunsDirect (turn_meaning self.now depth (tree expr.now) (steps_tree steps.now))
             K.written K.faults held.old target.old sink.old held.new target.new sink.new result }
     {
-        match count_step(held) {
-            Ok(()) => {}
-            Err(stopped) => return Err(stopped),
-        }
-        let number = match self.evaluate(expr, depth, held, target, sink) {
-            Ok(number) => number,
-            Err(stopped) => return Err(stopped),
-        };
+        count_step(held)?;
+        let number = self.evaluate(expr, depth, held, target, sink)?;
         if number == 0 {
             return Ok(false);
         }

@@ -67,10 +67,7 @@ fn record_run(
         → MeansDirect held.end ended (state_of held target written) out → IsMadeIn (start_world start None) (outcome_of out)
         → IsMadeByCalls (start_world start None) held target → Leaves start (outcome_of out) result target written }
 {
-    let ending = match ending_of(alloc, ended, &held) {
-        Ok(ending) => ending,
-        Err(refused) => return Err(refused),
-    };
+    let ending = ending_of(alloc, ended, &held)?;
     Ok(Recorded {
         ending,
         calls: held.calls,
@@ -107,14 +104,8 @@ pub fn run_recorded<K: Sink>(
         (outcome (program_of (checked_trees checked.now) start.now settings.now) target.old (known_part known (K.written sink.old)))
         result target.new (known_part known (K.written sink.new)) }
 {
-    let mut globals = match make_globals(alloc, settings.start.as_slice()) {
-        Ok(globals) => globals,
-        Err(refused) => return Err(refused),
-    };
-    match add_declared(&mut globals, alloc, checked.debugvars().as_slice()) {
-        Ok(()) => {}
-        Err(refused) => return Err(refused),
-    }
+    let mut globals = make_globals(alloc, settings.start.as_slice())?;
+    add_declared(&mut globals, alloc, checked.debugvars().as_slice())?;
     let mut held = DirectHeld::new(alloc, globals);
     let runner = DirectRunner {
         alloc,
@@ -149,8 +140,6 @@ pub fn run_direct<K: Sink>(
         (outcome (program_of (checked_trees checked.now) start.now settings.now) target.old (known_part known (K.written sink.old)))
         target.new (known_part known (K.written sink.new)) }
 {
-    match run_recorded(alloc, checked, start, settings, target, sink) {
-        Ok(run) => Ok(run.ending),
-        Err(refused) => Err(refused),
-    }
+    let run = run_recorded(alloc, checked, start, settings, target, sink)?;
+    Ok(run.ending)
 }

@@ -39,10 +39,7 @@ fn ask_second_half(
         held.old target.old held.new target.new result }
 {
     let unit = memory_unit(4, read, ap, address + 4, value / 0x1_0000_0000);
-    let high = match ask(unit, forgive, held, target) {
-        Ok(high) => high,
-        Err(stopped) => return Err(stopped),
-    };
+    let high = ask(unit, forgive, held, target)?;
     Ok(if read { join_words(low, high) } else { 0 })
 }
 
@@ -62,10 +59,7 @@ fn ask_two_units(
         held.old target.old held.new target.new result }
 {
     let unit = memory_unit(4, read, ap, address, value);
-    let low = match ask(unit, forgive, held, target) {
-        Ok(low) => low,
-        Err(stopped) => return Err(stopped),
-    };
+    let low = ask(unit, forgive, held, target)?;
     ask_second_half(read, ap, forgive, address, value, low, held, target)
 }
 

@@ -64,10 +64,7 @@ impl DirectRunner<'_> {
             K.written K.faults held.old target.old sink.old held.new target.new sink.new result }
     {
         for one in code {
-            match self.define_one(one, held, target, sink) {
-                Ok(()) => {}
-                Err(stopped) => return Err(stopped),
-            }
+            self.define_one(one, held, target, sink)?;
         }
         Ok(())
     }
@@ -83,10 +80,7 @@ impl DirectRunner<'_> {
         ensures { RunsDirect (m.run_of (direct false) self.now.turn_us (checked_trees self.now.set.now) start.now)
             K.written K.faults held.old target.old sink.old held.new target.new sink.new result }
     {
-        match self.define_all(self.set.debugvars().as_slice(), held, target, sink) {
-            Ok(()) => {}
-            Err(stopped) => return Err(stopped),
-        }
+        self.define_all(self.set.debugvars().as_slice(), held, target, sink)?;
         self.run_steps(self.steps_of(start), MOST_CALLS_DEEP, held, target, sink)
     }
 }

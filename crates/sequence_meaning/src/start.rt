@@ -44,10 +44,7 @@ pub(crate) fn add_declared(
     ensures { OnOk result (bindings_of globals.new ≡ with_all_new (bindings_of globals.old) (declared_names (code_trees code.now)) 0) }
 {
     for one in code {
-        match add_one(globals, alloc, one) {
-            Ok(()) => {}
-            Err(refused) => return Err(refused),
-        }
+        add_one(globals, alloc, one)?;
     }
     Ok(())
 }

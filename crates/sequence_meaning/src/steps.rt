@@ -33,10 +33,7 @@ impl DirectRunner<'_> {
             K.written K.faults held.old target.old sink.old held.new target.new sink.new result }
     {
         for one in steps {
-            match self.run_step(one, depth, held, target, sink) {
-                Ok(()) => {}
-                Err(stopped) => return Err(stopped),
-            }
+            self.run_step(one, depth, held, target, sink)?;
         }
         Ok(())
     }
@@ -90,10 +87,7 @@ impl DirectRunner<'_> {
             K.written K.faults held.old target.old sink.old held.new target.new sink.new result }
     {
         for one in code {
-            match self.run_statement(one, depth, held, target, sink) {
-                Ok(()) => {}
-                Err(stopped) => return Err(stopped),
-            }
+            self.run_statement(one, depth, held, target, sink)?;
         }
         Ok(())
     }
@@ -133,14 +127,8 @@ impl DirectRunner<'_> {
         ensures { RunsDirect (declaration_meaning self.now depth name.now (tree expr.now))
             K.written K.faults held.old target.old sink.old held.new target.new sink.new result }
     {
-        match count_step(held) {
-            Ok(()) => {}
-            Err(stopped) => return Err(stopped),
-        }
-        let number = match self.evaluate(expr, depth, held, target, sink) {
-            Ok(number) => number,
-            Err(stopped) => return Err(stopped),
-        };
+        count_step(held)?;
+        let number = self.evaluate(expr, depth, held, target, sink)?;
         match held.declare(self.alloc, &name.text, number) {
             Ok(()) => Ok(()),
             Err(_) => {
@@ -163,14 +151,9 @@ impl DirectRunner<'_> {
         ensures { RunsDirect (plain_meaning self.now depth (tree expr.now))
             K.written K.faults held.old target.old sink.old held.new target.new sink.new result }
     {
-        match count_step(held) {
-            Ok(()) => {}
-            Err(stopped) => return Err(stopped),
-        }
-        match self.evaluate(expr, depth, held, target, sink) {
-            Ok(_) => Ok(()),
-            Err(stopped) => Err(stopped),
-        }
+        count_step(held)?;
+        self.evaluate(expr, depth, held, target, sink)?;
+        Ok(())
     }
 }
 

@@ -20,8 +20,8 @@ pub returns-clause-answer : goal.returns-clause-answer
 returns-clause-answer c =
     let set = checked_trees c.args.checked.now in
     let code = ap (λ (l : List Stmt). code_trees l) c.as_slice-2.ensures ∙ c.debugvars.ensures in
-    let values = c.in-Ok.ensures ∙ ap (λ (l : List Variable). variables_of l) c.as_slice.ensures in
-    let all = c.in-Ok-add_declared.ensures ∙ ap (λ bs. with_all_new bs (m.declared_names (code_trees c.as_slice-2.result.now)) 0) values ∙ ap (λ k. with_all_new (variables_of c.args.settings.now.start) (m.declared_names k) 0) code in
+    let values = c.in_ok-globals.ensures ∙ ap (λ (l : List Variable). variables_of l) c.as_slice.ensures in
+    let all = c.in_ok-add_declared.ensures ∙ ap (λ bs. with_all_new bs (m.declared_names (code_trees c.as_slice-2.result.now)) 0) values ∙ ap (λ k. with_all_new (variables_of c.args.settings.now.start) (m.declared_names k) 0) code in
     let same = c.new-walked.ensures.state c.args.target.now ∙ start_is c.args.settings.now.turn_us set (variables_of c.args.settings.now.start) _ c.args.target.now None all in
     let gives = subst (λ s. Means c.run_all-ended.new.walked.held.end c.run_all-ended.result (now c.run_all-ended.new.walked c.run_all-ended.new.target) (m.run_of (direct false) c.args.settings.now.turn_us set c.args.start.now s)) same c.run_all-ended.ensures.gives in
     let p = program_of (checked_trees c.args.checked.now) c.args.start.now c.args.settings.now in
@@ -32,8 +32,8 @@ pub returns-clause-seen : goal.returns-clause-seen
 returns-clause-seen c =
     let set = checked_trees c.args.checked.now in
     let code = ap (λ (l : List Stmt). code_trees l) c.as_slice-2.ensures ∙ c.debugvars.ensures in
-    let values = c.in-Ok.ensures ∙ ap (λ (l : List Variable). variables_of l) c.as_slice.ensures in
-    let all = c.in-Ok-add_declared.ensures ∙ ap (λ bs. with_all_new bs (m.declared_names (code_trees c.as_slice-2.result.now)) 0) values ∙ ap (λ k. with_all_new (variables_of c.args.settings.now.start) (m.declared_names k) 0) code in
+    let values = c.in_ok-globals.ensures ∙ ap (λ (l : List Variable). variables_of l) c.as_slice.ensures in
+    let all = c.in_ok-add_declared.ensures ∙ ap (λ bs. with_all_new bs (m.declared_names (code_trees c.as_slice-2.result.now)) 0) values ∙ ap (λ k. with_all_new (variables_of c.args.settings.now.start) (m.declared_names k) 0) code in
     let same = c.new-walked.ensures.state c.args.target.now ∙ start_is c.args.settings.now.turn_us set (variables_of c.args.settings.now.start) _ c.args.target.now None all in
     let noted = subst (λ s. Unless c.run_all-ended.new.walked.held.end c.run_all-ended.result (NotesByTurns c.args.turns (seen_so_far c.new-walked.result) (seen_so_far c.run_all-ended.new.walked) (λ shows. r.run_events shows c.args.settings.now.turn_us set c.args.start.now s))) same c.run_all-ended.ensures.noted in
     let p = program_of (checked_trees c.args.checked.now) c.args.start.now c.args.settings.now in

@@ -31,9 +31,9 @@ evaluate_arguments-loop-arg-preserved g t c = record {
       let first = state_seen known c.loop-arg.held c.loop-arg.target (g.K.Sink.written c.loop-arg.sink) in
       let next = state_seen known c.evaluate_argument.new.held c.evaluate_argument.new.target (g.K.Sink.written c.evaluate_argument.new.sink) in
       args_on c.args.self.now c.args.depth _ c.args.args.now c.loop-arg.arg-index _ c.loop-arg.numbers.items c.evaluate_argument.new.numbers.items first next (c.loop-arg.invariant.same known knows) c.loop-arg-test.true
-      (subst (λ a. v.argument (direct false) (calls_of c.args.self.now c.args.depth) (arg_tree a) c.loop-arg.numbers.items first ≡ Ok (c.evaluate_argument.new.numbers.items, next)) c.arg-item.is (c.in-Ok.ensures.gives known (c.loop-arg.invariant.keeps.knows known knows)));
+      (subst (λ a. v.argument (direct false) (calls_of c.args.self.now c.args.depth) (arg_tree a) c.loop-arg.numbers.items first ≡ Ok (c.evaluate_argument.new.numbers.items, next)) c.arg-item.is (c.in_ok-evaluate_argument.ensures.gives known (c.loop-arg.invariant.keeps.knows known knows)));
   keeps = keeps_on c.loop-arg.invariant.keeps c.evaluate_argument.ensures.keeps;
-  faults = c.in-Ok.ensures.cause ∙ c.loop-arg.invariant.faults;
+  faults = c.in_ok-evaluate_argument.ensures.cause ∙ c.loop-arg.invariant.faults;
 }
 
 pub run_block-run_statement-requires : goal.run_block-run_statement-requires
@@ -49,10 +49,10 @@ run_steps-run_step-requires g t c =
 pub run_turns-loop-left-preserved : goal.run_turns-loop-left-preserved
 run_turns-loop-left-preserved g t c = record {
   same = λ known knows.
-      let more = c.in-Ok-true.ensures.gives known (c.loop-left.invariant.keeps.knows known knows) in
-      turns_on _ _ _ c.loop-left.left _ _ (c.loop-left.invariant.same known knows) c.loop-left-test.true (rw c.in-Ok-true.field-0-test at more);
+      let more = c.in_ok-more.ensures.gives known (c.loop-left.invariant.keeps.knows known knows) in
+      turns_on _ _ _ c.loop-left.left _ _ (c.loop-left.invariant.same known knows) c.loop-left-test.true (rw c.if-not-more.false at more);
   keeps = keeps_on c.loop-left.invariant.keeps c.run_turn.ensures.keeps;
-  faults = c.in-Ok-true.ensures.cause ∙ c.loop-left.invariant.faults;
+  faults = c.in_ok-more.ensures.cause ∙ c.loop-left.invariant.faults;
 }
 
 pub run_named-run_sequence-requires : goal.run_named-run_sequence-requires
@@ -92,97 +92,97 @@ assign-returns g t c = record {
   cause = c.in_ok-number.ensures.cause;
 }
 
+pub declare-returns-in_err-count_step : goal.declare-returns-in_err-count_step
+declare-returns-in_err-count_step g t c = record {
+  gives = λ known knows. stopped_means _ _ _ _ c.from_residual.ensures.0 (declare_first c.args.self.now c.args.depth (tree c.args.expr.now) c.count_step.new.held.end _ _ c.args.name.now ((c.in_err-count_step.ensures c.args.target.now).gives (known_part known (g.K.Sink.written c.args.sink.now))));
+  keeps = keeps_made (c.count_step.ensures c.args.target.now).keeps;
+  cause = stopped_caused _ _ _ _ c.from_residual.ensures.0 ((c.in_err-count_step.ensures c.args.target.now).cause (g.K.Sink.faults c.args.sink.now));
+}
+
+pub declare-returns-in_err-number : goal.declare-returns-in_err-number
+declare-returns-in_err-number g t c = record {
+  gives = λ known knows. stopped_means _ _ _ _ c.from_residual-in_err-number.ensures.0 (declare_value c.args.self.now c.args.depth (tree c.args.expr.now) c.evaluate.new.held.end _ _ _ c.args.name.now ((c.in_ok-count_step.ensures c.args.target.now).gives (known_part known (g.K.Sink.written c.args.sink.now))) (c.in_err-number.ensures.gives known knows));
+  keeps = keeps_after (c.count_step.ensures c.args.target.now).keeps c.evaluate.ensures.keeps;
+  cause = stopped_caused _ _ _ _ c.from_residual-in_err-number.ensures.0 (c.in_err-number.ensures.cause);
+}
+
+pub declare-returns-in-Ok : goal.declare-returns-in-Ok
+declare-returns-in-Ok g t c = record {
+  gives = λ known knows.
+      declared_on c.args.name.now (value_meaning c.args.self.now c.args.depth (tree c.args.expr.now)) _ _ _ _ _ ((c.in_ok-count_step.ensures c.args.target.now).gives (known_part known (g.K.Sink.written c.args.sink.now))) (c.in_ok-number.ensures.gives known knows) (c.in-Ok.ensures.state.state c.evaluate.new.target (known_part known (g.K.Sink.written c.evaluate.new.sink)));
+  keeps = keeps_after (c.count_step.ensures c.args.target.now).keeps (keeps_before c.evaluate.ensures.keeps (c.in-Ok.ensures.state.keeps _));
+  cause = c.in_ok-number.ensures.cause;
+}
+
 pub declare-returns-in-Err : goal.declare-returns-in-Err
 declare-returns-in-Err g t c = record {
-  gives = λ known knows. declare_first c.args.self.now c.args.depth (tree c.args.expr.now) c.count_step.new.held.end _ _ c.args.name.now ((c.in-Err.ensures c.args.target.now).gives (known_part known (g.K.Sink.written c.args.sink.now)));
-  keeps = keeps_made (c.count_step.ensures c.args.target.now).keeps;
-  cause = (c.in-Err.ensures c.args.target.now).cause (g.K.Sink.faults c.args.sink.now);
-}
-
-pub declare-returns-in-Err-evaluate : goal.declare-returns-in-Err-evaluate
-declare-returns-in-Err-evaluate g t c = record {
-  gives = λ known knows. declare_value c.args.self.now c.args.depth (tree c.args.expr.now) c.evaluate.new.held.end _ _ _ c.args.name.now ((c.in-Ok.ensures c.args.target.now).gives (known_part known (g.K.Sink.written c.args.sink.now))) (c.in-Err-evaluate.ensures.gives known knows);
-  keeps = keeps_after (c.count_step.ensures c.args.target.now).keeps c.evaluate.ensures.keeps;
-  cause = c.in-Err-evaluate.ensures.cause;
-}
-
-pub declare-returns-in-Ok-declare : goal.declare-returns-in-Ok-declare
-declare-returns-in-Ok-declare g t c = record {
   gives = λ known knows.
-      declared_on c.args.name.now (value_meaning c.args.self.now c.args.depth (tree c.args.expr.now)) _ _ _ _ _ ((c.in-Ok.ensures c.args.target.now).gives (known_part known (g.K.Sink.written c.args.sink.now))) (c.in-Ok-evaluate.ensures.gives known knows) (c.in-Ok-declare.ensures.state.state c.evaluate.new.target (known_part known (g.K.Sink.written c.evaluate.new.sink)));
-  keeps = keeps_after (c.count_step.ensures c.args.target.now).keeps (keeps_before c.evaluate.ensures.keeps (c.in-Ok-declare.ensures.state.keeps _));
-  cause = c.in-Ok-evaluate.ensures.cause;
-}
-
-pub declare-returns-in-Err-declare : goal.declare-returns-in-Err-declare
-declare-returns-in-Err-declare g t c = record {
-  gives = λ known knows.
-      declare_refused c.args.self.now c.args.depth (tree c.args.expr.now) _ _ _ _ c.args.name.now _ ((c.in-Ok.ensures c.args.target.now).gives (known_part known (g.K.Sink.written c.args.sink.now))) (c.in-Ok-evaluate.ensures.gives known knows) (c.in-Err-declare.ensures.same.state c.evaluate.new.target (known_part known (g.K.Sink.written c.evaluate.new.sink)));
-  keeps = (let k = keeps_after (c.count_step.ensures c.args.target.now).keeps (keeps_before c.evaluate.ensures.keeps (c.in-Err-declare.ensures.same.keeps _)) in
+      declare_refused c.args.self.now c.args.depth (tree c.args.expr.now) _ _ _ _ c.args.name.now _ ((c.in_ok-count_step.ensures c.args.target.now).gives (known_part known (g.K.Sink.written c.args.sink.now))) (c.in_ok-number.ensures.gives known knows) (c.in-Err.ensures.same.state c.evaluate.new.target (known_part known (g.K.Sink.written c.evaluate.new.sink)));
+  keeps = (let k = keeps_after (c.count_step.ensures c.args.target.now).keeps (keeps_before c.evaluate.ensures.keeps (c.in-Err.ensures.same.keeps _)) in
       record { made = record { on = λ w made. record { world = (k.made.on w made).world } }; knows = k.knows });
-  cause = c.in-Ok-evaluate.ensures.cause;
+  cause = c.in_ok-number.ensures.cause;
 }
 
-pub run_expression-returns-in-Err : goal.run_expression-returns-in-Err
-run_expression-returns-in-Err g t c = record {
-  gives = λ known knows. plain_first c.args.self.now c.args.depth (tree c.args.expr.now) c.count_step.new.held.end _ _ ((c.in-Err.ensures c.args.target.now).gives (known_part known (g.K.Sink.written c.args.sink.now)));
+pub run_expression-returns-in_err-count_step : goal.run_expression-returns-in_err-count_step
+run_expression-returns-in_err-count_step g t c = record {
+  gives = λ known knows. stopped_means _ _ _ _ c.from_residual.ensures.0 (plain_first c.args.self.now c.args.depth (tree c.args.expr.now) c.count_step.new.held.end _ _ ((c.in_err-count_step.ensures c.args.target.now).gives (known_part known (g.K.Sink.written c.args.sink.now))));
   keeps = keeps_made (c.count_step.ensures c.args.target.now).keeps;
-  cause = (c.in-Err.ensures c.args.target.now).cause (g.K.Sink.faults c.args.sink.now);
+  cause = stopped_caused _ _ _ _ c.from_residual.ensures.0 ((c.in_err-count_step.ensures c.args.target.now).cause (g.K.Sink.faults c.args.sink.now));
 }
 
-pub run_expression-returns-in-Err-evaluate : goal.run_expression-returns-in-Err-evaluate
-run_expression-returns-in-Err-evaluate g t c = record {
-  gives = λ known knows. plain_value c.args.self.now c.args.depth (tree c.args.expr.now) c.evaluate.new.held.end _ _ _ ((c.in-Ok.ensures c.args.target.now).gives (known_part known (g.K.Sink.written c.args.sink.now))) (c.in-Err-evaluate.ensures.gives known knows);
+pub run_expression-returns-in_err-evaluate : goal.run_expression-returns-in_err-evaluate
+run_expression-returns-in_err-evaluate g t c = record {
+  gives = λ known knows. stopped_means _ _ _ _ c.from_residual-in_err-evaluate.ensures.0 (plain_value c.args.self.now c.args.depth (tree c.args.expr.now) c.evaluate.new.held.end _ _ _ ((c.in_ok-count_step.ensures c.args.target.now).gives (known_part known (g.K.Sink.written c.args.sink.now))) (c.in_err-evaluate.ensures.gives known knows));
   keeps = keeps_after (c.count_step.ensures c.args.target.now).keeps c.evaluate.ensures.keeps;
-  cause = c.in-Err-evaluate.ensures.cause;
+  cause = stopped_caused _ _ _ _ c.from_residual-in_err-evaluate.ensures.0 (c.in_err-evaluate.ensures.cause);
 }
 
-pub run_expression-returns-in-Ok-evaluate : goal.run_expression-returns-in-Ok-evaluate
-run_expression-returns-in-Ok-evaluate g t c = record {
-  gives = λ known knows. plain_on (value_meaning c.args.self.now c.args.depth (tree c.args.expr.now)) _ _ _ _ ((c.in-Ok.ensures c.args.target.now).gives (known_part known (g.K.Sink.written c.args.sink.now))) (c.in-Ok-evaluate.ensures.gives known knows);
+pub run_expression-returns : goal.run_expression-returns
+run_expression-returns g t c = record {
+  gives = λ known knows. plain_on (value_meaning c.args.self.now c.args.depth (tree c.args.expr.now)) _ _ _ _ ((c.in_ok-count_step.ensures c.args.target.now).gives (known_part known (g.K.Sink.written c.args.sink.now))) (c.in_ok-evaluate.ensures.gives known knows);
   keeps = keeps_after (c.count_step.ensures c.args.target.now).keeps c.evaluate.ensures.keeps;
-  cause = c.in-Ok-evaluate.ensures.cause;
+  cause = c.in_ok-evaluate.ensures.cause;
 }
 
-pub run_turn-returns-in-Err : goal.run_turn-returns-in-Err
-run_turn-returns-in-Err g t c = record {
-  gives = λ known knows. ends_turn c.args.self.now c.args.depth (tree c.args.expr.now) c.count_step.new.held.end _ _ (steps_tree c.args.steps.now) ((c.in-Err.ensures c.args.target.now).gives (known_part known (g.K.Sink.written c.args.sink.now)));
+pub run_turn-returns-in_err-count_step : goal.run_turn-returns-in_err-count_step
+run_turn-returns-in_err-count_step g t c = record {
+  gives = λ known knows. stopped_means _ _ _ _ c.from_residual.ensures.0 (ends_turn c.args.self.now c.args.depth (tree c.args.expr.now) c.count_step.new.held.end _ _ (steps_tree c.args.steps.now) ((c.in_err-count_step.ensures c.args.target.now).gives (known_part known (g.K.Sink.written c.args.sink.now))));
   keeps = keeps_made (c.count_step.ensures c.args.target.now).keeps;
-  cause = (c.in-Err.ensures c.args.target.now).cause (g.K.Sink.faults c.args.sink.now);
+  cause = stopped_caused _ _ _ _ c.from_residual.ensures.0 ((c.in_err-count_step.ensures c.args.target.now).cause (g.K.Sink.faults c.args.sink.now));
 }
 
-pub run_turn-returns-in-Err-evaluate : goal.run_turn-returns-in-Err-evaluate
-run_turn-returns-in-Err-evaluate g t c = record {
-  gives = λ known knows. ends_test c.args.self.now c.args.depth c.evaluate.new.held.end _ _ _ (tree c.args.expr.now) (steps_tree c.args.steps.now) ((c.in-Ok.ensures c.args.target.now).gives (known_part known (g.K.Sink.written c.args.sink.now))) (c.in-Err-evaluate.ensures.gives known knows);
+pub run_turn-returns-in_err-number : goal.run_turn-returns-in_err-number
+run_turn-returns-in_err-number g t c = record {
+  gives = λ known knows. stopped_means _ _ _ _ c.from_residual-in_err-number.ensures.0 (ends_test c.args.self.now c.args.depth c.evaluate.new.held.end _ _ _ (tree c.args.expr.now) (steps_tree c.args.steps.now) ((c.in_ok-count_step.ensures c.args.target.now).gives (known_part known (g.K.Sink.written c.args.sink.now))) (c.in_err-number.ensures.gives known knows));
   keeps = keeps_after (c.count_step.ensures c.args.target.now).keeps c.evaluate.ensures.keeps;
-  cause = c.in-Err-evaluate.ensures.cause;
+  cause = stopped_caused _ _ _ _ c.from_residual-in_err-number.ensures.0 (c.in_err-number.ensures.cause);
 }
 
 pub run_turn-returns-then-number-eq0 : goal.run_turn-returns-then-number-eq0
 run_turn-returns-then-number-eq0 g t c = record {
-  gives = λ known knows. turn_over (value_meaning c.args.self.now c.args.depth (tree c.args.expr.now)) (inside_meaning c.args.self.now c.args.depth (steps_tree c.args.steps.now)) _ _ _ _ ((c.in-Ok.ensures c.args.target.now).gives (known_part known (g.K.Sink.written c.args.sink.now))) (c.in-Ok-evaluate.ensures.gives known knows) c.if-number-eq0.true;
+  gives = λ known knows. turn_over (value_meaning c.args.self.now c.args.depth (tree c.args.expr.now)) (inside_meaning c.args.self.now c.args.depth (steps_tree c.args.steps.now)) _ _ _ _ ((c.in_ok-count_step.ensures c.args.target.now).gives (known_part known (g.K.Sink.written c.args.sink.now))) (c.in_ok-number.ensures.gives known knows) c.if-number-eq0.true;
   keeps = keeps_after (c.count_step.ensures c.args.target.now).keeps c.evaluate.ensures.keeps;
-  cause = c.in-Ok-evaluate.ensures.cause;
+  cause = c.in_ok-number.ensures.cause;
 }
 
 pub run_turn-returns-in_err-run_inside : goal.run_turn-returns-in_err-run_inside
 run_turn-returns-in_err-run_inside g t c = record {
   gives = λ known knows.
-      let some : nat_eq c.in-Ok-evaluate.number 0 ≡ false = grind arith in
+      let some : nat_eq c.in_ok-number.number 0 ≡ false = grind arith in
       let second = c.evaluate.ensures.keeps.knows known knows in
-      stopped_means _ _ _ _ c.from_residual.ensures.0 (ends_body c.args.self.now c.args.depth c.run_inside.new.held.end _ _ _ _ (tree c.args.expr.now) (steps_tree c.args.steps.now) _ ((c.in-Ok.ensures c.args.target.now).gives (known_part known (g.K.Sink.written c.args.sink.now))) (c.in-Ok-evaluate.ensures.gives known knows) some (c.in_err-run_inside.ensures.gives known second));
+      stopped_means _ _ _ _ c.from_residual-in_err-run_inside.ensures.0 (ends_body c.args.self.now c.args.depth c.run_inside.new.held.end _ _ _ _ (tree c.args.expr.now) (steps_tree c.args.steps.now) _ ((c.in_ok-count_step.ensures c.args.target.now).gives (known_part known (g.K.Sink.written c.args.sink.now))) (c.in_ok-number.ensures.gives known knows) some (c.in_err-run_inside.ensures.gives known second));
   keeps = keeps_after (c.count_step.ensures c.args.target.now).keeps (keeps_on c.evaluate.ensures.keeps c.run_inside.ensures.keeps);
-  cause = stopped_caused _ _ _ _ c.from_residual.ensures.0 (cause_on _ _ _ _ c.in-Ok-evaluate.ensures.cause c.in_err-run_inside.ensures.cause);
+  cause = stopped_caused _ _ _ _ c.from_residual-in_err-run_inside.ensures.0 (cause_on _ _ _ _ c.in_ok-number.ensures.cause c.in_err-run_inside.ensures.cause);
 }
 
 pub run_turn-returns : goal.run_turn-returns
 run_turn-returns g t c = record {
   gives = λ known knows.
-      let some : nat_eq c.in-Ok-evaluate.number 0 ≡ false = grind arith in
+      let some : nat_eq c.in_ok-number.number 0 ≡ false = grind arith in
       let second = c.evaluate.ensures.keeps.knows known knows in
-      turn_on (value_meaning c.args.self.now c.args.depth (tree c.args.expr.now)) (inside_meaning c.args.self.now c.args.depth (steps_tree c.args.steps.now)) _ _ _ _ _ ((c.in-Ok.ensures c.args.target.now).gives (known_part known (g.K.Sink.written c.args.sink.now))) (c.in-Ok-evaluate.ensures.gives known knows) some (c.in_ok-run_inside.ensures.gives known second);
+      turn_on (value_meaning c.args.self.now c.args.depth (tree c.args.expr.now)) (inside_meaning c.args.self.now c.args.depth (steps_tree c.args.steps.now)) _ _ _ _ _ ((c.in_ok-count_step.ensures c.args.target.now).gives (known_part known (g.K.Sink.written c.args.sink.now))) (c.in_ok-number.ensures.gives known knows) some (c.in_ok-run_inside.ensures.gives known second);
   keeps = keeps_after (c.count_step.ensures c.args.target.now).keeps (keeps_on c.evaluate.ensures.keeps c.run_inside.ensures.keeps);
-  cause = c.in_ok-run_inside.ensures.cause ∙ c.in-Ok-evaluate.ensures.cause;
+  cause = c.in_ok-run_inside.ensures.cause ∙ c.in_ok-number.ensures.cause;
 }
 
 pub run_inside-returns : goal.run_inside-returns
@@ -192,37 +192,37 @@ run_inside-returns g t c = record {
   cause = c.in_ok-run_steps.ensures.cause;
 }
 
-pub run_turns-returns-in-Ok-false : goal.run_turns-returns-in-Ok-false
-run_turns-returns-in-Ok-false g t c = record {
+pub run_turns-returns-then-not-more : goal.run_turns-returns-then-not-more
+run_turns-returns-then-not-more g t c = record {
   gives = λ known knows.
-      let last = c.in-Ok-false.ensures.gives known (c.loop-left.invariant.keeps.knows known knows) in
-      turns_over _ _ _ c.loop-left.left _ _ (c.loop-left.invariant.same known knows) c.loop-left-test.true (rw c.in-Ok-false.field-0-test at last);
+      let last = c.in_ok-more.ensures.gives known (c.loop-left.invariant.keeps.knows known knows) in
+      turns_over _ _ _ c.loop-left.left _ _ (c.loop-left.invariant.same known knows) c.loop-left-test.true (rw c.if-not-more.true at last);
   keeps = keeps_on c.loop-left.invariant.keeps c.run_turn.ensures.keeps;
-  cause = c.in-Ok-false.ensures.cause ∙ c.loop-left.invariant.faults;
+  cause = c.in_ok-more.ensures.cause ∙ c.loop-left.invariant.faults;
 }
 
-pub run_turns-returns-in-Err : goal.run_turns-returns-in-Err
-run_turns-returns-in-Err g t c = record {
+pub run_turns-returns-in_err-more : goal.run_turns-returns-in_err-more
+run_turns-returns-in_err-more g t c = record {
   gives = λ known knows.
-      turns_fail _ _ _ c.loop-left.left _ _ c.run_turn.new.held.end (c.loop-left.invariant.same known knows) c.loop-left-test.true
-      (adds_value c.args.self.now c.args.depth (tree c.args.expr.now)) (adds_inside c.args.self.now c.args.depth (steps_tree c.args.steps.now)) (c.in-Err.ensures.gives known (c.loop-left.invariant.keeps.knows known knows));
+      stopped_means _ _ _ _ c.from_residual.ensures.0 (turns_fail _ _ _ c.loop-left.left _ _ c.run_turn.new.held.end (c.loop-left.invariant.same known knows) c.loop-left-test.true
+      (adds_value c.args.self.now c.args.depth (tree c.args.expr.now)) (adds_inside c.args.self.now c.args.depth (steps_tree c.args.steps.now)) (c.in_err-more.ensures.gives known (c.loop-left.invariant.keeps.knows known knows)));
   keeps = keeps_on c.loop-left.invariant.keeps c.run_turn.ensures.keeps;
-  cause = cause_on _ _ _ _ c.loop-left.invariant.faults c.in-Err.ensures.cause;
+  cause = stopped_caused _ _ _ _ c.from_residual.ensures.0 (cause_on _ _ _ _ c.loop-left.invariant.faults c.in_err-more.ensures.cause);
 }
 
-pub run_sequence-returns-in-Err : goal.run_sequence-returns-in-Err
-run_sequence-returns-in-Err g t c = record {
-  gives = λ known knows. entered_fail _ _ _ _ c.run_steps.new.held.end (c.take_locals-locals.ensures.none.state _ _) (c.in-Err.ensures.gives known knows);
+pub run_sequence-returns-in_err-run_steps : goal.run_sequence-returns-in_err-run_steps
+run_sequence-returns-in_err-run_steps g t c = record {
+  gives = λ known knows. stopped_means _ _ _ _ c.from_residual.ensures.0 (entered_fail _ _ _ _ c.run_steps.new.held.end (c.take_locals-locals.ensures.none.state _ _) (c.in_err-run_steps.ensures.gives known knows));
   keeps = keeps_after (c.take_locals-locals.ensures.none.keeps _) c.run_steps.ensures.keeps;
-  cause = c.in-Err.ensures.cause;
+  cause = stopped_caused _ _ _ _ c.from_residual.ensures.0 (c.in_err-run_steps.ensures.cause);
 }
 
-pub run_sequence-returns-in-Ok : goal.run_sequence-returns-in-Ok
-run_sequence-returns-in-Ok g t c = record {
+pub run_sequence-returns : goal.run_sequence-returns
+run_sequence-returns g t c = record {
   gives = λ known knows.
-      entered_on _ _ _ _ _ _ _ _ _ (c.take_locals-locals.ensures.none.state _ _) (c.in-Ok.ensures.gives known knows) c.dp-dp.ensures c.ap-ap.ensures c.control-control.ensures c.take_locals-locals.ensures.taken (c.give_back.ensures.state _ _);
+      entered_on _ _ _ _ _ _ _ _ _ (c.take_locals-locals.ensures.none.state _ _) (c.in_ok-run_steps.ensures.gives known knows) c.dp-dp.ensures c.ap-ap.ensures c.control-control.ensures c.take_locals-locals.ensures.taken (c.give_back.ensures.state _ _);
   keeps = keeps_after (c.take_locals-locals.ensures.none.keeps _) (keeps_before c.run_steps.ensures.keeps (c.give_back.ensures.keeps _));
-  cause = c.in-Ok.ensures.cause;
+  cause = c.in_ok-run_steps.ensures.cause;
 }
 
 pub run_named-returns : goal.run_named-returns
