@@ -14,7 +14,7 @@ use Rattle.access_regs.specs.Kept.{Kept, known, unknown, nothing_kept}
 use Rattle.access_regs.specs.Plan.{settled}
 use Rattle.access_regs.specs.declared.known.Known.{Known}
 use Rattle.access_regs.specs.Journal.{finish, issue_of, finish_of, steps_at, actions_of, alone_at, is_alone, after_settling, planned, issue, issued, kept_from}
-use Rattle.access_regs.specs.Alone.{alone, alone_after, large_of_all}
+use Rattle.access_regs.specs.Alone.{call_alone, alone_after, large_of_all}
 use Rattle.access_regs.specs.Follows.{Follows, IsTrueOf}
 use Rattle.access_regs.specs.Laws.{FreshFollows, CallGoes, CallLeaves, JournalFollows, JournalAgrees, JournalPasses, JournalStops, JournalAnswers}
 use Rattle.access_regs.specs.Course.{Course}
@@ -48,7 +48,7 @@ strict_unless Managed forgive may e = e
 strict_unless Plain forgive may e = ap (λ (b : Bool). forgive && b) e ∙ and-false forgive
 
 -- Each call goes as it goes alone.
-pub call_course : (p : Planner) (k : Kept) (large : List ℕ) (t u : TargetState) → Follows k large t u → (c : Ask) → IsAskable c → Course (issue_of p u k c) (alone t large c) c.call u
+pub call_course : (p : Planner) (k : Kept) (large : List ℕ) (t u : TargetState) → Follows k large t u → (c : Ask) → IsAskable c → Course (issue_of p u k c) (call_alone t large c) c.call u
 call_course p k large t u f c ok = by_call c.call ok.sound ok.range
   where
     by_mark : (asked : AccessUnit) (b : Bool) → (is_alone p c.forgive && may_forgive (Access asked)) ≡ b → IsSoundCall (Access asked) → IsCallInRange (Access asked) →

@@ -4,7 +4,7 @@ use Rattle.access_regs.proofs.AllCalls.{call_course, journal_follows}
 use Rattle.access_regs.proofs.Joins.{journal_joins, kept_joins}
 use Rattle.access_regs.proofs.Seams.{after_split}
 use Rattle.access_regs.proofs.Settle.{settled_calm}
-use Rattle.access_regs.specs.Alone.{alone, alone_after, large_of_all}
+use Rattle.access_regs.specs.Alone.{call_alone, alone_after, large_of_all}
 use Rattle.access_regs.specs.Course.{Course, IsAnswered, answered, skipped, small, stopped}
 use Rattle.access_regs.specs.Entries.{CallAnswers, JournalGrows, JournalMarks, kept_by, target_by}
 use Rattle.access_regs.specs.Journal.{Issue, Step, actions_of, entries_at, finish, finish_of, issue_of, issued, issued_from, kept_from, numbered, steps_at, steps_of}
@@ -109,7 +109,7 @@ call_answers p t asks ask more v fresh ok none end =
     let k : Kept = kept_by p t asks in
     let u : TargetState = target_by p t asks in
     let c : Ask = ask in
-    let d : CallDone = alone (alone_after t [] asks) (large_of_all t [] asks) c in
+    let d : CallDone = call_alone (alone_after t [] asks) (large_of_all t [] asks) c in
     let course : Course (issue_of p u k c) d c.call u = call_course p k (large_of_all t [] asks) (alone_after t [] asks) u (journal_follows p t asks fresh (askable_first asks (ask ∷ more) ok) none) c (askable_here asks ask more ok) in
     let a : IsAnswered (issue_of p u k c) d c.call u = is_answered (issue_of p u k c) d c u v course end in
     let last : Step = record { part = Ends; action = a.action } in

@@ -9,7 +9,7 @@ use Rattle.target_calls.specs.Journal.{Entry, Passes, is_unforgiven, lines_befor
 use Rattle.target_calls.specs.World.{is_faulted}
 use Rattle.target_calls.specs.declared.calls.Ask.{Ask}
 use Rattle.target_calls.proofs.EntryLemmas.{pass_front}
-use Rattle.access_regs.specs.Alone.{alone, alone_after}
+use Rattle.access_regs.specs.Alone.{call_alone, alone_after}
 use Rattle.access_regs.specs.Closed.{HasMade, MemoryAtEntry, closed_after, closed_by, closes}
 use Rattle.access_regs.specs.Follows.{Follows}
 use Rattle.access_regs.specs.Journal.{actions_of, entries_at, finish_of, issue_of, issued_from, numbered, steps_at}
@@ -72,7 +72,7 @@ module _ (p : Planner) (n units : ℕ) (k : Kept) (large : List ℕ) (t u : Targ
   v = after u (actions_of (steps_at p u k c))
 
   abbrev d : CallDone
-  d = alone t large c
+  d = call_alone t large c
 
   abbrev rest : List Entry
   rest = issued_from p (n + 1) (finish_of p u k c).kept v cs
@@ -308,7 +308,7 @@ at_entry p n units k large t u f [] ok low [] e more pass is = absurd (cc)
 at_entry p n units k large t u f [] ok low (x ∷ front) e more pass is = absurd (cc)
 at_entry p n units k large t u f (c ∷ cs) ok low front e more pass is =
     first_or_later p n units k large t u f c cs ok.0 low front e more pass is
-    (λ ne back e' more' passed there. at_entry p (n + 1) (closed_after units (entries_at p n u k c)) (finish_of p u k c).kept (alone t large c).large (alone t large c).next (after u (actions_of (steps_at p u k c)))
+    (λ ne back e' more' passed there. at_entry p (n + 1) (closed_after units (entries_at p n u k c)) (finish_of p u k c).kept (call_alone t large c).large (call_alone t large c).next (after u (actions_of (steps_at p u k c)))
     (next p n units k large t u f c cs ok.0 low ne) cs ok.1 (all_closed p n units k large t u f c cs ok.0 low ne) back e' more' passed there)
 
 made_is : (t : TargetState) (calls : List Ask) (lines : ℕ) (front : List Entry) → lines ≤ 0 + length calls → Leaves 0 0 lines [] t t calls front → HasMade t calls lines front

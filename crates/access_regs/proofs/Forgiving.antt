@@ -3,7 +3,7 @@ use Rattle.std.proofs.Common.{◌≡◌, ◌≢◌, ◌∙◌, ℕ, ◌/◌, ◌
 use Rattle.std.proofs.lemmas.Bool.{eq-eqb, cases_eq, both_ways}
 use Rattle.std.proofs.Math.Bool.{and-false}
 use Rattle.target_machine.specs.Attempt.{Attempt, attempt, done, is_free}
-use Rattle.target_machine.specs.Laws.{Alike}
+use Rattle.target_machine.specs.Laws.{AnswerAlike}
 use Rattle.target_machine.specs.Plain.{Action, Makes, Polls, Commands, acted, in_order, is_fault, given, issued, contains, select_of, ap_access_of, drw_of, needs_cfg, has_large, unit_actions, call_done, ended, result_of, large_after, is_small, commanded, forgives, CallDone, Answered, Faulted, Skipped}
 use Rattle.target_machine.specs.State.{TargetState, Agree}
 use Rattle.target_machine.specs.declared.access.Outcome.{Outcome}
@@ -150,7 +150,7 @@ module _ (k : Kept) (large : List ℕ) (t u : TargetState) (f : Follows k large 
 
   module _ (quiet : SpareRdbuff xs) (left : Step' n u (select_after k.select (issued u xs)) RU) (last : s ≡ false → HasLast asked xs)
       (same_large : contains lu_after n ≡ contains lt_after n) (other_large : (q : ℕ) → q ≢ n → contains lt_after q ≡ contains large q) where
-    alike : Alike RT RU
+    alike : AnswerAlike RT RU
     alike = in_order_alike xs t u (follows_agree k large t u f calm) quiet
 
     table : n < length k.ports

@@ -6,7 +6,7 @@ use Rattle.target_machine.specs.declared.unit.Call.{Call}
 use Rattle.access_regs.specs.Kept.{Kept}
 use Rattle.access_regs.specs.Plan.{settle, settled}
 use Rattle.access_regs.specs.Journal.{Issue, Step, making, steps_of, actions_of, finish, issue_of, finish_of, steps_at, entries_at, numbered, issued_from, kept_from}
-use Rattle.access_regs.specs.Alone.{alone, alone_after, large_of_all, NoneFaults, StopsAt, AnswersWith}
+use Rattle.access_regs.specs.Alone.{call_alone, alone_after, large_of_all, NoneFaults, StopsAt, AnswersWith}
 use Rattle.access_regs.specs.Follows.{Follows}
 use Rattle.access_regs.proofs.Course.{actions_append, actions_steps}
 use Rattle.access_regs.specs.Course.{Course, IsAnswered, IsStopped, answered, stopped, small, skipped, IsPassing}
@@ -62,15 +62,15 @@ finish_follows true k large t u f =
     subst (Follows (settled k) large t)
     (sym (ap (after u) (actions_steps Settles (settle k)) ∙ pass_after u g.at (making (settle k)) g.pass)) g.follows
 
-module _ (p : Planner) (Ok : Ask → Type 0) (each : (k : Kept) (large : List ℕ) (t u : TargetState) → Follows k large t u → (c : Ask) → Ok c → Course (issue_of p u k c) (alone t large c) c.call u) where
+module _ (p : Planner) (Ok : Ask → Type 0) (each : (k : Kept) (large : List ℕ) (t u : TargetState) → Follows k large t u → (c : Ask) → Ok c → Course (issue_of p u k c) (call_alone t large c) c.call u) where
   abbrev pub AllOk : List Ask → Type 0
   AllOk [] = Unit {0}
   AllOk (c ∷ cs) = Ok c × AllOk cs
 
-  pub step_follows : (k : Kept) (large : List ℕ) (t u : TargetState) → Follows k large t u → (c : Ask) → Ok c → (alone t large c).end ≢ Faulted →
-      Follows (finish_of p u k c).kept (alone t large c).large (alone t large c).next (after u (actions_of (steps_at p u k c)))
+  pub step_follows : (k : Kept) (large : List ℕ) (t u : TargetState) → Follows k large t u → (c : Ask) → Ok c → (call_alone t large c).end ≢ Faulted →
+      Follows (finish_of p u k c).kept (call_alone t large c).large (call_alone t large c).next (after u (actions_of (steps_at p u k c)))
   step_follows k large t u f c ok ne =
-      let d : CallDone = alone t large c in
+      let d : CallDone = call_alone t large c in
       let g = course_follows (issue_of p u k c) d c.call u (each k large t u f c ok) ne in
       let h = finish_follows c.settled (issue_of p u k c).kept d.large d.next (after u (actions_of (issue_of p u k c).steps)) g in
       subst (Follows (finish_of p u k c).kept d.large d.next)
@@ -81,7 +81,7 @@ module _ (p : Planner) (Ok : Ask → Type 0) (each : (k : Kept) (large : List �
       Follows (kept_from p k u cs) (large_of_all t large cs) (alone_after t large cs) (after u (actions_in (issued_from p n k u cs)))
   list_follows n k large t u f [] ok none = f
   list_follows n k large t u f (c ∷ cs) ok none =
-      let d : CallDone = alone t large c in
+      let d : CallDone = call_alone t large c in
       let v : TargetState = after u (actions_of (steps_at p u k c)) in
       let g = list_follows (n + 1) (finish_of p u k c).kept d.large d.next v (step_follows k large t u f c ok.0 none.0) cs ok.1 none.1 in
       let rest : List Entry = issued_from p (n + 1) (finish_of p u k c).kept v cs in
@@ -106,11 +106,11 @@ passes_forgiving : (n : ℕ) (u : TargetState) (steps : List Step) → IsPassing
 passes_forgiving n u [] h = tt
 passes_forgiving n u (s ∷ steps) h = (not_not (is_fault (acted u s.action).outcome) (settles s.part) h.0, passes_forgiving n (acted u s.action).next steps h.1)
 
-skipped_forgiving : (t : TargetState) (large : List ℕ) (c : Ask) → (alone t large c).end ≡ Skipped → is_forgiving c ≡ true
+skipped_forgiving : (t : TargetState) (large : List ℕ) (c : Ask) → (call_alone t large c).end ≡ Skipped → is_forgiving c ≡ true
 unfolding call_done
 skipped_forgiving t large c e = end_skipped _ (is_forgiving c) _ _ _ _ _ e
 
-course_passes : (n : ℕ) (u t : TargetState) (large : List ℕ) (i : Issue) (c : Ask) → Course i (alone t large c) c.call u → (alone t large c).end ≢ Faulted → Passes u (numbered n (is_forgiving c) i.steps)
+course_passes : (n : ℕ) (u t : TargetState) (large : List ℕ) (i : Issue) (c : Ask) → Course i (call_alone t large c) c.call u → (call_alone t large c).end ≢ Faulted → Passes u (numbered n (is_forgiving c) i.steps)
 course_passes n u t large i c (answered a) ne =
     let last : List Step = record { part = Ends; action = a.action } ∷ [] in
     subst (λ (l : List Step). Passes u (numbered n (is_forgiving c) l)) (sym a.steps)
@@ -128,10 +128,10 @@ finish_passes n true k large t u f =
     let g = settling.settles k large t u f in
     passes_numbered n false u g.at (steps_of Settles (settle k)) (subst (λ (l : List Action). PassTo u l g.at) (sym (actions_steps Settles (settle k))) g.pass)
 
-module _ (p : Planner) (Ok : Ask → Type 0) (each : (k : Kept) (large : List ℕ) (t u : TargetState) → Follows k large t u → (c : Ask) → Ok c → Course (issue_of p u k c) (alone t large c) c.call u) where
-  step_passes : (n : ℕ) (k : Kept) (large : List ℕ) (t u : TargetState) → Follows k large t u → (c : Ask) → Ok c → (alone t large c).end ≢ Faulted → Passes u (entries_at p n u k c)
+module _ (p : Planner) (Ok : Ask → Type 0) (each : (k : Kept) (large : List ℕ) (t u : TargetState) → Follows k large t u → (c : Ask) → Ok c → Course (issue_of p u k c) (call_alone t large c) c.call u) where
+  step_passes : (n : ℕ) (k : Kept) (large : List ℕ) (t u : TargetState) → Follows k large t u → (c : Ask) → Ok c → (call_alone t large c).end ≢ Faulted → Passes u (entries_at p n u k c)
   step_passes n k large t u f c ok ne =
-      let d : CallDone = alone t large c in
+      let d : CallDone = call_alone t large c in
       let course : Course (issue_of p u k c) d c.call u = each k large t u f c ok in
       let g = course_follows (issue_of p u k c) d c.call u course ne in
       let v : TargetState = after u (actions_of (issue_of p u k c).steps) in
@@ -144,7 +144,7 @@ module _ (p : Planner) (Ok : Ask → Type 0) (each : (k : Kept) (large : List �
   pub list_passes : (n : ℕ) (k : Kept) (large : List ℕ) (t u : TargetState) → Follows k large t u → (cs : List Ask) → AllOk p Ok each cs → NoneFaults t large cs → Passes u (issued_from p n k u cs)
   list_passes n k large t u f [] ok none = tt
   list_passes n k large t u f (c ∷ cs) ok none =
-      let d : CallDone = alone t large c in
+      let d : CallDone = call_alone t large c in
       let v : TargetState = after u (actions_of (steps_at p u k c)) in
       let rest : List Entry = issued_from p (n + 1) (finish_of p u k c).kept v cs in
       passes_both u (entries_at p n u k c) rest (step_passes n k large t u f c ok.0 none.0)
@@ -172,7 +172,7 @@ not_settling Leads ne = refl
 not_settling Ends ne = refl
 not_settling (Skips attempted) ne = refl
 
-pub faulted_strict : (t : TargetState) (large : List ℕ) (c : Ask) → (alone t large c).end ≡ Faulted → is_forgiving c ≡ false
+pub faulted_strict : (t : TargetState) (large : List ℕ) (c : Ask) → (call_alone t large c).end ≡ Faulted → is_forgiving c ≡ false
 unfolding call_done
 faulted_strict t large c e = end_faulted _ (is_forgiving c) _ _ _ _ _ e
 
@@ -182,9 +182,9 @@ is_stopped i d call u (stopped a) e = a
 is_stopped i d call u (small a) e = let x : ◌≡◌ {A = CallEnd} Small Faulted = sym a.end ∙ e in absurd (cc)
 is_stopped i d call u (skipped a) e = let x : ◌≡◌ {A = CallEnd} Skipped Faulted = sym a.end ∙ e in absurd (cc)
 
-module _ (p : Planner) (n : ℕ) (k : Kept) (large : List ℕ) (t u : TargetState) (c : Ask) (course : Course (issue_of p u k c) (alone t large c) c.call u) (bad : (alone t large c).end ≡ Faulted) (rest : List Entry) where
-  stop : IsStopped (issue_of p u k c) (alone t large c) u
-  stop = is_stopped (issue_of p u k c) (alone t large c) c.call u course bad
+module _ (p : Planner) (n : ℕ) (k : Kept) (large : List ℕ) (t u : TargetState) (c : Ask) (course : Course (issue_of p u k c) (call_alone t large c) c.call u) (bad : (call_alone t large c).end ≡ Faulted) (rest : List Entry) where
+  stop : IsStopped (issue_of p u k c) (call_alone t large c) u
+  stop = is_stopped (issue_of p u k c) (call_alone t large c) c.call u course bad
 
   abbrev entry_of : Step → Entry
   entry_of s = record { unit = cond (settles s.part) n (n + 1); part = s.part; forgiving = is_forgiving c && not (settles s.part); action = s.action }
@@ -208,13 +208,13 @@ module _ (p : Planner) (n : ℕ) (k : Kept) (large : List ℕ) (t u : TargetStat
     strict = ap (λ (b : Bool). b && not (settles stop.step.part)) (faulted_strict t large c bad);
   }
 
-module _ (p : Planner) (Ok : Ask → Type 0) (each : (k : Kept) (large : List ℕ) (t u : TargetState) → Follows k large t u → (c : Ask) → Ok c → Course (issue_of p u k c) (alone t large c) c.call u) where
+module _ (p : Planner) (Ok : Ask → Type 0) (each : (k : Kept) (large : List ℕ) (t u : TargetState) → Follows k large t u → (c : Ask) → Ok c → Course (issue_of p u k c) (call_alone t large c) c.call u) where
   -- the first entry that faults is one of the call that ends at a fault
   pub list_stops : (n : ℕ) (k : Kept) (large : List ℕ) (t u : TargetState) → Follows k large t u → (cs : List Ask) (c : Ask) → AllOk p Ok each cs → Ok c → NoneFaults t large cs →
-      (alone (alone_after t large cs) (large_of_all t large cs) c).end ≡ Faulted →
-      Stops p n (n + length cs + 1) k u (cs ++ c ∷ []) (alone (alone_after t large cs) (large_of_all t large cs) c).next
+      (call_alone (alone_after t large cs) (large_of_all t large cs) c).end ≡ Faulted →
+      Stops p n (n + length cs + 1) k u (cs ++ c ∷ []) (call_alone (alone_after t large cs) (large_of_all t large cs) c).next
   list_stops n k large t u f [] c ok okc none bad =
-      let course : Course (issue_of p u k c) (alone t large c) c.call u = each k large t u f c okc in
+      let course : Course (issue_of p u k c) (call_alone t large c) c.call u = each k large t u f c okc in
       let st = stop p n k large t u c course bad [] in
       record {
         front = numbered n (is_forgiving c) st.leads;
@@ -225,7 +225,7 @@ module _ (p : Planner) (Ok : Ask → Type 0) (each : (k : Kept) (large : List �
         words = ap (λ (s : TargetState). (acted s st.step.action).next.words) (stop_at p n k large t u c course bad []) ∙ st.words;
       }
   list_stops n k large t u f (b ∷ cs) c ok okc none bad =
-      let d : CallDone = alone t large b in
+      let d : CallDone = call_alone t large b in
       let v : TargetState = after u (actions_of (steps_at p u k b)) in
       let g = list_stops (n + 1) (finish_of p u k b).kept d.large d.next v (step_follows p Ok each k large t u f b ok.0 none.0) cs c ok.1 okc none.1 bad in
       let s = g.stops in
@@ -255,10 +255,10 @@ is_answered i d call u v (stopped a) e = let x : ◌≡◌ {A = CallEnd} Faulted
 is_answered i d call u v (small a) e = let x : ◌≡◌ {A = CallEnd} Small (Answered v) = sym a.end ∙ e in absurd (cc)
 is_answered i d call u v (skipped a) e = let x : ◌≡◌ {A = CallEnd} Skipped (Answered v) = sym a.end ∙ e in absurd (cc)
 
-call_answers : (p : Planner) (n : ℕ) (k : Kept) (large : List ℕ) (t u : TargetState) (c : Ask) (v : ℕ) → Course (issue_of p u k c) (alone t large c) c.call u → (alone t large c).end ≡ Answered v → (rest : List Entry) →
+call_answers : (p : Planner) (n : ℕ) (k : Kept) (large : List ℕ) (t u : TargetState) (c : Ask) (v : ℕ) → Course (issue_of p u k c) (call_alone t large c) c.call u → (call_alone t large c).end ≡ Answered v → (rest : List Entry) →
     AnswersWith u (entries_at p n u k c ++ rest) (n + 1) c.call v
 call_answers p n k large t u c v course e rest =
-    let a = is_answered (issue_of p u k c) (alone t large c) c.call u v course e in
+    let a = is_answered (issue_of p u k c) (call_alone t large c) c.call u v course e in
     let last : Step = record { part = Ends; action = a.action } in
     let fin : List Entry = numbered (n + 1) false (finish_of p u k c).steps in
     let at : after u (actions_in (numbered n (is_forgiving c) a.leads)) ≡ a.at = ap (after u) (actions_numbered n (is_forgiving c) a.leads) ∙ pass_after u a.at (actions_of a.leads) a.pass in
@@ -278,15 +278,15 @@ call_answers p n k large t u c v course e rest =
       gives = ap (λ (s : TargetState). result_of c.call (given (acted s a.action).outcome)) at ∙ same;
     }
 
-module _ (p : Planner) (Ok : Ask → Type 0) (each : (k : Kept) (large : List ℕ) (t u : TargetState) → Follows k large t u → (c : Ask) → Ok c → Course (issue_of p u k c) (alone t large c) c.call u) where
+module _ (p : Planner) (Ok : Ask → Type 0) (each : (k : Kept) (large : List ℕ) (t u : TargetState) → Follows k large t u → (c : Ask) → Ok c → Course (issue_of p u k c) (call_alone t large c) c.call u) where
   -- each answer is given by the last own entry of its unit
   pub list_answers : (n : ℕ) (k : Kept) (large : List ℕ) (t u : TargetState) → Follows k large t u → (cs more : List Ask) (c : Ask) (v : ℕ) → AllOk p Ok each cs → Ok c → NoneFaults t large cs →
-      (alone (alone_after t large cs) (large_of_all t large cs) c).end ≡ Answered v → AnswersWith u (issued_from p n k u (cs ++ c ∷ more)) (n + length cs + 1) c.call v
+      (call_alone (alone_after t large cs) (large_of_all t large cs) c).end ≡ Answered v → AnswersWith u (issued_from p n k u (cs ++ c ∷ more)) (n + length cs + 1) c.call v
   list_answers n k large t u f [] more c v ok okc none e =
       let a = call_answers p n k large t u c v (each k large t u f c okc) e (issued_from p (n + 1) (finish_of p u k c).kept (after u (actions_of (steps_at p u k c))) more) in
       record { front = a.front; entry = a.entry; more = a.more; is = a.is; unit = a.unit ∙ omega arith; ends = a.ends; gives = a.gives }
   list_answers n k large t u f (b ∷ cs) more c v ok okc none e =
-      let d : CallDone = alone t large b in
+      let d : CallDone = call_alone t large b in
       let w : TargetState = after u (actions_of (steps_at p u k b)) in
       let g = list_answers (n + 1) (finish_of p u k b).kept d.large d.next w (step_follows p Ok each k large t u f b ok.0 none.0) cs more c v ok.1 okc none.1 e in
       let at : after u (actions_in (entries_at p n u k b ++ g.front)) ≡ after w (actions_in g.front) =

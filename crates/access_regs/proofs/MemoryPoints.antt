@@ -14,7 +14,7 @@ use Rattle.target_calls.specs.declared.calls.Ask.{Ask}
 use Rattle.target_calls.specs.declared.journal.Part.{Part}
 use Rattle.target_calls.specs.declared.journal.Part.TheVariants.{Settles, Leads, Ends, Skips}
 use Rattle.target_calls.proofs.EntryLemmas.{pass_front}
-use Rattle.access_regs.specs.Alone.{KeepsMemory, alone, alone_after}
+use Rattle.access_regs.specs.Alone.{KeepsMemory, call_alone, alone_after}
 use Rattle.access_regs.specs.Closed.{MemoryFollowsCalls, closed_after, closed_by, closes}
 use Rattle.access_regs.specs.Follows.{Follows}
 use Rattle.access_regs.specs.Journal.{Step, steps_of, actions_of, issue, issue_of, finish, finish_of, steps_at, entries_at, numbered, issued_from, planned, after_settling, alone_at, is_alone}
@@ -146,9 +146,9 @@ cut n units u (x ∷ es) (y ∷ front) more h is =
         by_rest (open_ count words) kept same = open_ (ap (λ (m : ℕ). closed_after m front) same ∙ count) (words ∙ kept)
         by_rest (shut count words) kept same = shut (ap (λ (m : ℕ). closed_after m front) same ∙ count) words
 
-pub entries_keep : (p : Planner) (n : ℕ) (k : Kept) (large : List ℕ) (t u : TargetState) → Follows k large t u → (c : Ask) → IsAskable c → (alone t large c).end ≢ Faulted → EntriesKeep IsNoEnd n u (entries_at p n u k c)
+pub entries_keep : (p : Planner) (n : ℕ) (k : Kept) (large : List ℕ) (t u : TargetState) → Follows k large t u → (c : Ask) → IsAskable c → (call_alone t large c).end ≢ Faulted → EntriesKeep IsNoEnd n u (entries_at p n u k c)
 entries_keep p n k large t u f c ok ne =
-    let d : CallDone = alone t large c in
+    let d : CallDone = call_alone t large c in
     let h = issue_keeps p k large t u f c ok in
     let g = course_follows (issue_of p u k c) d c.call u (call_course p k large t u f c ok) ne in
     let v : TargetState = after u (actions_of (issue_of p u k c).steps) in
@@ -228,7 +228,7 @@ none_left n u = tt
 unmarked : Ask → Ask
 unmarked c = record c { settled = false }
 
-pub faulted_open : (p : Planner) (n units : ℕ) (k : Kept) (large : List ℕ) (t u : TargetState) → Follows k large t u → (c : Ask) → IsAskable c → (alone t large c).end ≡ Faulted → (front more rest : List Entry) →
+pub faulted_open : (p : Planner) (n units : ℕ) (k : Kept) (large : List ℕ) (t u : TargetState) → Follows k large t u → (c : Ask) → IsAskable c → (call_alone t large c).end ≡ Faulted → (front more rest : List Entry) →
     Passes u front → entries_at p n u k c ++ rest ≡ front ++ more → Open units u front
 unfolding unmarked
 faulted_open p n units k large t u f c ok bad front more rest pass is =
@@ -274,7 +274,7 @@ closed_append units [] ys = refl
 closed_append units (x ∷ xs) ys = closed_append (closed_by units x) xs ys
 
 -- one call that does not end at a fault, and the calls after it
-module _ (p : Planner) (n units : ℕ) (k : Kept) (large : List ℕ) (t u : TargetState) (f : Follows k large t u) (c : Ask) (cs : List Ask) (ok : IsAskable c) (ne : (alone t large c).end ≢ Faulted) (front more : List Entry) (pass : Passes u front) where
+module _ (p : Planner) (n units : ℕ) (k : Kept) (large : List ℕ) (t u : TargetState) (f : Follows k large t u) (c : Ask) (cs : List Ask) (ok : IsAskable c) (ne : (call_alone t large c).end ≢ Faulted) (front more : List Entry) (pass : Passes u front) where
   abbrev es : List Entry
   es = entries_at p n u k c
 
@@ -282,7 +282,7 @@ module _ (p : Planner) (n units : ℕ) (k : Kept) (large : List ℕ) (t u : Targ
   v = after u (actions_of (steps_at p u k c))
 
   abbrev d : CallDone
-  d = alone t large c
+  d = call_alone t large c
 
   abbrev rest : List Entry
   rest = issued_from p (n + 1) (finish_of p u k c).kept v cs
@@ -349,12 +349,12 @@ reached : (p : Planner) (n units : ℕ) (k : Kept) (large : List ℕ) (t u : Tar
 reached p n units k large t u f [] ok [] more pass is = none refl (same_words k large t u f)
 reached p n units k large t u f [] ok (e ∷ front) more pass is = absurd (cc)
 reached p n units k large t u f (c ∷ cs) ok front more pass is =
-    by_end (ends_how (alone t large c).end)
-    (λ m next back passed tail. reached p (n + 1) m (finish_of p u k c).kept (alone t large c).large (alone t large c).next (after u (actions_of (steps_at p u k c))) next cs ok.1 back more passed tail)
+    by_end (ends_how (call_alone t large c).end)
+    (λ m next back passed tail. reached p (n + 1) m (finish_of p u k c).kept (call_alone t large c).large (call_alone t large c).next (after u (actions_of (steps_at p u k c))) next cs ok.1 back more passed tail)
   where
-    by_end : ((alone t large c).end ≡ Faulted) ⊎ (((alone t large c).end ≢ Faulted) × (is_faulted (alone t large c).end ≡ false)) →
-        ((m : ℕ) → Follows (finish_of p u k c).kept (alone t large c).large (alone t large c).next (after u (actions_of (steps_at p u k c))) → (back : List Entry) → Passes (after u (actions_of (steps_at p u k c))) back →
-        issued_from p (n + 1) (finish_of p u k c).kept (after u (actions_of (steps_at p u k c))) cs ≡ back ++ more → Reached (n + 1) m (alone t large c).large (alone t large c).next (after u (actions_of (steps_at p u k c))) cs back) →
+    by_end : ((call_alone t large c).end ≡ Faulted) ⊎ (((call_alone t large c).end ≢ Faulted) × (is_faulted (call_alone t large c).end ≡ false)) →
+        ((m : ℕ) → Follows (finish_of p u k c).kept (call_alone t large c).large (call_alone t large c).next (after u (actions_of (steps_at p u k c))) → (back : List Entry) → Passes (after u (actions_of (steps_at p u k c))) back →
+        issued_from p (n + 1) (finish_of p u k c).kept (after u (actions_of (steps_at p u k c))) cs ≡ back ++ more → Reached (n + 1) m (call_alone t large c).large (call_alone t large c).next (after u (actions_of (steps_at p u k c))) cs back) →
         Reached n units large t u (c ∷ cs) front
     by_end (inl bad) recurse =
         let o = faulted_open p n units k large t u f c ok.0 bad front more (issued_from p (n + 1) (finish_of p u k c).kept (after u (actions_of (steps_at p u k c))) cs) pass is in

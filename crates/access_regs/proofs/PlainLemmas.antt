@@ -9,7 +9,7 @@ use Rattle.access_regs.proofs.Forgiving.{actions_parts, contains_one, joined_oth
 use Rattle.access_regs.proofs.MemoryShape.{csw_at, memory_shape, shape}
 use Rattle.access_regs.proofs.Lists.{actions_entries, actions_in_append}
 use Rattle.access_regs.proofs.PortFacts.{known_other, known_same, table_kept}
-use Rattle.access_regs.specs.Alone.{actions_alone, alone, alone_after}
+use Rattle.access_regs.specs.Alone.{actions_alone, call_alone, alone_after}
 use Rattle.access_regs.specs.Journal.{Issue, Step, actions_of, after_settling, alone_at, before, by_cfg, done_alone, entries_at, finish, finish_of, is_early, issue, issue_of, issued_from, kept_at, large_of, last_action, making, planned, port_of, steps_at, steps_of, target_at}
 use Rattle.access_regs.specs.Kept.{Kept, forgotten, known, nothing_kept, selected, unknown, with_known}
 use Rattle.access_regs.specs.Laws.{PlainIsAlone}
@@ -191,7 +191,7 @@ selects_knows k large false value h = h
 dp_single : (read : Bool) (addr value : ℕ) → IsSingle (Access (unit.Dp read addr value)) (last_action (unit.Dp read addr value))
 dp_single read addr value = record { strict = refl; acts = λ t large. refl; list = λ t large. refl }
 
-call_goes_alone : (k : Kept) (large : List ℕ) (t : TargetState) (c : Ask) → Knows k large → IsAskable c → GoesAlone (issue_of Plain t k c) (alone t large c)
+call_goes_alone : (k : Kept) (large : List ℕ) (t : TargetState) (c : Ask) → Knows k large → IsAskable c → GoesAlone (issue_of Plain t k c) (call_alone t large c)
 call_goes_alone k large t c h ok = by_call c.call ok.range
   where
     one : (n : ℕ) → n < 256 → contains (cond (known k n).large (n ∷ []) []) n ≡ contains large n
@@ -224,9 +224,9 @@ finish_nothing false k calm = (refl, refl)
 abbrev GoAlone : ℕ → Kept → List ℕ → TargetState → List Ask → Type 0
 GoAlone n k large t cs = (actions_in (issued_from Plain n k t cs) ≡ actions_alone t large cs) × (after t (actions_in (issued_from Plain n k t cs)) ≡ alone_after t large cs)
 
-module _ (n : ℕ) (k : Kept) (large : List ℕ) (t : TargetState) (c : Ask) (cs : List Ask) (g : GoesAlone (issue_of Plain t k c) (alone t large c)) where
+module _ (n : ℕ) (k : Kept) (large : List ℕ) (t : TargetState) (c : Ask) (cs : List Ask) (g : GoesAlone (issue_of Plain t k c) (call_alone t large c)) where
   abbrev d : CallDone
-  d = alone t large c
+  d = call_alone t large c
 
   none : ((finish_of Plain t k c).steps ≡ []) × ((finish_of Plain t k c).kept ≡ (issue_of Plain t k c).kept)
   none = finish_nothing c.settled (issue_of Plain t k c).kept g.knows.calm
@@ -254,7 +254,7 @@ list_goes : (n : ℕ) (k : Kept) (large : List ℕ) (t : TargetState) (cs : List
 list_goes n k large t [] h ok = (refl, refl)
 list_goes n k large t (c ∷ cs) h ok =
     let g = call_goes_alone k large t c h ok.0 in
-    step_goes n k large t c cs g (list_goes (n + 1) (kept_at Plain t k c) (alone t large c).large (alone t large c).next cs (knows_then n k large t c cs g) ok.1)
+    step_goes n k large t c cs g (list_goes (n + 1) (kept_at Plain t k c) (call_alone t large c).large (call_alone t large c).next cs (knows_then n k large t c cs g) ok.1)
 
 pub plain_is_alone : PlainIsAlone
 plain_is_alone t calls ok =

@@ -2,7 +2,7 @@
 use Rattle.std.proofs.Common.{◌≡◌, ◌∙◌, ℕ, ◌/◌, ◌%◌, ◌<◌, Bool, true, false, List, [], ◌∷◌, Option, Some, None, refl, sym, ap, subst, arith, bit_and, length}
 use Rattle.target_machine.proofs.Agreement.{attempt_agrees}
 use Rattle.target_machine.specs.Attempt.{Attempt, attempt}
-use Rattle.target_machine.specs.Laws.{Alike}
+use Rattle.target_machine.specs.Laws.{AnswerAlike}
 use Rattle.target_machine.specs.Plain.{Action, Makes, in_order, is_fault, given, ap_access_of, select_of, call_done, ended, issued, unit_actions, CallDone, Answered, Faulted}
 use Rattle.target_machine.specs.State.{TargetState}
 use Rattle.target_machine.specs.declared.access.Outcome.{Outcome}
@@ -59,7 +59,7 @@ module _ (k : Kept) (large : List ℕ) (t u : TargetState) (f : Follows k large 
   f1 : Follows k1 large ts us
   f1 = follows_select k large t u f n bank lt banked (λ s e. (let x : ◌≡◌ {A = Option Unsettled} None (Some s) = sym calm ∙ e in absurd (cc)))
 
-  alike : Alike (attempt ts a) (attempt us a)
+  alike : AnswerAlike (attempt ts a) (attempt us a)
   alike = attempt_agrees ts us a (follows_agree k1 large ts us f1 calm) refl
 
   abbrev X : Attempt

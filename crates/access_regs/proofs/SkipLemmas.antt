@@ -5,7 +5,7 @@ use Rattle.access_regs.proofs.AllCalls.{call_course, journal_follows}
 use Rattle.access_regs.proofs.Course.{actions_append}
 use Rattle.access_regs.proofs.EntryLemmas.{askable_first, askable_here}
 use Rattle.access_regs.proofs.Lists.{faulted_strict}
-use Rattle.access_regs.specs.Alone.{alone, alone_after, large_of_all}
+use Rattle.access_regs.specs.Alone.{call_alone, alone_after, large_of_all}
 use Rattle.access_regs.specs.Course.{Course, answered, skipped, small, stopped}
 use Rattle.access_regs.specs.Entries.{kept_by, target_by}
 use Rattle.access_regs.specs.Follows.{Follows}
@@ -60,7 +60,7 @@ fault_skips p t asks ask leads step more at fresh ok none forgives is pass bad =
     let large = large_of_all t [] asks in
     let plain : TargetState = alone_after t [] asks in
     let follows : Follows k large plain u = journal_follows p t asks fresh (askable_first asks (ask ∷ []) ok) none in
-    faults_skip (issue_of p u k ask) (alone plain large ask) ask u (call_course p k large plain u follows ask (askable_here asks ask [] ok))
+    faults_skip (issue_of p u k ask) (call_alone plain large ask) ask u (call_course p k large plain u follows ask (askable_here asks ask [] ok))
     (λ e. both_ways (is_forgiving ask) (faulted_strict plain large ask e) forgives) leads step more at is pass bad
 
 pub passing_is_made : PassingIsMade
@@ -70,4 +70,4 @@ passing_is_made p t asks ask at fresh ok none pass =
     let large = large_of_all t [] asks in
     let plain : TargetState = alone_after t [] asks in
     let follows : Follows k large plain u = journal_follows p t asks fresh (askable_first asks (ask ∷ []) ok) none in
-    passing_made (issue_of p u k ask) (alone plain large ask) ask u (call_course p k large plain u follows ask (askable_here asks ask [] ok)) at pass
+    passing_made (issue_of p u k ask) (call_alone plain large ask) ask u (call_course p k large plain u follows ask (askable_here asks ask [] ok)) at pass

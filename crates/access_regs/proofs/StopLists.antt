@@ -4,7 +4,7 @@ use Rattle.std.proofs.Math.Bool.{or-true}
 use Rattle.access_regs.proofs.AllCalls.{call_course, fresh_follows}
 use Rattle.access_regs.proofs.Lists.{Stops, actions_entries, list_passes, list_stops, step_follows}
 use Rattle.access_regs.proofs.Seams.{Breaks, InFirst, InSecond, SameFirst, after_split, one_first, passes_none, passes_second, seam_in}
-use Rattle.access_regs.specs.Alone.{alone}
+use Rattle.access_regs.specs.Alone.{call_alone}
 use Rattle.access_regs.specs.Follows.{Follows}
 use Rattle.access_regs.specs.Journal.{Step, actions_of, entries_at, finish, finish_of, issue_of, issued_from, numbered, steps_at, steps_of}
 use Rattle.access_regs.specs.Kept.{Kept, nothing_kept}
@@ -43,9 +43,9 @@ pub record FirstBreak (p : Planner) (base : ℕ) (k : Kept) (u : TargetState) (c
   pub unit : entry.unit ≡ base + 1
   pub own : entry.part ≢ Settles
 
-pub first_break : (p : Planner) (base : ℕ) (k : Kept) (large : List ℕ) (t u : TargetState) → Follows k large t u → (c : Ask) → IsAskable c → (alone t large c).end ≡ Faulted → FirstBreak p base k u c
+pub first_break : (p : Planner) (base : ℕ) (k : Kept) (large : List ℕ) (t u : TargetState) → Follows k large t u → (c : Ask) → IsAskable c → (call_alone t large c).end ≡ Faulted → FirstBreak p base k u c
 first_break p base k large t u f c ok bad =
-    let s : Stops p base (base + 0 + 1) k u (c ∷ []) (alone t large c).next = list_stops p IsAskable (call_course p) base k large t u f [] c tt ok tt bad in
+    let s : Stops p base (base + 0 + 1) k u (c ∷ []) (call_alone t large c).next = list_stops p IsAskable (call_course p) base k large t u f [] c tt ok tt bad in
     record {
       front = s.front;
       entry = s.entry;
@@ -57,7 +57,7 @@ first_break p base k large t u f c ok bad =
       own = s.own;
     }
 
-pub call_passes : (p : Planner) (base : ℕ) (k : Kept) (large : List ℕ) (t u : TargetState) → Follows k large t u → (c : Ask) → IsAskable c → (alone t large c).end ≢ Faulted → Passes u (entries_at p base u k c)
+pub call_passes : (p : Planner) (base : ℕ) (k : Kept) (large : List ℕ) (t u : TargetState) → Follows k large t u → (c : Ask) → IsAskable c → (call_alone t large c).end ≢ Faulted → Passes u (entries_at p base u k c)
 call_passes p base k large t u f c ok ne = subst (Passes u) (append-nil (entries_at p base u k c)) (list_passes p IsAskable (call_course p) base k large t u f (c ∷ []) (ok, tt) (ne, tt))
 
 -- the target after a call, by its entries
@@ -67,11 +67,11 @@ call_after p base k u c = ap (after u) (actions_entries p base u k c)
 -- ---- worlds
 
 -- calls of which the first does not end at a fault stop where those after it do
-pub stop_goes : (t : TargetState) (large : List ℕ) (n : Option ℕ) (ask : Ask) (asks : List Ask) → is_over n ≡ false → is_faulted (alone t large ask).end ≡ false →
-    stop (world_at t large n) (ask ∷ asks) ≡ later_by 1 (stop (world_at (alone t large ask).next (alone t large ask).large (one_fewer n)) asks)
+pub stop_goes : (t : TargetState) (large : List ℕ) (n : Option ℕ) (ask : Ask) (asks : List Ask) → is_over n ≡ false → is_faulted (call_alone t large ask).end ≡ false →
+    stop (world_at t large n) (ask ∷ asks) ≡ later_by 1 (stop (world_at (call_alone t large ask).next (call_alone t large ask).large (one_fewer n)) asks)
 stop_goes t large n ask asks live good = rw (live, good) refl
 
-stop_here : (t : TargetState) (large : List ℕ) (n : Option ℕ) (ask : Ask) (asks : List Ask) → (alone t large ask).end ≡ Faulted → stop (world_at t large n) (ask ∷ asks) ≡ Some 1
+stop_here : (t : TargetState) (large : List ℕ) (n : Option ℕ) (ask : Ask) (asks : List Ask) → (call_alone t large ask).end ≡ Faulted → stop (world_at t large n) (ask ∷ asks) ≡ Some 1
 stop_here t large n ask asks bad =
     let w : World = world_at t large n in
     let here : stops_here w ask ≡ true = ap (λ (x : CallEnd). is_over n || is_faulted x) bad ∙ or-true (is_over n) in
@@ -145,7 +145,7 @@ module _ (p : Planner) (base : ℕ) (k : Kept) (large : List ℕ) (t u : TargetS
   v = after u (actions_of (steps_at p u k ask))
 
   abbrev d : CallDone
-  d = alone t large ask
+  d = call_alone t large ask
 
   abbrev rest : List Entry
   rest = issued_from p (base + 1) (finish_of p u k ask).kept v asks
@@ -280,8 +280,8 @@ pub list_faults : (p : Planner) (base : ℕ) (k : Kept) (large : List ℕ) (t u 
 list_faults p base k large t u f [] ok [] e more is pass bad = absurd (cc)
 list_faults p base k large t u f [] ok (x ∷ front) e more is pass bad = absurd (cc)
 list_faults p base k large t u f (ask ∷ asks) ok front e more is pass bad =
-    fault_by p base k large t u f ask asks ok.0 front e more is pass bad (ends_how (alone t large ask).end)
-    (λ ne back i q b. list_faults p (base + 1) (finish_of p u k ask).kept (alone t large ask).large (alone t large ask).next (after u (actions_of (steps_at p u k ask)))
+    fault_by p base k large t u f ask asks ok.0 front e more is pass bad (ends_how (call_alone t large ask).end)
+    (λ ne back i q b. list_faults p (base + 1) (finish_of p u k ask).kept (call_alone t large ask).large (call_alone t large ask).next (after u (actions_of (steps_at p u k ask)))
     (step_follows p IsAskable (call_course p) k large t u f ask ok.0 ne) asks ok.1 back e more i q b)
 
 pub list_stays : (p : Planner) (base : ℕ) (k : Kept) (large : List ℕ) (t u : TargetState) → Follows k large t u → (asks : List Ask) → AreAskable asks → (front : List Entry) (e : Entry) (more : List Entry) →
@@ -290,7 +290,7 @@ list_stays p base k large t u f [] ok [] e more is pass = absurd (cc)
 list_stays p base k large t u f [] ok (x ∷ front) e more is pass = absurd (cc)
 list_stays p base k large t u f (ask ∷ asks) ok front e more is pass =
     stays_by p base k large t u f ask asks ok.0 front e more is pass
-    (λ ne back i q. list_stays p (base + 1) (finish_of p u k ask).kept (alone t large ask).large (alone t large ask).next (after u (actions_of (steps_at p u k ask)))
+    (λ ne back i q. list_stays p (base + 1) (finish_of p u k ask).kept (call_alone t large ask).large (call_alone t large ask).next (after u (actions_of (steps_at p u k ask)))
     (step_follows p IsAskable (call_course p) k large t u f ask ok.0 ne) asks ok.1 back e more i q)
 
 pub list_none : (p : Planner) (base : ℕ) (k : Kept) (large : List ℕ) (t u : TargetState) → Follows k large t u → (asks : List Ask) → AreAskable asks → Passes u (issued_from p base k u asks) → NoneStops t large asks
@@ -299,7 +299,7 @@ list_none p base k large t u f (ask ∷ asks) ok pass =
     let ne = none_first p base k large t u f ask asks ok.0 pass in
     let both = passes_second u (entries_at p base u k ask) (rest p base k large t u f ask asks ok.0) pass in
     none_more p base k large t u f ask asks ok.0 ne
-    (list_none p (base + 1) (finish_of p u k ask).kept (alone t large ask).large (alone t large ask).next (after u (actions_of (steps_at p u k ask)))
+    (list_none p (base + 1) (finish_of p u k ask).kept (call_alone t large ask).large (call_alone t large ask).next (after u (actions_of (steps_at p u k ask)))
     (step_follows p IsAskable (call_course p) k large t u f ask ok.0 ne) asks ok.1 (subst (λ (s : TargetState). Passes s (rest p base k large t u f ask asks ok.0)) (call_after p base k u ask) both))
 
 pub fault_stops : FaultStops

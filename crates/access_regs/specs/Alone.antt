@@ -9,23 +9,23 @@ use Rattle.target_calls.specs.declared.journal.Part.TheVariants.{Settles, Ends}
 use Rattle.access_regs.specs.Journal.{Step}
 
 -- one call, with whether it is forgiving
-abbrev pub alone : TargetState → List ℕ → Ask → CallDone
-alone t large c = call_done t large c.forgive c.call
+abbrev pub call_alone : TargetState → List ℕ → Ask → CallDone
+call_alone t large c = call_done t large c.forgive c.call
 
 -- the target after the calls
 abbrev pub alone_after : TargetState → List ℕ → List Ask → TargetState
 alone_after t large [] = t
-alone_after t large (c ∷ cs) = alone_after (alone t large c).next (alone t large c).large cs
+alone_after t large (c ∷ cs) = alone_after (call_alone t large c).next (call_alone t large c).large cs
 
 -- the APs that are known to have large addresses after the calls
 abbrev pub large_of_all : TargetState → List ℕ → List Ask → List ℕ
 large_of_all t large [] = large
-large_of_all t large (c ∷ cs) = large_of_all (alone t large c).next (alone t large c).large cs
+large_of_all t large (c ∷ cs) = large_of_all (call_alone t large c).next (call_alone t large c).large cs
 
 -- No call ends at a fault; forgiving ones may have met some.
 abbrev pub NoneFaults : TargetState → List ℕ → List Ask → Type 0
 NoneFaults t large [] = ⊤
-NoneFaults t large (c ∷ cs) = ((alone t large c).end ≢ Faulted) × NoneFaults (alone t large c).next (alone t large c).large cs
+NoneFaults t large (c ∷ cs) = ((call_alone t large c).end ≢ Faulted) × NoneFaults (call_alone t large c).next (call_alone t large c).large cs
 
 -- Of these entries one is the first that gives a fault which its unit does not forgive.
 pub record StopsAt (t : TargetState) (entries : List Entry) (front : List Entry) (entry : Entry) : Type 0 where
@@ -62,4 +62,4 @@ KeepsMemory t (s ∷ steps) = (s.part ≢ Ends → (acted t s.action).next.words
 -- what the calls issue, each made alone
 abbrev pub actions_alone : TargetState → List ℕ → List Ask → List Action
 actions_alone t large [] = []
-actions_alone t large (c ∷ cs) = (alone t large c).actions ++ actions_alone (alone t large c).next (alone t large c).large cs
+actions_alone t large (c ∷ cs) = (call_alone t large c).actions ++ actions_alone (call_alone t large c).next (call_alone t large c).large cs

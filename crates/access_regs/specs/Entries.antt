@@ -11,7 +11,7 @@ use Rattle.target_calls.specs.Journal.{Entry, target_after}
 use Rattle.target_calls.specs.Weights.{AreWeighty}
 use Rattle.target_calls.specs.declared.calls.Ask.{Ask}
 use Rattle.target_calls.specs.declared.journal.Part.TheVariants.{Settles}
-use Rattle.access_regs.specs.Alone.{NoneFaults, alone, alone_after, large_of_all}
+use Rattle.access_regs.specs.Alone.{NoneFaults, call_alone, alone_after, large_of_all}
 use Rattle.access_regs.specs.Journal.{issue_of, issued, kept_from, numbered, steps_of}
 use Rattle.access_regs.specs.Kept.{Kept, nothing_kept}
 use Rattle.access_regs.specs.Plan.{settle, settled, unless}
@@ -59,7 +59,7 @@ pub record AnsweredAt (p : Planner) (t : TargetState) (entries : List Entry) (as
 abbrev pub CallAnswers : Type 0
 CallAnswers = (p : Planner) (t : TargetState) (asks : List Ask) (ask : Ask) (more : List Ask) (v : ℕ) → IsFresh t → AreAskable (asks ++ ask ∷ more) →
     NoneFaults t [] asks →
-    (alone (alone_after t [] asks) (large_of_all t [] asks) ask).end ≡ Answered v → AnsweredAt p t (issued p t (asks ++ ask ∷ more)) asks ask v
+    (call_alone (alone_after t [] asks) (large_of_all t [] asks) ask).end ≡ Answered v → AnsweredAt p t (issued p t (asks ++ ask ∷ more)) asks ask v
 
 -- None of these accesses faults.
 abbrev pub NoneFault : TargetState → List RegAccess → Type 0

@@ -8,7 +8,7 @@ use Rattle.target_machine.specs.declared.unit.Unit.{Unit as AccessUnit}
 use Rattle.target_machine.specs.declared.unit.Unit.TheVariants as unit
 use Rattle.target_machine.specs.State.{TargetState, Agree}
 use Rattle.access_regs.specs.Journal.{alone_at, issue_of, kept_alone, issued, issued_from, kept_at, kept_from, target_at, planned}
-use Rattle.access_regs.specs.Alone.{actions_alone, alone, alone_after, large_of_all, NoneFaults, StopsInLast, AnswersWith, KeepsMemory}
+use Rattle.access_regs.specs.Alone.{actions_alone, call_alone, alone_after, large_of_all, NoneFaults, StopsInLast, AnswersWith, KeepsMemory}
 use Rattle.target_machine.specs.Fresh.{IsFresh}
 use Rattle.target_calls.specs.Journal.{Passes, actions_in, lines_before, target_after}
 use Rattle.target_calls.specs.Asks.{AreAskable, IsAskable, is_settled, IsUnitInRange}
@@ -27,12 +27,12 @@ FreshFollows = (t : TargetState) → IsFresh t → Follows nothing_kept [] t t
 -- One call goes as it goes alone, from where the calls before it led.
 abbrev pub CallGoes : Type 0
 CallGoes = (p : Planner) (k : Kept) (large : List ℕ) (t u : TargetState) (c : Ask) → Follows k large t u → IsAskable c →
-    Course (issue_of p u k c) (alone t large c) c.call u
+    Course (issue_of p u k c) (call_alone t large c) c.call u
 
 -- Where it does not end at a fault, the next call may follow: it and the `finish` after it leave what it leaves alone.
 abbrev pub CallLeaves : Type 0
-CallLeaves = (p : Planner) (k : Kept) (large : List ℕ) (t u : TargetState) (c : Ask) → Follows k large t u → IsAskable c → (alone t large c).end ≢ Faulted →
-    Follows (kept_at p u k c) (alone t large c).large (alone t large c).next (target_at p u k c)
+CallLeaves = (p : Planner) (k : Kept) (large : List ℕ) (t u : TargetState) (c : Ask) → Follows k large t u → IsAskable c → (call_alone t large c).end ≢ Faulted →
+    Follows (kept_at p u k c) (call_alone t large c).large (call_alone t large c).next (target_at p u k c)
 
 -- Let no call end at a fault. Then the target after the journal differs from the one after the calls alone at most in RDBUFF, and in CSW and TAR
 -- of the AP that is unsettled.
@@ -53,13 +53,13 @@ JournalPasses = (p : Planner) (t : TargetState) (calls : List Ask) → IsFresh t
 -- that call. It leaves the memory that the call alone leaves.
 abbrev pub JournalStops : Type 0
 JournalStops = (p : Planner) (t : TargetState) (calls : List Ask) (last : Ask) → IsFresh t → AreAskable calls → IsAskable last → NoneFaults t [] calls →
-    (alone (alone_after t [] calls) (large_of_all t [] calls) last).end ≡ Faulted →
-    StopsInLast t (issued p t (calls ++ last ∷ [])) (length calls + 1) (alone (alone_after t [] calls) (large_of_all t [] calls) last).next
+    (call_alone (alone_after t [] calls) (large_of_all t [] calls) last).end ≡ Faulted →
+    StopsInLast t (issued p t (calls ++ last ∷ [])) (length calls + 1) (call_alone (alone_after t [] calls) (large_of_all t [] calls) last).next
 
 -- A call that has a result has it from the entry that its unit is for.
 abbrev pub JournalAnswers : Type 0
 JournalAnswers = (p : Planner) (t : TargetState) (calls more : List Ask) (c : Ask) (n : ℕ) → IsFresh t → AreAskable calls → IsAskable c → NoneFaults t [] calls →
-    (alone (alone_after t [] calls) (large_of_all t [] calls) c).end ≡ Answered n →
+    (call_alone (alone_after t [] calls) (large_of_all t [] calls) c).end ≡ Answered n →
     AnswersWith t (issued p t (calls ++ c ∷ more)) (length calls + 1) c.call n
 
 -- The journal of more calls is that of the first ones, and then that of the others from the target and from what is kept.

@@ -6,7 +6,7 @@ use Rattle.target_machine.specs.Plain.{Faulted, Skipped, acted, is_fault}
 use Rattle.target_machine.specs.State.{TargetState}
 use Rattle.target_calls.specs.Asks.{AreAskable, is_forgiving}
 use Rattle.target_calls.specs.declared.calls.Ask.{Ask}
-use Rattle.access_regs.specs.Alone.{NoneFaults, alone, alone_after, large_of_all}
+use Rattle.access_regs.specs.Alone.{NoneFaults, call_alone, alone_after, large_of_all}
 use Rattle.access_regs.specs.Entries.{kept_by, target_by}
 use Rattle.access_regs.specs.Journal.{Step, actions_of, issue_of}
 use Rattle.access_regs.specs.declared.planner.Planner.{Planner}
@@ -20,11 +20,11 @@ abbrev pub FaultSkips : Type 0
 FaultSkips = (p : Planner) (t : TargetState) (asks : List Ask) (ask : Ask) (leads : List Step) (step : Step) (more : List Step) (at : TargetState) →
     IsFresh t → AreAskable (asks ++ ask ∷ []) → NoneFaults t [] asks → is_forgiving ask ≡ true → own_steps p t asks ask ≡ leads ++ step ∷ more →
     PassTo (target_by p t asks) (actions_of leads) at → is_fault (acted at step.action).outcome ≡ true →
-    (alone (alone_after t [] asks) (large_of_all t [] asks) ask).end ≡ Skipped
+    (call_alone (alone_after t [] asks) (large_of_all t [] asks) ask).end ≡ Skipped
 
 -- Where none of its steps faults, a call is neither skipped, nor does it end at a fault.
 abbrev pub PassingIsMade : Type 0
 PassingIsMade = (p : Planner) (t : TargetState) (asks : List Ask) (ask : Ask) (at : TargetState) → IsFresh t → AreAskable (asks ++ ask ∷ []) → NoneFaults t [] asks →
     PassTo (target_by p t asks) (actions_of (own_steps p t asks ask)) at →
-    ((alone (alone_after t [] asks) (large_of_all t [] asks) ask).end ≢ Skipped)
-    × ((alone (alone_after t [] asks) (large_of_all t [] asks) ask).end ≢ Faulted)
+    ((call_alone (alone_after t [] asks) (large_of_all t [] asks) ask).end ≢ Skipped)
+    × ((call_alone (alone_after t [] asks) (large_of_all t [] asks) ask).end ≢ Faulted)

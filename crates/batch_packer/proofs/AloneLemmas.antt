@@ -7,7 +7,7 @@ use Rattle.dap_replies.proofs.ReplyAgain.{reply_complete}
 use Rattle.dap_messages.specs.declared.command.PacketKind.TheVariants.{Plain}
 use Rattle.dap_messages.specs.Commands.{IsCommand, command_bytes}
 use Rattle.dap_messages.specs.Replies.{Answers, ReplyValue, reply_bytes}
-use Rattle.dap_replies.specs.ReplyViews.{shown}
+use Rattle.dap_replies.specs.ReplyViews.{reply_shown}
 use Rattle.dap_replies.proofs.ReplyLaws.{response-code}
 use Rattle.dap_messages.specs.Responses.{code_of, response_of}
 use Rattle.dap_transfer.specs.Block.{blocked}
@@ -65,15 +65,15 @@ pub less_none : (n : ℕ) → n - 0 ≡ n
 less_none n = omega arith
 
 -- what the reply shows is that part
-shows_part : (b : Bool) (d : Transferred) (accesses : List RegAccess) → part_as 0 (requests_for false accesses) (shown (one_answer b d)) (response_of (code_of d.response)) ≡ Some (one_part b d accesses)
+shows_part : (b : Bool) (d : Transferred) (accesses : List RegAccess) → part_as 0 (requests_for false accesses) (reply_shown (one_answer b d)) (response_of (code_of d.response)) ≡ Some (one_part b d accesses)
 shows_part true d accesses =
-    ap (part_as 0 (requests_for false accesses) (shown (block_answer d))) (response-code d.response)
+    ap (part_as 0 (requests_for false accesses) (reply_shown (block_answer d))) (response-code d.response)
     ∙ ap (λ n. Some (part_of (take n (requests_for false accesses)) d.response [])) (less_none d.executed)
 shows_part false d accesses =
-    ap (part_as 0 (requests_for false accesses) (shown (transfer_answer d))) (response-code d.response)
+    ap (part_as 0 (requests_for false accesses) (reply_shown (transfer_answer d))) (response-code d.response)
     ∙ ap (λ n. Some (part_of (take n (requests_for false accesses)) d.response d.words)) (less_none d.executed)
 
-code_shown : (b : Bool) (d : Transferred) → (shown (one_answer b d)).response ≡ code_of d.response
+code_shown : (b : Bool) (d : Transferred) → (reply_shown (one_answer b d)).response ≡ code_of d.response
 code_shown true d = refl
 code_shown false d = refl
 
@@ -82,7 +82,7 @@ pub reads_one : (b : Bool) (p : TransferState) (accesses : List RegAccess) → I
 reads_one b p accesses command does =
     let d : Transferred = one_done b p accesses in
     ap (λ x. part_in 0 (requests_for false accesses) (shown_in x)) (reply_complete (one_command b accesses) (one_answer b d) command does.answers)
-    ∙ ap (λ code. part_as 0 (requests_for false accesses) (shown (one_answer b d)) (response_of code)) (code_shown b d)
+    ∙ ap (λ code. part_as 0 (requests_for false accesses) (reply_shown (one_answer b d)) (response_of code)) (code_shown b d)
     ∙ shows_part b d accesses
 
 done_is : (b : Bool) (e : ExecutorState) (accesses : List RegAccess) → done e (one_command b accesses)

@@ -9,7 +9,7 @@ use Rattle.dap_messages.specs.declared.request.Response.{Response}
 use Rattle.dap_messages.specs.declared.request.Response.TheVariants.{Good, Wait, Fault, Mismatch}
 use Rattle.dap_messages.specs.Commands.{bytes_of_kind, command_bytes}
 use Rattle.dap_transfer.specs.State.{TransferState, is_good}
-use Rattle.probe_core.specs.Bench.{BenchState, Exchange, Reported, StepsTo, counted, handed, received, sent, served}
+use Rattle.probe_core.specs.Bench.{BenchState, Exchange, Reported, StepsTo, counted_up, handed, received, sent, served}
 use Rattle.probe_core.specs.Commands.{with_transfers}
 use Rattle.probe_core.specs.Probe.{ExecutorState, ProbeState, is_queued}
 use Rattle.probe_core.specs.declared.job.Limits.{Limits}
@@ -96,7 +96,7 @@ abbrev ExchangeWith : Reported → List (List ℕ) → Reported → Type 0
 ExchangeWith r packets u = record {
   held : u.held ≡ 0;
   waiting : u.waiting ≡ r.held + length packets;
-  exchanges : u.exchanges ≡ cond (eqb r.held 0) (counted r.exchanges) r.exchanges;
+  exchanges : u.exchanges ≡ cond (eqb r.held 0) (counted_up r.exchanges) r.exchanges;
   last : u.last ≡ cond (eqb r.held 0) (record { packets = packets; replies = [] }) (record { packets = r.last.packets ++ packets; replies = r.last.replies });
   limits : u.limits ≡ r.limits;
   faults : u.faults ≡ r.faults;
@@ -130,7 +130,7 @@ chain_sent r accesses (next ∷ parts) none =
     record {
       held = rest.held;
       waiting = rest.waiting ∙ omega arith;
-      exchanges = rest.exchanges ∙ ap (λ b. cond b (counted (sent r packet).exchanges) (sent r packet).exchanges) held;
+      exchanges = rest.exchanges ∙ ap (λ b. cond b (counted_up (sent r packet).exchanges) (sent r packet).exchanges) held;
       last = rest.last ∙ ap (λ b. cond b (record { packets = chain_packets (next ∷ parts); replies = [] }) (record { packets = (sent r packet).last.packets ++ chain_packets (next ∷ parts); replies = (sent r packet).last.replies })) held
           ∙ by_held (eqb r.held 0) packet (chain_packets (next ∷ parts)) r.last;
       limits = rest.limits;
@@ -183,7 +183,7 @@ chain_waits r u (accesses ∷ parts) packets opened some is sent_is =
 pub record ChainDone (r v : Reported) (packets replies : List (List ℕ)) : Type 0 where
   pub is_open : IsOpen v
   pub last : v.last ≡ record { packets = packets; replies = replies }
-  pub exchanges : v.exchanges ≡ counted r.exchanges
+  pub exchanges : v.exchanges ≡ counted_up r.exchanges
 
 pub chain_done : (r u v : Reported) (parts : List (List RegAccess)) (packets replies : List (List ℕ)) → IsOpen r → 0 < length parts → packets ≡ chain_packets parts → u ≡ fold sent r packets →
     v ≡ fold received u replies → length replies ≡ length packets → ChainDone r v packets replies
@@ -202,7 +202,7 @@ chain_done r u v (accesses ∷ parts) packets replies opened some is sent_is tak
         waiting = (let a = ap (λ (x : Reported). x.waiting) taken_is in let b = some_taken.waiting in let d = ap (λ (x : Reported). x.waiting) u_is in let e = all.waiting in let f = opened.held in let g = ap length is in omega arith);
       };
       last = ap (λ (x : Reported). x.last) taken_is ∙ some_taken.last ∙ ap (λ (x : Exchange). record { packets = x.packets; replies = x.replies ++ replies }) last_sent ∙ ap (λ ps. record { packets = ps; replies = replies }) (sym is);
-      exchanges = ap (λ (x : Reported). x.exchanges) taken_is ∙ some_taken.exchanges ∙ ap (λ (x : Reported). x.exchanges) u_is ∙ all.exchanges ∙ ap (λ b. cond b (counted r.exchanges) r.exchanges) first;
+      exchanges = ap (λ (x : Reported). x.exchanges) taken_is ∙ some_taken.exchanges ∙ ap (λ (x : Reported). x.exchanges) u_is ∙ all.exchanges ∙ ap (λ b. cond b (counted_up r.exchanges) r.exchanges) first;
     }
 
 -- ---- what was done

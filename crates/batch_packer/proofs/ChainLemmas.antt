@@ -9,13 +9,13 @@ use Rattle.dap_messages.specs.declared.request.Response.{Response}
 use Rattle.dap_messages.specs.declared.request.Response.TheVariants.{Good, Wait, Fault, Mismatch}
 use Rattle.dap_messages.specs.Commands.{IsCommand, bytes_of_kind}
 use Rattle.dap_messages.specs.Replies.{Answers, reply_bytes}
-use Rattle.dap_replies.specs.ReplyViews.{shown}
+use Rattle.dap_replies.specs.ReplyViews.{reply_shown}
 use Rattle.dap_replies.proofs.ReplyLaws.{response-code}
 use Rattle.dap_transfer.specs.State.{TransferState, Transferred, is_good}
 use Rattle.dap_transfer.specs.Transfer.{transferred}
-use Rattle.probe_core.specs.Bench.{BenchState, counted, handed, served}
+use Rattle.probe_core.specs.Bench.{BenchState, counted_up, handed, served}
 use Rattle.probe_core.specs.Commands.{with_transfers}
-use Rattle.probe_core.specs.Packet.{accepted, after, answered, replies_to}
+use Rattle.probe_core.specs.Packet.{accepted, after_packets, answered, replies_to}
 use Rattle.probe_core.specs.Probe.{ExecutorState, ProbeState}
 use Rattle.flight_forms.specs.Chains.{CutAs, IsCutOnce, IsShut, chain_after, chain_part, chain_replies, guarded_part, joined_as, nothing_yet}
 use Rattle.flight_forms.specs.Flights.{Part}
@@ -52,21 +52,21 @@ chain_kinds (accesses ∷ parts) = inr refl
 
 -- a chain, when it is run: its replies, and what executes the next packet
 pub chain_answered : (e : ExecutorState) (parts : List (List RegAccess)) → e.limits.packet_size ≤ 1024 → FitChain e.limits.packet_size parts →
-    (replies_to e (chain_packets parts) ≡ map guarded_reply (chain_replies e.transfers parts)) × (after e (chain_packets parts) ≡ with_transfers e (chain_after e.transfers parts))
+    (replies_to e (chain_packets parts) ≡ map guarded_reply (chain_replies e.transfers parts)) × (after_packets e (chain_packets parts) ≡ with_transfers e (chain_after e.transfers parts))
 chain_answered e [] size fits = (refl, refl)
 chain_answered e (accesses ∷ parts) size fits =
     let d : Transferred = transferred e.transfers (guarded_requests accesses) in
     let one = queue_answered (chain_kind parts) e accesses size fits.0 (chain_kinds parts) in
     let rest = chain_answered (with_transfers e d.next) parts size fits.1 in (
       (λ i. (one i).reply ∷ replies_to (one i).next (chain_packets parts)) ∙ ap (λ xs. guarded_reply d ∷ xs) rest.0,
-      ap (λ x. after x.next (chain_packets parts)) one ∙ rest.1,
+      ap (λ x. after_packets x.next (chain_packets parts)) one ∙ rest.1,
     )
 
 -- ---- the whole chain
 
 -- after all packets of a chain: those that were held have run with the last
 abbrev queue_run : ProbeState → List (List ℕ) → ProbeState
-queue_run p packets = record { executor = after p.executor packets; held = []; waiting = replies_to p.executor packets }
+queue_run p packets = record { executor = after_packets p.executor packets; held = []; waiting = replies_to p.executor packets }
 
 chain_accepted : (p : ProbeState) (accesses : List RegAccess) (parts : List (List RegAccess)) → p.waiting ≡ [] →
     fold accepted p (chain_packets (accesses ∷ parts)) ≡ queue_run p (p.held ++ chain_packets (accesses ∷ parts))
@@ -110,7 +110,7 @@ handed_starting m [] = refl
 handed_starting m (x ∷ replies) = handed_starting (handed m x) replies
 
 -- one of the packets of a chain is a starting packet, the last
-chain_starting : (m : BenchState) (accesses : List RegAccess) (parts : List (List RegAccess)) → (fold served m (chain_packets (accesses ∷ parts))).starting ≡ counted m.starting
+chain_starting : (m : BenchState) (accesses : List RegAccess) (parts : List (List RegAccess)) → (fold served m (chain_packets (accesses ∷ parts))).starting ≡ counted_up m.starting
 chain_starting m accesses [] = refl
 chain_starting m accesses (next ∷ parts) = chain_starting (served m (bytes_of_kind Queue (guarded_command accesses ∷ []))) next parts
 
@@ -134,7 +134,7 @@ reply_count p (accesses ∷ parts) = ap suc (reply_count (transferred p (guarded
 pub record ChainTaken (parts : List (List RegAccess)) (replies : List (List ℕ)) (m o : BenchState) : Type 0 where
   pub replies_are : replies ≡ map guarded_reply (chain_replies m.probe.executor.transfers parts)
   pub probe : o.probe ≡ record { executor = with_transfers m.probe.executor (chain_after m.probe.executor.transfers parts); held = []; waiting = [] }
-  pub starting : o.starting ≡ counted m.starting
+  pub starting : o.starting ≡ counted_up m.starting
 
 pub chain_flown : (m n o : BenchState) (accesses : List RegAccess) (parts : List (List RegAccess)) (replies : List (List ℕ)) → m.probe.held ≡ [] → m.probe.waiting ≡ [] →
     m.probe.executor.limits.packet_size ≤ 1024 → FitChain m.probe.executor.limits.packet_size (accesses ∷ parts) → n ≡ fold served m (chain_packets (accesses ∷ parts)) →
@@ -159,7 +159,7 @@ pub reads_guarded : (accesses : List RegAccess) (d : Transferred) → IsCommand 
     guarded_reading accesses (guarded_reply d) ≡ Some (guarded_part accesses d)
 reads_guarded accesses d command may =
     ap (λ x. part_in 2 (payload accesses) (shown_in x)) (reply_complete (guarded_command accesses) (transfer_answer d) command may)
-    ∙ ap (part_as 2 (payload accesses) (shown (transfer_answer d))) (response-code d.response)
+    ∙ ap (part_as 2 (payload accesses) (reply_shown (transfer_answer d))) (response-code d.response)
 
 joined_after : (a b c : Part) → joined_as Good (joined_as Good a b) c ≡ joined_as Good a (joined_as Good b c)
 joined_after a b c =

@@ -1,6 +1,6 @@
 -- A packet that is executed at once, and its reply.
 use Rattle.std.proofs.Common.{◌≡◌, inl, inr, ℕ, List, [], ◌∷◌, false, cond, Option, Some, refl, ap, sym, ◌∙◌, slice_get, drop, subst}
-use Rattle.probe_core.specs.Bench.{BenchState, StepsTo, served, HandsOut, counted}
+use Rattle.probe_core.specs.Bench.{BenchState, StepsTo, served, HandsOut, counted_up}
 use Rattle.probe_core.specs.Packet.{answered, accepted}
 use Rattle.probe_core.specs.Probe.{ProbeState, is_queued}
 use Rattle.probe_core.proofs.StateSteps.{runs_then, steps_map, steps_same, steps_then}
@@ -27,7 +27,7 @@ answers_one packet reply m n o plain idle sent out =
       answer = some_is _ reply (subst (Waits reply) ran out.oldest);
       executor = ap (λ (p : ProbeState). p.executor) all;
       idle = record { held = ap (λ (p : ProbeState). p.held) all; waiting = ap (λ (p : ProbeState). p.waiting) all };
-      starting = ap (λ (b : BenchState). b.starting) out.next ∙ ap (λ (b : BenchState). b.starting) sent ∙ ap (λ q. cond q m.starting (counted m.starting)) plain;
+      starting = ap (λ (b : BenchState). b.starting) out.next ∙ ap (λ (b : BenchState). b.starting) sent ∙ ap (λ q. cond q m.starting (counted_up m.starting)) plain;
     }
 
 -- the same of an observable bench

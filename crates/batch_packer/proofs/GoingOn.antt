@@ -1,7 +1,7 @@
 -- The limits and the count of exchanges of a bench, from call to call.
 use Rattle.std.proofs.Common.{◌≡◌, ◌⊎◌, inl, inr, ℕ, zero, suc, ◌+◌, ◌≤◌, eqb, Bool, true, false, cond, List, Option, refl, ap, sym, subst, ◌∙◌, arith}
 use Rattle.std.proofs.lemmas.Bool.{ne_eqb}
-use Rattle.probe_core.specs.Bench.{BenchState, HasReceived, IsAsBefore, Reported, counted, received, sent}
+use Rattle.probe_core.specs.Bench.{BenchState, HasReceived, IsAsBefore, Reported, counted_up, received, sent}
 use Rattle.probe_core.specs.Runs.{KeepsRuns}
 use Rattle.probe_core.proofs.StateSteps.{runs_then}
 use Rattle.batch_packer.specs.Exchanges.{GoesOn, GoesOnOver, StaysAt}
@@ -17,21 +17,21 @@ stays_then t u v h k = record { limits = k.limits ∙ h.limits; exchanges = k.ex
 pub goes_stays : (t u v : Reported) → GoesOn t u → StaysAt u v → GoesOn t v
 goes_stays t u v h k = record { limits = k.limits ∙ h.limits; exchanges = moved h.exchanges }
   where
-    moved : (u.exchanges ≡ t.exchanges) ⊎ (u.exchanges ≡ counted t.exchanges) → (v.exchanges ≡ t.exchanges) ⊎ (v.exchanges ≡ counted t.exchanges)
+    moved : (u.exchanges ≡ t.exchanges) ⊎ (u.exchanges ≡ counted_up t.exchanges) → (v.exchanges ≡ t.exchanges) ⊎ (v.exchanges ≡ counted_up t.exchanges)
     moved (inl e) = inl (k.exchanges ∙ e)
     moved (inr e) = inr (k.exchanges ∙ e)
 
 pub stays_goes : (t u : Reported) → StaysAt t u → GoesOn t u
 stays_goes t u h = record { limits = h.limits; exchanges = inl h.exchanges }
 
-either_count : (b : Bool) (n : ℕ) → (cond b (counted n) n ≡ n) ⊎ (cond b (counted n) n ≡ counted n)
+either_count : (b : Bool) (n : ℕ) → (cond b (counted_up n) n ≡ n) ⊎ (cond b (counted_up n) n ≡ counted_up n)
 either_count true n = inr refl
 either_count false n = inl refl
 
 pub goes_sent : (packet : List ℕ) (t u : Reported) → u ≡ sent t packet → GoesOn t u
 goes_sent packet t u e = record {
   limits = ap (λ (x : Reported). x.limits) e;
-  exchanges = subst (λ (n : ℕ). (n ≡ t.exchanges) ⊎ (n ≡ counted t.exchanges)) (sym (ap (λ (x : Reported). x.exchanges) e)) (either_count (eqb t.held 0) t.exchanges);
+  exchanges = subst (λ (n : ℕ). (n ≡ t.exchanges) ⊎ (n ≡ counted_up t.exchanges)) (sym (ap (λ (x : Reported). x.exchanges) e)) (either_count (eqb t.held 0) t.exchanges);
 }
 
 pub stays_received : (reply : List ℕ) (t u : Reported) → u ≡ received t reply → StaysAt t u
@@ -75,17 +75,17 @@ cause_got before now end got later same = record {
 -- the count after so many of its packets
 abbrev pub count_after : ℕ → ℕ → ℕ
 count_after zero n = n
-count_after (suc i) n = counted n
+count_after (suc i) n = counted_up n
 
-pub count_next : (i n held count : ℕ) → held ≡ i → count ≡ count_after i n → cond (eqb held 0) (counted count) count ≡ count_after (i + 1) n
-count_next zero n held count h e = ap (λ (k : ℕ). cond (eqb k 0) (counted count) count) h ∙ ap counted e
+pub count_next : (i n held count : ℕ) → held ≡ i → count ≡ count_after i n → cond (eqb held 0) (counted_up count) count ≡ count_after (i + 1) n
+count_next zero n held count h e = ap (λ (k : ℕ). cond (eqb k 0) (counted_up count) count) h ∙ ap counted_up e
 count_next (suc i) n held count h e =
-    ap (λ (k : ℕ). cond (eqb k 0) (counted count) count) h ∙ ap (λ b. cond b (counted count) count) (ne_eqb (suc i) 0 (λ f. omega arith)) ∙ e ∙ (let same : suc i + 1 ≡ suc (i + 1) = omega arith in ap (λ (k : ℕ). count_after k n) (sym same))
+    ap (λ (k : ℕ). cond (eqb k 0) (counted_up count) count) h ∙ ap (λ b. cond b (counted_up count) count) (ne_eqb (suc i) 0 (λ f. omega arith)) ∙ e ∙ (let same : suc i + 1 ≡ suc (i + 1) = omega arith in ap (λ (k : ℕ). count_after k n) (sym same))
 
 pub sent_count : (i n : ℕ) (packet : List ℕ) (t u : Reported) → u ≡ sent t packet → t.held ≡ i → t.exchanges ≡ count_after i n → u.exchanges ≡ count_after (i + 1) n
 sent_count i n packet t u e held count = ap (λ (x : Reported). x.exchanges) e ∙ count_next i n t.held t.exchanges held count
 
-counts_on : (i n m : ℕ) → m ≡ count_after i n → (m ≡ n) ⊎ (m ≡ counted n)
+counts_on : (i n m : ℕ) → m ≡ count_after i n → (m ≡ n) ⊎ (m ≡ counted_up n)
 counts_on zero n m e = inl e
 counts_on (suc i) n m e = inr e
 

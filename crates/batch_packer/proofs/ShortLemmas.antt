@@ -7,7 +7,7 @@ use Rattle.dap_messages.specs.declared.request.Request.{Request}
 use Rattle.dap_messages.specs.declared.request.Response.{Response}
 use Rattle.dap_messages.specs.declared.request.Response.TheVariants.{Good, Wait, Fault, Mismatch}
 use Rattle.dap_messages.specs.Replies.{Answers, ReplyValue}
-use Rattle.dap_replies.specs.ReplyViews.{IsReplyTo, Shown, shown}
+use Rattle.dap_replies.specs.ReplyViews.{IsReplyTo, Shown, reply_shown}
 use Rattle.dap_messages.specs.Replies as reply
 use Rattle.dap_replies.specs.ReplyReading.{reply_read}
 use Rattle.dap_messages.specs.Responses.{code_of, response_of}
@@ -35,46 +35,46 @@ one_is found command e = some_is found command e
 
 pub read_from : (command found : CommandValue) (replied : List ℕ) (view : Shown) (before : ℕ) (requests : List Request) (old new : List (Option ℕ)) (result : Option Progress) → Some found ≡ slice_get (command ∷ []) 0 →
     Some view ≡ shown_in (reply_read found replied) → IsReplyTo found replied view → IsShown (part_as before requests view (response_of view.response)) result old new → IfSome result (IsReadFrom command before requests replied old new)
-read_from command found replied view before requests old new None is read answers shown = tt
-read_from command found replied view before requests old new (Some progress) is read answers shown = record {
+read_from command found replied view before requests old new None is read answers reply_shown = tt
+read_from command found replied view before requests old new (Some progress) is read answers reply_shown = record {
   view = view;
   answers = subst (λ (c : CommandValue). IsReplyTo c replied view) (one_is found command is) answers;
   read = sym (read ∙ ap (λ c. shown_in (reply_read c replied)) (one_is found command is));
-  shown = shown;
+  shown = reply_shown;
 }
 
 -- ---- what one reply shows
 
 -- of a flight in one packet
 one_part_short : (b : Bool) (accesses : List RegAccess) (answer : ReplyValue) (view : Shown) (progress : Progress) (new : List (Option ℕ)) (x : Option Response) → (b ≡ true → IsBlock accesses) → AreTaken accesses →
-    Answers (one_command b accesses) answer → view ≡ shown answer → response_of view.response ≡ x → IsShown (part_as 0 (requests_for false accesses) view x) (Some progress) [] new →
+    Answers (one_command b accesses) answer → view ≡ reply_shown answer → response_of view.response ≡ x → IsShown (part_as 0 (requests_for false accesses) view x) (Some progress) [] new →
     IsPartOf (length accesses) (part_with progress new)
-one_part_short b accesses answer view progress new None block taken may shows is shown = absurd shown
-one_part_short true accesses (reply.Block n code) view progress new (Some x) block taken may shows is shown =
+one_part_short b accesses answer view progress new None block taken may shows is reply_shown = absurd reply_shown
+one_part_short true accesses (reply.Block n code) view progress new (Some x) block taken may shows is reply_shown =
     let here = block refl in
     let count : view.count - 0 ≡ n = less_none view.count ∙ ap (λ (v : Shown). v.count) shows in
     let words : view.words ≡ [] = ap (λ (v : Shown). v.words) shows in
     let code_is : code ≡ code_of x = response_is code x (ap (λ (v : Shown). response_of v.response) (sym shows) ∙ is) in
     let has = block_shows here.0 accesses n x here.2 (subst (λ c. Answers (one_command true accesses) (reply.Block n c)) code_is may) in
-    let same : part_with progress new ≡ part_of (take n (requests_for false accesses)) x [] = part_same (part_of (take (view.count - 0) (requests_for false accesses)) x view.words) progress [] new shown refl
+    let same : part_with progress new ≡ part_of (take n (requests_for false accesses)) x [] = part_same (part_of (take (view.count - 0) (requests_for false accesses)) x view.words) progress [] new reply_shown refl
     ∙ (λ i. part_of (take (count i) (requests_for false accesses)) x (words i)) in
     subst (λ (p : Part). IsPartOf (length accesses) p) (sym same) has
-one_part_short false accesses (reply.Transfer n code words) view progress new (Some x) block taken may shows is shown =
+one_part_short false accesses (reply.Transfer n code words) view progress new (Some x) block taken may shows is reply_shown =
     let count : view.count - 0 ≡ n = less_none view.count ∙ ap (λ (v : Shown). v.count) shows in
     let words_are : view.words ≡ words = ap (λ (v : Shown). v.words) shows in
     let code_is : code ≡ code_of x = response_is code x (ap (λ (v : Shown). response_of v.response) (sym shows) ∙ is) in
     let has = transfer_shows accesses n x words taken (subst (λ c. Answers (one_command false accesses) (reply.Transfer n c words)) code_is may) in
-    let same : part_with progress new ≡ part_of (take n (requests_for false accesses)) x words = part_same (part_of (take (view.count - 0) (requests_for false accesses)) x view.words) progress [] new shown refl
+    let same : part_with progress new ≡ part_of (take n (requests_for false accesses)) x words = part_same (part_of (take (view.count - 0) (requests_for false accesses)) x view.words) progress [] new reply_shown refl
     ∙ (λ i. part_of (take (count i) (requests_for false accesses)) x (words_are i)) in
     subst (λ (p : Part). IsPartOf (length accesses) p) (sym same) has
-one_part_short true accesses (reply.Info bytes) view progress new (Some x) block taken may shows is shown = absurd may
-one_part_short true accesses (reply.Status id status) view progress new (Some x) block taken may shows is shown = absurd may
-one_part_short true accesses (reply.Pins pins) view progress new (Some x) block taken may shows is shown = absurd may
-one_part_short true accesses (reply.Transfer n code words) view progress new (Some x) block taken may shows is shown = absurd may
-one_part_short false accesses (reply.Info bytes) view progress new (Some x) block taken may shows is shown = absurd may
-one_part_short false accesses (reply.Status id status) view progress new (Some x) block taken may shows is shown = absurd may
-one_part_short false accesses (reply.Pins pins) view progress new (Some x) block taken may shows is shown = absurd may
-one_part_short false accesses (reply.Block n code) view progress new (Some x) block taken may shows is shown = absurd may
+one_part_short true accesses (reply.Info bytes) view progress new (Some x) block taken may shows is reply_shown = absurd may
+one_part_short true accesses (reply.Status id status) view progress new (Some x) block taken may shows is reply_shown = absurd may
+one_part_short true accesses (reply.Pins pins) view progress new (Some x) block taken may shows is reply_shown = absurd may
+one_part_short true accesses (reply.Transfer n code words) view progress new (Some x) block taken may shows is reply_shown = absurd may
+one_part_short false accesses (reply.Info bytes) view progress new (Some x) block taken may shows is reply_shown = absurd may
+one_part_short false accesses (reply.Status id status) view progress new (Some x) block taken may shows is reply_shown = absurd may
+one_part_short false accesses (reply.Pins pins) view progress new (Some x) block taken may shows is reply_shown = absurd may
+one_part_short false accesses (reply.Block n code) view progress new (Some x) block taken may shows is reply_shown = absurd may
 
 pub alone_short : (b : Bool) (accesses : List RegAccess) (replied : List ℕ) (result : Option Progress) (new : List (Option ℕ)) → (b ≡ true → IsBlock accesses) → AreTaken accesses →
     IfSome result (IsReadFrom (one_command b accesses) 0 (requests_for false accesses) replied [] new) → IfSome result (λ p. IsPartOf (length accesses) (part_with p new))
@@ -84,7 +84,7 @@ alone_short b accesses replied (Some progress) new block taken from =
     one_part_short b accesses answers.answer from.view progress new (response_of (from.view).response) block taken answers.may answers.shows refl from.shown
 
 -- of a part of a chain
-guarded_part_short : (accesses : List RegAccess) (answer : ReplyValue) (view : Shown) (x : Option Response) → AreTaken accesses → 0 < length accesses → Answers (guarded_command accesses) answer → view ≡ shown answer →
+guarded_part_short : (accesses : List RegAccess) (answer : ReplyValue) (view : Shown) (x : Option Response) → AreTaken accesses → 0 < length accesses → Answers (guarded_command accesses) answer → view ≡ reply_shown answer →
     response_of view.response ≡ x → IfSome (part_as 2 (payload accesses) view x) (IsPartOf (length accesses))
 guarded_part_short accesses answer view None taken some may shows is = tt
 guarded_part_short accesses (reply.Transfer n code words) view (Some x) taken some may shows is =

@@ -14,7 +14,7 @@ use Rattle.dap_messages.specs.declared.command_value.CommandValue.{CommandValue}
 use Rattle.dap_messages.specs.declared.command_value.CommandValue.TheVariants as command
 use Rattle.dap_messages.specs.Commands.{IsCommand, bytes_for, command_bytes, longest_reply}
 use Rattle.dap_messages.specs.Replies.{Answers, reply_bytes}
-use Rattle.dap_replies.specs.ReplyViews.{shown}
+use Rattle.dap_replies.specs.ReplyViews.{reply_shown}
 use Rattle.dap_replies.specs.ReplyReading.{reply_read}
 use Rattle.probe_core.specs.Bench.{BenchState, StepsTo}
 use Rattle.probe_core.specs.Commands.{done}
@@ -130,7 +130,7 @@ info_says : (b : Bool) (count size : ℕ) → size < 2 ^ 16 →
 info_says true count size h = omega arith
 info_says false count size h = omega arith
 
-single_says : (e : ExecutorState) (c : CommandValue) → is_single c ≡ true → AreLimits e.limits → number_in c (shown (done e c).answer) ≡ number_given e c
+single_says : (e : ExecutorState) (c : CommandValue) → is_single c ≡ true → AreLimits e.limits → number_in c (reply_shown (done e c).answer) ≡ number_given e c
 single_says e (command.Info id) s limits = info_says (eqb id 0xFE) e.limits.packet_count e.limits.packet_size (let a = limits.size_high in omega arith)
 single_says e (command.Configure idle retry matches) s limits = refl
 single_says e (command.Transfer requests) s limits = refl

@@ -7,7 +7,7 @@ use Rattle.dap_replies.specs.ReplyViews.{Shown}
 use Rattle.dap_replies.specs.ReplyReading.{reply_read}
 use Rattle.dap_transfer.specs.Lines.{pins_set}
 use Rattle.dap_transfer.specs.State.{TransferState}
-use Rattle.probe_core.specs.Bench.{BenchState, counted}
+use Rattle.probe_core.specs.Bench.{BenchState, counted_up}
 use Rattle.probe_core.specs.Commands.{done}
 use Rattle.probe_core.specs.Probe.{ExecutorState}
 use Rattle.batch_packer.specs.Exchanges.{IsIdle}
@@ -59,7 +59,7 @@ pub record HasDone (c : CommandValue) (number : ℕ) (m n : BenchState) : Type 0
   pub number_is : number ≡ number_given m.probe.executor c
   pub executor : n.probe.executor ≡ (done m.probe.executor c).next
   pub idle : IsIdle n
-  pub starting : n.starting ≡ counted m.starting
+  pub starting : n.starting ≡ counted_up m.starting
 
 -- the command was done or not
 abbrev pub MayHaveDone : CommandValue → BenchState → BenchState → Type 0

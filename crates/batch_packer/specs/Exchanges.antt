@@ -1,7 +1,7 @@
 -- One packet and its reply.
 use Rattle.std.specs.Prelude.{◌≡◌, ◌⊎◌, List, ℕ, [], ◌∷◌, length, Option, Result}
 use Rattle.dap_base.specs.Causes.{HasCause}
-use Rattle.probe_core.specs.Bench.{BenchState, Reported, StepsTo, counted}
+use Rattle.probe_core.specs.Bench.{BenchState, Reported, StepsTo, counted_up}
 use Rattle.probe_core.specs.Packet.{answered}
 use Rattle.probe_core.specs.Ranges.{AreLimits}
 use Rattle.probe_core.specs.Runs.{KeepsRuns}
@@ -24,7 +24,7 @@ pub record StaysAt (old new : Reported) : Type 0 where
 -- the limits of a bench stay, and at most one exchange more is counted
 pub record GoesOn (old new : Reported) : Type 0 where
   pub limits : new.limits ≡ old.limits
-  pub exchanges : (new.exchanges ≡ old.exchanges) ⊎ (new.exchanges ≡ counted old.exchanges)
+  pub exchanges : (new.exchanges ≡ old.exchanges) ⊎ (new.exchanges ≡ counted_up old.exchanges)
 
 -- What each call keeps of its bench. It goes on as `GoesOn` says, each run of its log goes on as one, and it is the same loan.
 pub record GoesOnOver {B : Type 0} (reported : B → Reported) (state : B → Option BenchState) (identity : B → ℕ) (old new : B) : Type 0 where
@@ -43,14 +43,14 @@ pub record CallsOver {B T E : Type 0} (reported : B → Reported) (state : B →
 pub record HasExchanged (packets replies : List (List ℕ)) (old new : Reported) : Type 0 where
   pub last : new.last ≡ record { packets = packets; replies = replies }
   pub replied : length replies ≡ length packets
-  pub exchanges : new.exchanges ≡ counted old.exchanges
+  pub exchanges : new.exchanges ≡ counted_up old.exchanges
   pub is_open : IsOpen new
 
 -- The same of one packet and its reply.
 pub record HasAsked (packet : List ℕ) (old new : Reported) : Type 0 where
   pub packet_is : new.last.packets ≡ packet ∷ []
   pub replied : length new.last.replies ≡ 1
-  pub exchanges : new.exchanges ≡ counted old.exchanges
+  pub exchanges : new.exchanges ≡ counted_up old.exchanges
   pub is_open : IsOpen new
 
 -- The bench is observable afterwards exactly where it was before, and from a state of which this is so it takes this step.
@@ -67,7 +67,7 @@ pub record HasAnswered (packet reply : List ℕ) (m n : BenchState) : Type 0 whe
   pub answer : reply ≡ (answered m.probe.executor packet).reply
   pub executor : n.probe.executor ≡ (answered m.probe.executor packet).next
   pub idle : IsIdle n
-  pub starting : n.starting ≡ counted m.starting
+  pub starting : n.starting ≡ counted_up m.starting
 
 -- the packet was executed or not
 abbrev pub MayHaveRun : List ℕ → BenchState → BenchState → Type 0

@@ -6,7 +6,7 @@ use Rattle.target_machine.specs.Plain.{dp_read_of}
 use Rattle.target_machine.specs.declared.access.RegAccess.{RegAccess}
 use Rattle.dap_messages.specs.declared.request.Response.TheVariants.{Good}
 use Rattle.dap_transfer.specs.State.{TransferState, is_good}
-use Rattle.probe_core.specs.Bench.{BenchState, Reported, counted}
+use Rattle.probe_core.specs.Bench.{BenchState, Reported, counted_up}
 use Rattle.probe_core.specs.Commands.{with_transfers}
 use Rattle.probe_core.specs.Probe.{target_of}
 use Rattle.probe_core.specs.Ranges.{AreLimits}
@@ -73,7 +73,7 @@ pub record HasFlown (form : Form) (accesses : List RegAccess) (part : Part) (m n
   pub mask : may_stay_shut form (is_good part.response) ≡ false → (transfers_of n).mask ≡ 0
   pub executor : n.probe.executor ≡ with_transfers m.probe.executor (transfers_of n)
   pub idle : IsIdle n
-  pub starting : n.starting ≡ counted m.starting
+  pub starting : n.starting ≡ counted_up m.starting
   pub in_range : IsInRange (target_of n.probe)
   pub once : OnceBy form accesses part (transfers_of m) (transfers_of n)
 

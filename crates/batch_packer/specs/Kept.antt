@@ -2,7 +2,7 @@
 use Rattle.std.specs.Prelude.{◌≡◌, ℕ, List, [], ◌∷◌, length, Option, Some, None, ⊤}
 use Rattle.target_machine.specs.declared.access.RegAccess.{RegAccess}
 use Rattle.dap_messages.specs.Commands.{command_bytes}
-use Rattle.probe_core.specs.Bench.{Exchange, Reported, counted}
+use Rattle.probe_core.specs.Bench.{Exchange, Reported, counted_up}
 use Rattle.flight_forms.specs.Forms.{parts_of}
 use Rattle.flight_forms.specs.Packets.{block_command, chain_packets, transfer_command}
 use Rattle.flight_forms.specs.declared.form.Form.{Form}
@@ -41,7 +41,7 @@ EndedAt (Some form) size accesses replies at = at ≡ form_ended_at form size ac
 -- the exchanges are counted: one for a flight that sends something
 abbrev pub AreCounted : Option Form → ℕ → ℕ → Type 0
 AreCounted None old new = new ≡ old
-AreCounted (Some form) old new = new ≡ counted old
+AreCounted (Some form) old new = new ≡ counted_up old
 
 -- The last exchange after a flight that got its replies. Its packets are those of the form, as many replies came, and it is counted. The
 -- flight ended at the packet that is noted. The bench may be sent a packet again.

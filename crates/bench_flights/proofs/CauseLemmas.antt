@@ -8,7 +8,7 @@ use Rattle.dap_messages.specs.PacketReading.{packet_read}
 use Rattle.dap_replies.specs.ReplyReading.{reply_read}
 use Rattle.dap_messages.specs.declared.command_value.CommandValue.{CommandValue}
 use Rattle.dap_messages.proofs.PacketLaws.{alone_is_read}
-use Rattle.probe_core.specs.Bench.{Exchange, counted}
+use Rattle.probe_core.specs.Bench.{Exchange, counted_up}
 use Rattle.probe_core.specs.Bench.{Reported as BenchReported}
 use Rattle.access_calls.specs.Causes.{AreReplies, HasResponse, IsBadReply, ReplyShows, is_queue}
 use Rattle.batch_packer.specs.Commands.{is_single, number_by, number_read}
@@ -38,7 +38,7 @@ ShowsEnd ends.ReplyBad last place = IsShownAt IsBadReply last place
 -- what is known of an end: the count of faults, the exchange, and what is kept of it
 pub record IsEndOf (end : FlightEnd) (old new : BenchReported) (packets replies : List (List ℕ)) (at : ℕ) : Type 0 where
   pub cause : HasFaultCause old.faults new.faults (Some end)
-  pub exchanges : got_replies (Some end) ≡ true → new.exchanges ≡ counted old.exchanges
+  pub exchanges : got_replies (Some end) ≡ true → new.exchanges ≡ counted_up old.exchanges
   pub packets_are : packets ≡ items_kept (Some end) new.last.packets
   pub replies_are : replies ≡ items_kept (Some end) new.last.replies
   pub shows : got_replies (Some end) ≡ true → ShowsEnd end new.last at
@@ -106,7 +106,7 @@ single_shows c last end command single packets one read = by_replies last.replie
 -- what the layer below says of the end of a poll or a command, in one record
 pub record IsEndBelow (e : Option FlightEnd) (old new : BenchReported) (f : FlightState) : Type 0 where
   pub cause : HasFaultCause old.faults new.faults e
-  pub exchanges : got_replies e ≡ true → new.exchanges ≡ counted old.exchanges
+  pub exchanges : got_replies e ≡ true → new.exchanges ≡ counted_up old.exchanges
   pub packets_are : f.packets ≡ items_kept e new.last.packets
   pub replies_are : f.replies ≡ items_kept e new.last.replies
   pub at : f.at ≡ 0

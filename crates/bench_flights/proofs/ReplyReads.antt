@@ -14,7 +14,7 @@ use Rattle.dap_messages.specs.declared.error.MessageError.{MessageError}
 use Rattle.dap_messages.specs.declared.request.Request.{Request}
 use Rattle.dap_messages.specs.declared.request.Response.{Response}
 use Rattle.dap_messages.specs.Responses.{code_of, response_of}
-use Rattle.dap_messages.specs.Rest.{Rest, after, byte_at, bytes_at, end_of, ended, first_byte, number_at, whole}
+use Rattle.dap_messages.specs.Rest.{Rest, bytes_past, byte_at, bytes_at, end_of, at_end, first_byte, number_at, whole}
 use Rattle.dap_messages.specs.Words.{words_in}
 use Rattle.dap_messages.specs.Replies.{TransferProgress, info_least, info_size, may_end, may_end_block, progress_at}
 use Rattle.dap_replies.specs.ReplyViews.{Shown, shown_plain}
@@ -37,8 +37,8 @@ byte_there r x e = byte_there_from r.place r.bytes x e
 status_long : (r : Rest) (s : Shown) → status_at r ≡ Ok s → length r.bytes ≡ 1
 unfolding status_at
 status_long r s e =
-    let b = bind_ok (byte_at r) (λ status. cond (eqb status.0 0) (ended (shown_plain r.bytes) status.1) (Err (BadRequest r.place))) s e in
-    let p = passed (eqb b.0.0 0) (BadRequest r.place) (ended (shown_plain r.bytes) b.0.1) s b.2 in
+    let b = bind_ok (byte_at r) (λ status. cond (eqb status.0 0) (at_end (shown_plain r.bytes) status.1) (Err (BadRequest r.place))) s e in
+    let p = passed (eqb b.0.0 0) (BadRequest r.place) (at_end (shown_plain r.bytes) b.0.1) s b.2 in
     let q = ended_ok_at (shown_plain r.bytes) s b.0.1.place b.0.1.bytes p.1 in
     ap length (byte_there r b.0 b.1 ∙ ap (λ (rest : List ℕ). b.0.0 ∷ rest) q.1)
 
@@ -46,9 +46,9 @@ status_long r s e =
 words_long : (count response number : ℕ) (r : Rest) (s : Shown) → reply_words_at count response number r ≡ Ok s → (length r.bytes ≡ 4 * number) × (s.count ≡ count) × (s.response ≡ response)
 unfolding reply_words_at
 words_long count response number r s e =
-    let b = bind_ok (bytes_at (4 * number) r) (λ bytes. ended (record { count = count; response = response; bytes = bytes.0; words = words_in bytes.0 }) bytes.1) s e in
-    let g = not_refused (ltb (length r.bytes) (4 * number)) (Short (end_of r)) (Ok (take (4 * number) r.bytes, after (4 * number) r)) b.0 b.1 in
-    let made : List ℕ × Rest = (take (4 * number) r.bytes, after (4 * number) r) in
+    let b = bind_ok (bytes_at (4 * number) r) (λ bytes. at_end (record { count = count; response = response; bytes = bytes.0; words = words_in bytes.0 }) bytes.1) s e in
+    let g = not_refused (ltb (length r.bytes) (4 * number)) (Short (end_of r)) (Ok (take (4 * number) r.bytes, bytes_past (4 * number) r)) b.0 b.1 in
+    let made : List ℕ × Rest = (take (4 * number) r.bytes, bytes_past (4 * number) r) in
     let low : 4 * number ≤ length r.bytes = ltb-false _ _ g.0 in
     let q = ended_ok_at (record { count = count; response = response; bytes = b.0.0; words = words_in b.0.0 }) s b.0.1.place b.0.1.bytes b.2 in
     let none : drop (4 * number) r.bytes ≡ [] = ap (λ (x : List ℕ × Rest). x.1.bytes) (ok_is made b.0 g.1) ∙ q.1 in
@@ -130,12 +130,12 @@ block_read_at : (words : ℕ) (r : Rest) (s : Shown) → block_reply_at words r 
 unfolding block_reply_at
 block_read_at words r s e =
     let a = bind_ok (number_at w16 r) (λ count. cond (ltb words count.0) (Err (BadCount r.place))
-    (byte_at count.1 >>= λ code. cond (may_end_block (response_of code.0) count.0 words) (ended (record { count = count.0; response = code.0; bytes = []; words = [] }) code.1) (Err (refused_block (response_of code.0) r.place)))) s e in
+    (byte_at count.1 >>= λ code. cond (may_end_block (response_of code.0) count.0 words) (at_end (record { count = count.0; response = code.0; bytes = []; words = [] }) code.1) (Err (refused_block (response_of code.0) r.place)))) s e in
     let g = not_refused (ltb words a.0.0) (BadCount r.place)
-    (byte_at a.0.1 >>= λ code. cond (may_end_block (response_of code.0) a.0.0 words) (ended (record { count = a.0.0; response = code.0; bytes = []; words = [] }) code.1) (Err (refused_block (response_of code.0) r.place))) s a.2 in
-    let b = bind_ok (byte_at a.0.1) (λ code. cond (may_end_block (response_of code.0) a.0.0 words) (ended (record { count = a.0.0; response = code.0; bytes = []; words = [] }) code.1) (Err (refused_block (response_of code.0) r.place))) s g.1 in
+    (byte_at a.0.1 >>= λ code. cond (may_end_block (response_of code.0) a.0.0 words) (at_end (record { count = a.0.0; response = code.0; bytes = []; words = [] }) code.1) (Err (refused_block (response_of code.0) r.place))) s a.2 in
+    let b = bind_ok (byte_at a.0.1) (λ code. cond (may_end_block (response_of code.0) a.0.0 words) (at_end (record { count = a.0.0; response = code.0; bytes = []; words = [] }) code.1) (Err (refused_block (response_of code.0) r.place))) s g.1 in
     let made : Shown = record { count = a.0.0; response = b.0.0; bytes = []; words = [] } in
-    let p = passed (may_end_block (response_of b.0.0) a.0.0 words) (refused_block (response_of b.0.0) r.place) (ended made b.0.1) s b.2 in
+    let p = passed (may_end_block (response_of b.0.0) a.0.0 words) (refused_block (response_of b.0.0) r.place) (at_end made b.0.1) s b.2 in
     let q = ended_ok_at made s b.0.1.place b.0.1.bytes p.1 in
     record { count = a.0.0; ends = ap (λ (x : Shown). may_end_block (response_of x.response) a.0.0 words) (sym q.0) ∙ p.0 }
 
@@ -159,15 +159,15 @@ info_at : (id : ℕ) (r : Rest) (s : Shown) → info_reply_at id r ≡ Ok s → 
 unfolding info_reply_at
 info_at id r s e =
     let a = bind_ok (byte_at r) (λ size. cond (eqb size.0 (info_size id))
-    (bytes_at (info_size id) size.1 >>= λ bytes. cond (ltb (from_le_bytes w64 bytes.0) (info_least id)) (Err (BadCount size.1.place)) (ended (shown_plain r.bytes) bytes.1)) (Err (BadCount r.place))) s e in
+    (bytes_at (info_size id) size.1 >>= λ bytes. cond (ltb (from_le_bytes w64 bytes.0) (info_least id)) (Err (BadCount size.1.place)) (at_end (shown_plain r.bytes) bytes.1)) (Err (BadCount r.place))) s e in
     let p = passed (eqb a.0.0 (info_size id)) (BadCount r.place)
-    (bytes_at (info_size id) a.0.1 >>= λ bytes. cond (ltb (from_le_bytes w64 bytes.0) (info_least id)) (Err (BadCount a.0.1.place)) (ended (shown_plain r.bytes) bytes.1)) s a.2 in
-    let b = bind_ok (bytes_at (info_size id) a.0.1) (λ bytes. cond (ltb (from_le_bytes w64 bytes.0) (info_least id)) (Err (BadCount a.0.1.place)) (ended (shown_plain r.bytes) bytes.1)) s p.1 in
+    (bytes_at (info_size id) a.0.1 >>= λ bytes. cond (ltb (from_le_bytes w64 bytes.0) (info_least id)) (Err (BadCount a.0.1.place)) (at_end (shown_plain r.bytes) bytes.1)) s a.2 in
+    let b = bind_ok (bytes_at (info_size id) a.0.1) (λ bytes. cond (ltb (from_le_bytes w64 bytes.0) (info_least id)) (Err (BadCount a.0.1.place)) (at_end (shown_plain r.bytes) bytes.1)) s p.1 in
     let n : ℕ = info_size id in
-    let h = not_refused (ltb (length a.0.1.bytes) (info_size id)) (Short (end_of a.0.1)) (Ok (take (info_size id) a.0.1.bytes, after (info_size id) a.0.1)) b.0 b.1 in
-    let made : List ℕ × Rest = (take (info_size id) a.0.1.bytes, after (info_size id) a.0.1) in
+    let h = not_refused (ltb (length a.0.1.bytes) (info_size id)) (Short (end_of a.0.1)) (Ok (take (info_size id) a.0.1.bytes, bytes_past (info_size id) a.0.1)) b.0 b.1 in
+    let made : List ℕ × Rest = (take (info_size id) a.0.1.bytes, bytes_past (info_size id) a.0.1) in
     let low : info_size id ≤ length a.0.1.bytes = ltb-false _ _ h.0 in
-    let g = not_refused (ltb (from_le_bytes w64 b.0.0) (info_least id)) (BadCount a.0.1.place) (ended (shown_plain r.bytes) b.0.1) s b.2 in
+    let g = not_refused (ltb (from_le_bytes w64 b.0.0) (info_least id)) (BadCount a.0.1.place) (at_end (shown_plain r.bytes) b.0.1) s b.2 in
     let q = ended_ok_at (shown_plain r.bytes) s b.0.1.place b.0.1.bytes g.1 in
     let none : drop (info_size id) a.0.1.bytes ≡ [] = ap (λ (x : List ℕ × Rest). x.1.bytes) (ok_is made b.0 h.1) ∙ q.1 in
     let long : length a.0.1.bytes ≡ info_size id = (let short : length a.0.1.bytes - info_size id ≡ 0 = sym (length-drop (info_size id) a.0.1.bytes) ∙ ap length none in omega (arith, low, short)) in

@@ -11,7 +11,7 @@ use Rattle.flight_forms.specs.Flights.{DoesPart}
 use Rattle.flight_forms.proofs.Capacity.{one_fits}
 use Rattle.flight_forms.specs.Packing.{AreWords, IsTaken}
 use Rattle.flight_forms.specs.declared.form.Form.{Form}
-use Rattle.probe_core.specs.Bench.{BenchState, StepsTo, counted}
+use Rattle.probe_core.specs.Bench.{BenchState, StepsTo, counted_up}
 use Rattle.probe_core.specs.Probe.{ExecutorState}
 use Rattle.probe_core.specs.Ranges.{AreLimits}
 use Rattle.probe_core.specs.declared.job.Limits.{Limits}
@@ -52,7 +52,7 @@ nothing_flies p clear = record {
   over = λ e. absurd (cc);
 }
 
-pub counted_few : (m o : BenchState) → o.starting ≡ counted m.starting → SendsFew 1 m o
+pub counted_few : (m o : BenchState) → o.starting ≡ counted_up m.starting → SendsFew 1 m o
 counted_few m o is = record { few = omega (arith, is); counts = λ few. omega (arith, is) }
 
 came_by : (form : Option Form) (accesses : List RegAccess) (values : List (Option ℕ)) (m o : BenchState) → (form ≡ None → accesses ≡ []) → SentBy form accesses None values m o → CanFly m → HasCome accesses values m o

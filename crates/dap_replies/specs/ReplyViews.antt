@@ -19,12 +19,12 @@ abbrev pub shown_plain : List ℕ → Shown
 shown_plain bytes = record { count = 0; response = 0; bytes = bytes; words = words_in bytes }
 
 -- the view of a reply
-abbrev pub shown : ReplyValue → Shown
-shown (Info bytes) = shown_plain (length bytes ∷ bytes)
-shown (Status id status) = shown_plain (status ∷ [])
-shown (Pins pins) = shown_plain (pins ∷ [])
-shown (Transfer count response words) = record { count = count; response = response; bytes = word_bytes words; words = words }
-shown (Block count response) = record { count = count; response = response; bytes = []; words = [] }
+abbrev pub reply_shown : ReplyValue → Shown
+reply_shown (Info bytes) = shown_plain (length bytes ∷ bytes)
+reply_shown (Status id status) = shown_plain (status ∷ [])
+reply_shown (Pins pins) = shown_plain (pins ∷ [])
+reply_shown (Transfer count response words) = record { count = count; response = response; bytes = word_bytes words; words = words }
+reply_shown (Block count response) = record { count = count; response = response; bytes = []; words = [] }
 
 -- The bytes are those of a reply that the command may get, it is in the ranges of a reply, and the view shows it.
 pub record IsReplyTo (command : CommandValue) (bytes : List ℕ) (view : Shown) : Type 0 where
@@ -32,4 +32,4 @@ pub record IsReplyTo (command : CommandValue) (bytes : List ℕ) (view : Shown) 
   pub may : Answers command answer
   pub in_range : IsReply answer
   pub bytes_are : bytes ≡ reply_bytes answer
-  pub shows : view ≡ shown answer
+  pub shows : view ≡ reply_shown answer

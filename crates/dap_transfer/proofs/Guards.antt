@@ -15,7 +15,7 @@ use Rattle.dap_transfer.specs.Wires.{Wire, Matches, item, access_of}
 use Rattle.dap_transfer.specs.State.{Setting, TransferState, Transferred, WireState}
 use Rattle.dap_transfer.specs.Transfer.{RunResult, ending, transferred}
 use Rattle.dap_transfer.specs.ValueMatch.{match_ending, match_ending_as}
-use Rattle.dap_transfer.specs.WireTransfer.{Ending, ends, made, value, value_of}
+use Rattle.dap_transfer.specs.WireTransfer.{Ending, ends, access_made, value, value_of}
 use Rattle.dap_transfer.specs.Private.{first_then, mask_if, request_ran, run, served}
 use Rattle.dap_transfer.specs.CommandEnds.{counted_from}
 use Rattle.dap_transfer.proofs.Counting.{counts_from}
@@ -38,7 +38,7 @@ match_ends : (s : Setting) (l : WireState) (v : ℕ) → ends s l (access_of (dp
 unfolding ends is_free
 match_ends s l v = refl
 
-match_made : (l : WireState) (v : ℕ) → made l (access_of (dpidr_match v)) ≡ l
+match_made : (l : WireState) (v : ℕ) → access_made l (access_of (dpidr_match v)) ≡ l
 unfolding is_free
 match_made l v = λ i. record { target = (reads_dpidr l.target v i).next; number = l.number }
 
@@ -50,7 +50,7 @@ abbrev match_did : Bool → WireState → Ending
 match_did true l = record { response = Good; line = l; count = 1 }
 match_did false l = record { response = Mismatch; line = l; count = 1 }
 
-matches_at : (hit : Bool) (l : WireState) (a : RegAccess) (rest : Ending) → made l a ≡ l → (hit ≡ false → rest ≡ record { response = Mismatch; line = made l a; count = 0 }) →
+matches_at : (hit : Bool) (l : WireState) (a : RegAccess) (rest : Ending) → access_made l a ≡ l → (hit ≡ false → rest ≡ record { response = Mismatch; line = access_made l a; count = 0 }) →
     match_ending_as Good hit l a rest ≡ match_did hit l
 matches_at true l a rest same none = λ i. record { response = Good; line = same i; count = 1 }
 matches_at false l a rest same none =
@@ -60,12 +60,12 @@ did_match : (s : Setting) (l : WireState) (v i mask : ℕ) (hit : Bool) → (hit
     ending s l (item (Matches v) (access_of (dpidr_match v)) i mask) ≡ match_did hit l
 did_match s l v i mask hit no_retry h =
     let a : RegAccess = access_of (dpidr_match v) in
-    let rest : Ending = match_ending s mask v a s.matches (made l a) in
+    let rest : Ending = match_ending s mask v a s.matches (access_made l a) in
     let turns : s.matches + 1 ≡ suc s.matches = omega arith in
     ap (λ n. match_ending s mask v a n l) turns
     ∙ ap (λ r. match_ending_as r (eqb (bit_and (value l a) mask) v) l a rest) (match_ends s l v)
     ∙ ap (λ b. match_ending_as Good b l a rest) (ap (λ x. eqb (bit_and x mask) v) (match_value l v) ∙ h)
-    ∙ matches_at hit l a rest (match_made l v) (λ e. ap (λ n. match_ending s mask v a n (made l a)) (no_retry e))
+    ∙ matches_at hit l a rest (match_made l v) (λ e. ap (λ n. match_ending s mask v a n (access_made l a)) (no_retry e))
 
 abbrev match_ran : Bool → WireState → ℕ → RunResult
 match_ran true l mask = record { response = Good; line = l; words = []; work = 0; written = false; pending = false; executed = 0; mask = 0 }

@@ -20,7 +20,7 @@ use Rattle.dap_transfer.specs.Private.{first_then, mask_if, request_ran, run, se
 use Rattle.dap_transfer.specs.State.{Setting, TransferState, Transferred, WireState, grown}
 use Rattle.dap_transfer.specs.Transfer.{RunResult, transferred}
 use Rattle.dap_transfer.specs.ValueMatch.{has_matched, match_ending, match_ending_as}
-use Rattle.dap_transfer.specs.WireTransfer.{Ending, ends, made, next_number, value, value_of}
+use Rattle.dap_transfer.specs.WireTransfer.{Ending, ends, access_made, next_number, value, value_of}
 use Rattle.dap_transfer.specs.Wires.{Matches, Wire, access_of, item}
 use Rattle.dap_transfer.specs.declared.notes.Notes.{Notes}
 use Rattle.dap_transfer.proofs.Counting.{counts_from}
@@ -62,7 +62,7 @@ ctrl_ends s l v e =
 abbrev line_after : WireState → WireState
 line_after l = record { target = after_read l.target; number = l.number }
 
-ctrl_made : (l : WireState) (v : ℕ) → bank l.target ≡ 0 → made l (ctrl_read v) ≡ line_after l
+ctrl_made : (l : WireState) (v : ℕ) → bank l.target ≡ 0 → access_made l (ctrl_read v) ≡ line_after l
 ctrl_made l v e = λ i. record { target = (reads_ctrl l.target v e i).next; number = cond (bank_free l.target v e i) l.number (next_number l.number) }
 
 ctrl_value : (l : WireState) (v : ℕ) → bank l.target ≡ 0 → value l (ctrl_read v) ≡ ctrl_stat l.target
@@ -90,8 +90,8 @@ match_polls (suc n) s mask w v l e =
     let t : TargetState = l.target in
     let rest = λ (k : WireState). match_ending s mask v (ctrl_read w) n k in
     let hit : Bool = eqb (bit_and (ctrl_stat t) mask) v in
-    ap (λ r. match_ending_as r (eqb (bit_and (value l (ctrl_read w)) mask) v) l (ctrl_read w) (rest (made l (ctrl_read w)))) (ctrl_ends s l w e)
-    ∙ ap (λ c. match_ending_as Good (eqb (bit_and c mask) v) l (ctrl_read w) (rest (made l (ctrl_read w)))) (ctrl_value l w e)
+    ap (λ r. match_ending_as r (eqb (bit_and (value l (ctrl_read w)) mask) v) l (ctrl_read w) (rest (access_made l (ctrl_read w)))) (ctrl_ends s l w e)
+    ∙ ap (λ c. match_ending_as Good (eqb (bit_and c mask) v) l (ctrl_read w) (rest (access_made l (ctrl_read w)))) (ctrl_value l w e)
     ∙ ap (λ k. match_ending_as Good hit l (ctrl_read w) (rest k)) (ctrl_made l w e)
     ∙ ap (λ x. match_ending_as Good hit l (ctrl_read w) x) (match_polls n s mask w v (line_after l) e)
     ∙ one_turn hit l w (polled n mask v (after_read t)) e

@@ -124,9 +124,9 @@ abbrev pub value_matched : TransferState → RegAccess → ℕ → Ending
 value_matched p a requested = match_ending p.setting p.mask requested a (p.setting.matches + 1) p.line
 
 -- the word, where there is one
-abbrev pub given : Option ℕ → List ℕ
-given None = []
-given (Some w) = w ∷ []
+abbrev pub words_given : Option ℕ → List ℕ
+words_given None = []
+words_given (Some w) = w ∷ []
 
 -- what a request answers, by the word of the read before it and by what its own wire transfers answer
 abbrev pub with_own : Option ℕ → Result (Option ℕ) Response → Served

@@ -5,7 +5,7 @@ use Rattle.target_machine.specs.declared.access.RegAccess.{RegAccess}
 use Rattle.dap_messages.specs.declared.request.Response.{Response}
 use Rattle.dap_messages.specs.declared.request.Response.TheVariants.{Good, Mismatch}
 use Rattle.dap_transfer.specs.State.{Setting, WireState}
-use Rattle.dap_transfer.specs.WireTransfer.{Ending, ends, made, reads_dpidr, reads_rdbuff_itself, refused, value}
+use Rattle.dap_transfer.specs.WireTransfer.{Ending, ends, access_made, reads_dpidr, reads_rdbuff_itself, refused, value}
 
 -- one read more was made before
 abbrev pub one_more : Ending → Ending
@@ -13,7 +13,7 @@ one_more d = record d { count = d.count + 1 }
 
 -- the match whose first read ended so, and hit or not; where it missed the rest follows
 abbrev pub match_ending_as : Response → Bool → WireState → RegAccess → Ending → Ending
-match_ending_as Good true l a rest = record { response = Good; line = made l a; count = 1 }
+match_ending_as Good true l a rest = record { response = Good; line = access_made l a; count = 1 }
 match_ending_as Good false l a rest = one_more rest
 match_ending_as r hit l a rest = record { response = r; line = refused l a; count = 0 }
 
@@ -21,7 +21,7 @@ match_ending_as r hit l a rest = record { response = r; line = refused l a; coun
 abbrev pub match_ending : Setting → ℕ → ℕ → RegAccess → ℕ → WireState → Ending
 match_ending s mask requested a zero l = record { response = Mismatch; line = l; count = 0 }
 match_ending s mask requested a (suc n) l =
-    match_ending_as (ends s l a) (bit_and (value l a) mask == requested) l a (match_ending s mask requested a n (made l a))
+    match_ending_as (ends s l a) (bit_and (value l a) mask == requested) l a (match_ending s mask requested a n (access_made l a))
 
 -- whether a read of a value match is work: those of RDBUFF and DPIDR are not
 abbrev pub is_match_work : RegAccess → Bool

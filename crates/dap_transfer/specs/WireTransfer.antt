@@ -26,8 +26,8 @@ ends s l a =
     if l.target.sticky then Fault else Good
 
 -- where it ends well the access is made
-abbrev pub made : WireState → RegAccess → WireState
-made l a = record { target = (attempt l.target a).next; number = number_after l a }
+abbrev pub access_made : WireState → RegAccess → WireState
+access_made l a = record { target = (attempt l.target a).next; number = number_after l a }
 
 -- and else nothing is
 abbrev pub refused : WireState → RegAccess → WireState
@@ -50,7 +50,7 @@ pub record Ending : Type 0 where
 
 -- one wire transfer that ends so
 abbrev pub wire_ending_as : Response → WireState → RegAccess → Ending
-wire_ending_as Good l a = record { response = Good; line = made l a; count = 1 }
+wire_ending_as Good l a = record { response = Good; line = access_made l a; count = 1 }
 wire_ending_as r l a = record { response = r; line = refused l a; count = 0 }
 
 -- how one wire transfer of this access ends

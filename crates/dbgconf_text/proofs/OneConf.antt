@@ -15,7 +15,7 @@ use Rattle.expr_grammar.proofs.OneDivision.{gives_bad, gives_tokens}
 use Rattle.dbgconf_text.specs.declared.conf.ConfItem.{ConfItem}
 use Rattle.dbgconf_text.specs.declared.conf.ConfFault.{ConfFault}
 use Rattle.dbgconf_text.specs.declared.conf.ConfFault.TheVariants.{BadToken, Unexpected, Repeated, OutOfMemory}
-use Rattle.dbgconf_text.specs.Conf.{AnswersText, cut, bad, no_memory, AnswersTokens, Gives, IsConf, IsRepeated, IsRepeatedFirst, IsUnexpectedFirst, ReadsConf, Refuses, has_name, names}
+use Rattle.dbgconf_text.specs.Conf.{AnswersText, cut, bad, no_memory, AnswersTokens, GivesItems, IsConf, IsRepeated, IsRepeatedFirst, IsUnexpectedFirst, ReadsConf, Refuses, has_item, names}
 use Rattle.dbgconf_text.specs.Turns.{token_fault}
 use Rattle.dbgconf_text.proofs.Items.{cancel, one_conf, reads_append, first}
 use Rattle.dbgconf_text.proofs.Turns.{left_at}
@@ -37,10 +37,10 @@ all_false : (x : List ℕ) (before : List ConfItem) (y : ConfItem) (rest : List 
 all_false x [] y rest h = h.0
 all_false x (b ∷ before) y rest h = all_false x before y rest h.1
 
-not_again : (before : List ConfItem) (y : ConfItem) (rest : List ConfItem) → IsDistinct bytes_eq (names (before ++ y ∷ rest)) → has_name before y.name.text ≡ true → ⊥
+not_again : (before : List ConfItem) (y : ConfItem) (rest : List ConfItem) → IsDistinct bytes_eq (names (before ++ y ∷ rest)) → has_item before y.name.text ≡ true → ⊥
 not_again [] y rest d e = absurd cc
 not_again (b ∷ before) y rest d e =
-    elim (or_cases (bytes_eq b.name.text y.name.text) (has_name before y.name.text) e) [
+    elim (or_cases (bytes_eq b.name.text y.name.text) (has_item before y.name.text) e) [
       | inl same ↦ both_ways (bytes_eq b.name.text y.name.text) (all_false b.name.text before y rest (IsDistinct-head bytes_eq b.name.text (names (before ++ y ∷ rest)) d)) same
       | inr later ↦ not_again before y rest (IsDistinct-tail bytes_eq b.name.text (names (before ++ y ∷ rest)) d) later
     ]
@@ -57,21 +57,21 @@ not_repeated ts i conf r is =
     let same : conf ≡ r.before ++ f.item ∷ f.more = one_conf conf (r.before ++ x.0) ts is.reads whole ∙ ap (λ (l : List ConfItem). r.before ++ l) f.made_is in
     let here : r.here ≡ f.n = cons_is r.here f.n (drop (i + 1) ts) (f.e ∷ f.m ∷ f.s ∷ f.rest) f.parts in
     let text : r.here.text ≡ f.item.name.text = ap (λ (k : Lexeme). k.text) here ∙ f.is_name.text_is in
-    not_again r.before f.item f.more (subst (λ (c : List ConfItem). IsDistinct bytes_eq (names c)) same is.distinct) (ap (has_name r.before) (sym text) ∙ r.again)
+    not_again r.before f.item f.more (subst (λ (c : List ConfItem). IsDistinct bytes_eq (names c)) same is.distinct) (ap (has_item r.before) (sym text) ∙ r.again)
 
-gives_by : (ts : List Lexeme) (conf : List ConfItem) (r : Result (List ConfItem) ConfFault) → AnswersTokens ts r → IsConf ts conf → Gives conf r
+gives_by : (ts : List Lexeme) (conf : List ConfItem) (r : Result (List ConfItem) ConfFault) → AnswersTokens ts r → IsConf ts conf → GivesItems conf r
 gives_by ts conf (Ok given) h is = one_conf given conf ts h.reads is.reads
 gives_by ts conf (Err (BadToken at)) h is = absurd h
 gives_by ts conf (Err (Unexpected at)) h is = not_unexpected ts h.0 conf h.1 is.reads
 gives_by ts conf (Err (Repeated at)) h is = not_repeated ts h.0 conf h.1.repeated is
 gives_by ts conf (Err OutOfMemory) h is = tt
 
-pub gives : (text : List ℕ) (ts : List Lexeme) (conf : List ConfItem) (r : Result (List ConfItem) ConfFault) → AnswersText text r → AreTokensOf text ts → IsConf ts conf → Gives conf r
+pub gives : (text : List ℕ) (ts : List Lexeme) (conf : List ConfItem) (r : Result (List ConfItem) ConfFault) → AnswersText text r → AreTokensOf text ts → IsConf ts conf → GivesItems conf r
 gives text ts conf r (cut us others h) are is =
     let same : us ≡ ts = gives_tokens text (Ok us) others ts are in
     gives_by ts conf r (subst (λ (l : List Lexeme). AnswersTokens l r) same h) is
 gives text ts conf r (bad at first_bad e) are is = absurd (gives_tokens text (Err (tokens.BadToken _)) (at, first_bad, refl) ts are)
-gives text ts conf r (no_memory e) are is = subst (Gives conf) (sym e) tt
+gives text ts conf r (no_memory e) are is = subst (GivesItems conf) (sym e) tt
 
 -- ---- a refusal is answered where it is due
 

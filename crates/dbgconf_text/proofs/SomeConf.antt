@@ -10,8 +10,8 @@ use Rattle.expr_grammar.specs.Lexeme.{Lexeme}
 use Rattle.expr_grammar.specs.Refusal.{place_of}
 use Rattle.dbgconf_text.specs.declared.conf.ConfItem.{ConfItem}
 use Rattle.dbgconf_text.specs.declared.conf.ConfFault.TheVariants.{Unexpected, Repeated}
-use Rattle.dbgconf_text.specs.Conf.{IsConf, IsRepeatedFirst, IsUnexpectedFirst, has_name}
-use Rattle.dbgconf_text.specs.Turns.{IsNameAt, IsNext, IsRefusal, Stands, is_mark_of, number_of}
+use Rattle.dbgconf_text.specs.Conf.{IsConf, IsRepeatedFirst, IsUnexpectedFirst, has_item}
+use Rattle.dbgconf_text.specs.Turns.{IsNameAt, IsNext, IsRefusal, Stands, is_mark_of, token_number}
 use Rattle.dbgconf_text.proofs.Turns as turns
 
 get_some : (ts : List Lexeme) (i : ℕ) → i < length ts → (a : Lexeme) × (slice_get ts i ≡ Some a)
@@ -33,20 +33,20 @@ module _ (ts : List Lexeme) (i : ℕ) (conf : List ConfItem) (s : Stands ts i co
   abbrev Turn : Type 0
   Turn = ((item : ConfItem) × IsNext ts i conf item) ⊎ AreRefused ts
 
-  module _ (n : Name) (name : IsNameAt ts i n) (fresh : has_name conf n.text ≡ false) where
-    by_semi : (v : ℕ) → is_mark_of (codes "=") (slice_get ts (i + 1)) ≡ true → number_of (slice_get ts (i + 2)) ≡ Some v → (b : Bool) → is_mark_of (codes ";") (slice_get ts (i + 3)) ≡ b → Turn
+  module _ (n : Name) (name : IsNameAt ts i n) (fresh : has_item conf n.text ≡ false) where
+    by_semi : (v : ℕ) → is_mark_of (codes "=") (slice_get ts (i + 1)) ≡ true → token_number (slice_get ts (i + 2)) ≡ Some v → (b : Bool) → is_mark_of (codes ";") (slice_get ts (i + 3)) ≡ b → Turn
     by_semi v eq num true e = inl (record { name = n; value = v }, turns.next_item ts i conf s n name fresh eq v num e)
     by_semi v eq num false e = inr (unexpected_of ts (place_of ts (i + 3)) (turns.refused_semi ts i conf s n name fresh eq v num (place_of ts (i + 3)) e refl))
 
-    by_number : is_mark_of (codes "=") (slice_get ts (i + 1)) ≡ true → (o : Option ℕ) → number_of (slice_get ts (i + 2)) ≡ o → Turn
+    by_number : is_mark_of (codes "=") (slice_get ts (i + 1)) ≡ true → (o : Option ℕ) → token_number (slice_get ts (i + 2)) ≡ o → Turn
     by_number eq None e = inr (unexpected_of ts (place_of ts (i + 2)) (turns.refused_number ts i conf s n name fresh eq (place_of ts (i + 2)) e refl))
     by_number eq (Some v) e = by_semi v eq e (is_mark_of (codes ";") (slice_get ts (i + 3))) refl
 
     by_equals : (b : Bool) → is_mark_of (codes "=") (slice_get ts (i + 1)) ≡ b → Turn
     by_equals false e = inr (unexpected_of ts (place_of ts (i + 1)) (turns.refused_equals ts i conf s n name fresh (place_of ts (i + 1)) e refl))
-    by_equals true e = by_number e (number_of (slice_get ts (i + 2))) refl
+    by_equals true e = by_number e (token_number (slice_get ts (i + 2))) refl
 
-  by_fresh : (a : Lexeme) → slice_get ts i ≡ Some a → a.kind ≡ kinds.Name → (b : Bool) → has_name conf a.text ≡ b → Turn
+  by_fresh : (a : Lexeme) → slice_get ts i ≡ Some a → a.kind ≡ kinds.Name → (b : Bool) → has_item conf a.text ≡ b → Turn
   by_fresh a at kind true e = inr (repeated_of ts (place_of ts i) (turns.refused_repeated ts i conf s a (place_of ts i) at kind e refl))
   by_fresh a at kind false e =
       let n : Name = record { text = a.text; at = a.at } in
@@ -57,7 +57,7 @@ module _ (ts : List Lexeme) (i : ℕ) (conf : List ConfItem) (s : Stands ts i co
   refuse a at other = inr (unexpected_of ts (place_of ts i) (turns.refused_name ts i conf s a (place_of ts i) at other refl))
 
   by_kind : (a : Lexeme) → slice_get ts i ≡ Some a → (k : TokenKind) → a.kind ≡ k → Turn
-  by_kind a at kinds.Name e = by_fresh a at e (has_name conf a.text) refl
+  by_kind a at kinds.Name e = by_fresh a at e (has_item conf a.text) refl
   by_kind a at kinds.Number e = refuse a at (λ is. let x : kinds.Number ≡ kinds.Name = sym e ∙ is in cc)
   by_kind a at kinds.Text e = refuse a at (λ is. let x : kinds.Text ≡ kinds.Name = sym e ∙ is in cc)
   by_kind a at kinds.Mark e = refuse a at (λ is. let x : kinds.Mark ≡ kinds.Name = sym e ∙ is in cc)

@@ -23,8 +23,8 @@ use Rattle.expr_grammar.specs.Refusal as refusal
 use Rattle.expr_grammar.proofs.Found.{mark_from}
 use Rattle.dbgconf_text.specs.declared.conf.ConfItem.{ConfItem}
 use Rattle.dbgconf_text.specs.declared.conf.ConfFault.TheVariants.{Unexpected, Repeated}
-use Rattle.dbgconf_text.specs.Conf.{IsConf, ReadsConf, has_name, name_of, names, IsRepeated, NoneRepeated}
-use Rattle.dbgconf_text.specs.Turns.{IsNameAt, IsNext, IsRefusal, Stands, is_mark_of, is_number_kind, number_of}
+use Rattle.dbgconf_text.specs.Conf.{IsConf, ReadsConf, has_item, item_name, names, IsRepeated, NoneRepeated}
+use Rattle.dbgconf_text.specs.Turns.{IsNameAt, IsNext, IsRefusal, Stands, is_mark_of, is_number_kind, token_number}
 use Rattle.dbgconf_text.proofs.Items.{unexpected, nothing, after_name, after_equals, after_number, stop_name, stop_equals, stop_number, stop_semi, reads_append, reads_length, one_conf}
 
 -- ---- tokens by their index
@@ -76,32 +76,32 @@ number_kind kinds.Name e = absurd cc
 number_kind kinds.Text e = absurd cc
 number_kind kinds.Mark e = absurd cc
 
-number_by : (k : Lexeme) (v : ℕ) (b : Bool) → is_number_kind k.kind ≡ b → number_of (Some k) ≡ Some v → IsNumber v k
+number_by : (k : Lexeme) (v : ℕ) (b : Bool) → is_number_kind k.kind ≡ b → token_number (Some k) ≡ Some v → IsNumber v k
 number_by k v true is e =
-    let here : number_of (Some k) ≡ number_value k.text = rw is refl in
+    let here : token_number (Some k) ≡ number_value k.text = rw is refl in
     record { kind = number_kind k.kind is; value = sym here ∙ e }
 number_by k v false is e =
-    let here : number_of (Some k) ≡ None = rw is refl in
+    let here : token_number (Some k) ≡ None = rw is refl in
     absurd (none_some v (sym here ∙ e))
 
-pub number_some : (o : Option Lexeme) (v : ℕ) → number_of o ≡ Some v → (k : Lexeme) × (o ≡ Some k) × IsNumber v k
+pub number_some : (o : Option Lexeme) (v : ℕ) → token_number o ≡ Some v → (k : Lexeme) × (o ≡ Some k) × IsNumber v k
 number_some None v e = absurd (none_some v e)
 number_some (Some k) v e = (k, refl, number_by k v (is_number_kind k.kind) refl e)
 
-number_none : (o : Option Lexeme) (k : Lexeme) (v : ℕ) → number_of o ≡ None → o ≡ Some k → IsNumber v k → ⊥
+number_none : (o : Option Lexeme) (k : Lexeme) (v : ℕ) → token_number o ≡ None → o ≡ Some k → IsNumber v k → ⊥
 number_none o k v e is n =
     let kind = n.kind in
-    let at : number_of (Some k) ≡ number_value k.text = rw kind refl in
-    none_some v (sym e ∙ ap number_of is ∙ at ∙ n.value)
+    let at : token_number (Some k) ≡ number_value k.text = rw kind refl in
+    none_some v (sym e ∙ ap token_number is ∙ at ∙ n.value)
 
 -- ---- names that stand before
 
-fresh_here : (ts : List Lexeme) (i : ℕ) (conf : List ConfItem) (a : Lexeme) → Stands ts i conf → slice_get ts i ≡ Some a → has_name conf a.text ≡ false → IsRepeated ts i → ⊥
+fresh_here : (ts : List Lexeme) (i : ℕ) (conf : List ConfItem) (a : Lexeme) → Stands ts i conf → slice_get ts i ≡ Some a → has_item conf a.text ≡ false → IsRepeated ts i → ⊥
 fresh_here ts i conf a s at fresh r =
     let same : r.before ≡ conf = one_conf r.before conf (take i ts) r.reads s.reads in
     let here : r.here ≡ a = same_Some r.here a (sym r.at ∙ at) in
-    let again : has_name conf a.text ≡ true = ap (λ (k : Lexeme). has_name conf k.text) (sym here) ∙ ap (λ (c : List ConfItem). has_name c r.here.text) (sym same) ∙ r.again in
-    both_ways (has_name conf a.text) fresh again
+    let again : has_item conf a.text ≡ true = ap (λ (k : Lexeme). has_item conf k.text) (sym here) ∙ ap (λ (c : List ConfItem). has_item c r.here.text) (sym same) ∙ r.again in
+    both_ways (has_item conf a.text) fresh again
 
 inside : (ts : List Lexeme) (i : ℕ) (conf : List ConfItem) (j : ℕ) → Stands ts i conf → i < j → j < i + 4 → IsRepeated ts j → ⊥
 inside ts i conf j s low high r =
@@ -110,7 +110,7 @@ inside ts i conf j s low high r =
     let b : length (take i ts) ≡ 4 * length conf = reads_length conf (take i ts) s.reads in
     omega (arith, a, b, length-take-le j ts (omega (arith, within)), length-take-le i ts s.within, low, high)
 
-none_until : (ts : List Lexeme) (i : ℕ) (conf : List ConfItem) (a : Lexeme) (k : ℕ) → Stands ts i conf → slice_get ts i ≡ Some a → has_name conf a.text ≡ false → k ≤ i + 4 → NoneRepeated ts k
+none_until : (ts : List Lexeme) (i : ℕ) (conf : List ConfItem) (a : Lexeme) (k : ℕ) → Stands ts i conf → slice_get ts i ≡ Some a → has_item conf a.text ≡ false → k ≤ i + 4 → NoneRepeated ts k
 none_until ts i conf a k s at fresh le = λ j lt r.
     elim (cases_order j i) [
       | inl same ↦ fresh_here ts i conf a s at fresh (subst (IsRepeated ts) same r)
@@ -129,13 +129,13 @@ module _ (ts : List Lexeme) (i : ℕ) (conf : List ConfItem) (s : Stands ts i co
       let n : length (take i ts) + 0 ≡ i = omega (arith, size) in
       (i, record { unexpected = subst (λ (m : ℕ). refusal.IsUnexpected ReadsConf ts m) n u; none = s.none }, place)
 
-  pub refused_repeated : (a : Lexeme) (at : Place) → slice_get ts i ≡ Some a → a.kind ≡ kinds.Name → has_name conf a.text ≡ true → at ≡ place_of ts i → IsRefusal ts (Repeated at)
+  pub refused_repeated : (a : Lexeme) (at : Place) → slice_get ts i ≡ Some a → a.kind ≡ kinds.Name → has_item conf a.text ≡ true → at ≡ place_of ts i → IsRefusal ts (Repeated at)
   refused_repeated a at here kind again place =
       (i, record { repeated = record { before = conf; reads = s.reads; here = a; at = here; is_name = kind; again = again }; none = s.none }, place)
 
-  module _ (n : Name) (name : IsNameAt ts i n) (fresh : has_name conf n.text ≡ false) where
-    fresh_text : has_name conf name.0.text ≡ false
-    fresh_text = ap (has_name conf) name.2.text_is ∙ fresh
+  module _ (n : Name) (name : IsNameAt ts i n) (fresh : has_item conf n.text ≡ false) where
+    fresh_text : has_item conf name.0.text ≡ false
+    fresh_text = ap (has_item conf) name.2.text_is ∙ fresh
 
     pub refused_equals : (at : Place) → is_mark_of (codes "=") (slice_get ts (i + 1)) ≡ false → at ≡ place_of ts (i + 1) → IsRefusal ts (Unexpected at)
     refused_equals at other place =
@@ -156,14 +156,14 @@ module _ (ts : List Lexeme) (i : ℕ) (conf : List ConfItem) (s : Stands ts i co
           let e : drop (i + 1 + 1) ts ≡ drop n2 ts = ap (λ (m : ℕ). drop m ts) (omega (arith, is)) in
           split ts i name.0 name.1 ∙ ap (λ (l : List Lexeme). take i ts ++ name.0 ∷ l) (left_at ts (i + 1) second.0 second.1) ∙ ap (λ (l : List Lexeme). take i ts ++ (name.0 ∷ second.0 ∷ l)) e
 
-      pub refused_number : (at : Place) → number_of (slice_get ts (i + 2)) ≡ None → at ≡ place_of ts (i + 2) → IsRefusal ts (Unexpected at)
+      pub refused_number : (at : Place) → token_number (slice_get ts (i + 2)) ≡ None → at ≡ place_of ts (i + 2) → IsRefusal ts (Unexpected at)
       refused_number at other place =
           let stop = stop_number name.0 second.0 (drop (i + 2) ts) (λ k v is num. number_none (slice_get ts (i + 2)) k v other (at_front ts (i + 2) ∙ is) num) in
           let u = unexpected ts (take i ts) (name.0 ∷ second.0 ∷ []) (drop (i + 2) ts) conf s.reads (two (i + 2) refl) (after_equals n name.0 second.0 name.2 second.2) stop in
           let m : length (take i ts) + 2 ≡ i + 2 = omega (arith, size) in
           (i + 2, record { unexpected = subst (λ (m : ℕ). refusal.IsUnexpected ReadsConf ts m) m u; none = none_until ts i conf name.0 (i + 2) s name.1 fresh_text (omega arith) }, place)
 
-      module _ (v : ℕ) (value : number_of (slice_get ts (i + 2)) ≡ Some v) where
+      module _ (v : ℕ) (value : token_number (slice_get ts (i + 2)) ≡ Some v) where
         third : (k : Lexeme) × (slice_get ts (i + 2) ≡ Some k) × IsNumber v k
         third = number_some (slice_get ts (i + 2)) v value
 
@@ -211,10 +211,10 @@ bytes_eq_equiv = record {
 pub starts : (ts : List Lexeme) (conf : List ConfItem) → conf ≡ [] → Stands ts 0 conf
 starts ts conf is = subst (Stands ts 0) (sym is) (record { within = omega arith; reads = refl; distinct = distinct_nil; none = λ j lt r. absurd (omega (arith, lt)) })
 
-fresh_names : (conf : List ConfItem) (name : List ℕ) → has_name conf name ≡ false → list_any (bytes_eq name) (names conf) ≡ false
+fresh_names : (conf : List ConfItem) (name : List ℕ) → has_item conf name ≡ false → list_any (bytes_eq name) (names conf) ≡ false
 fresh_names [] name e = refl
 fresh_names (x ∷ conf) name e =
-    let two = or_parts (bytes_eq x.name.text name) (has_name conf name) e in
+    let two = or_parts (bytes_eq x.name.text name) (has_item conf name) e in
     or_from (bytes_eq name x.name.text) (list_any (bytes_eq name) (names conf)) (other_text x.name.text name two.0) (fresh_names conf name two.1)
 
 nothing_taken : (n : ℕ) → take {A = Lexeme} n [] ≡ []
@@ -234,11 +234,11 @@ stands_on ts i j conf conf' item s n conf_is j_is =
     let one : ReadsConf four (item ∷ []) = record { left = four; right = []; parts = sym (append-nil four); first = n.item_is; second = refl } in
     let reads : ReadsConf (take i ts ++ four) (conf ++ item ∷ []) = reads_append conf (take i ts) (item ∷ []) four s.reads one in
     let name_at : slice_get ts i ≡ Some n.item_is.name = at_front ts i ∙ head (drop i ts) n.item_is.name (n.item_is.equals ∷ n.item_is.number ∷ n.item_is.semi ∷ []) n.item_is.parts in
-    let fresh : has_name conf n.item_is.name.text ≡ false = ap (has_name conf) n.item_is.is_name.text_is ∙ n.fresh in
+    let fresh : has_item conf n.item_is.name.text ≡ false = ap (has_item conf) n.item_is.is_name.text_is ∙ n.fresh in
     let whole : Stands ts (i + 4) (conf ++ item ∷ []) = record {
       within = n.within;
       reads = subst (λ (l : List Lexeme). ReadsConf l (conf ++ item ∷ [])) (sym (take_further i 4 ts)) reads;
-      distinct = subst (IsDistinct bytes_eq) (sym (map_push name_of conf item)) (IsDistinct-push bytes_eq_equiv (names conf) item.name.text s.distinct (fresh_names conf item.name.text n.fresh));
+      distinct = subst (IsDistinct bytes_eq) (sym (map_push item_name conf item)) (IsDistinct-push bytes_eq_equiv (names conf) item.name.text s.distinct (fresh_names conf item.name.text n.fresh));
       none = none_until ts i conf n.item_is.name (i + 4) s name_at fresh (omega arith);
     } in
     subst (λ (c : List ConfItem). Stands ts j c) (sym conf_is) (subst (λ (k : ℕ). Stands ts k (conf ++ item ∷ [])) (sym j_is) whole) where

@@ -6,7 +6,7 @@ use Rattle.dap_base.specs.declared.text.Place.{Place}
 use Rattle.expr_grammar.specs.Lexeme.{Lexeme}
 use Rattle.dbgconf_text.specs.declared.conf.ConfItem.{ConfItem}
 use Rattle.dbgconf_text.specs.Cuts.{value_of}
-use Rattle.dbgconf_text.specs.Conf.{has_name}
+use Rattle.dbgconf_text.specs.Conf.{has_item}
 use Rattle.dbgconf_text.specs.Replacing.{declares, settings_of, undefined}
 use Rattle.dbgconf_text.specs.Splicing.{first_left, pending}
 
@@ -15,14 +15,14 @@ some_by true v o = refl
 some_by false v o = refl
 
 -- a name has a value where it is one of the list
-value_some : (conf : List ConfItem) (name : List ℕ) → is_some (value_of name (settings_of conf)) ≡ has_name conf name
+value_some : (conf : List ConfItem) (name : List ℕ) → is_some (value_of name (settings_of conf)) ≡ has_item conf name
 value_some [] name = refl
 value_some (item ∷ more) name =
     some_by (bytes_eq item.name.text name) item.value (value_of name (settings_of more)) ∙ ap (λ (b : Bool). bytes_eq item.name.text name || b) (value_some more name)
 
-has_own : (before : List ConfItem) (item : ConfItem) (more : List ConfItem) → has_name (before ++ item ∷ more) item.name.text ≡ true
+has_own : (before : List ConfItem) (item : ConfItem) (more : List ConfItem) → has_item (before ++ item ∷ more) item.name.text ≡ true
 has_own [] item more = let same : bytes_eq item.name.text item.name.text ≡ true = (bytes_decides item.name.text item.name.text).1 refl in rw same refl
-has_own (b ∷ before) item more = either (bytes_eq b.name.text item.name.text) (has_name (before ++ item ∷ more) item.name.text) (has_own before item more) where
+has_own (b ∷ before) item more = either (bytes_eq b.name.text item.name.text) (has_item (before ++ item ∷ more) item.name.text) (has_own before item more) where
   either : (x y : Bool) → y ≡ true → (x || y) ≡ true
   either true y e = refl
   either false y e = e
@@ -35,7 +35,7 @@ go_on : (before conf : List ConfItem) (whole : List ConfItem) (ts : List Lexeme)
 go_on before [] whole ts value e h = refl
 go_on before (item ∷ more) whole ts value e h =
     let rest = go_on (before ++ item ∷ []) more whole ts value (e ∙ sym (append_assoc before (item ∷ []) more)) h in
-    let some : is_some (value_of item.name.text (settings_of whole)) ≡ true = value_some whole item.name.text ∙ ap (λ (c : List ConfItem). has_name c item.name.text) e ∙ has_own before item more in
+    let some : is_some (value_of item.name.text (settings_of whole)) ≡ true = value_some whole item.name.text ∙ ap (λ (c : List ConfItem). has_item c item.name.text) e ∙ has_own before item more in
     ap (λ (o : Option ℕ). cond (is_some o) (Some item.name.at) (first_left value more)) (h item.name.text)
     ∙ one_by (declares false ts item.name.text) (value_of item.name.text (settings_of whole)) item.name.at (first_left value more) (undefined ts more) some rest
 

@@ -21,7 +21,7 @@ use Rattle.dbgconf_text.specs.Cuts.{Setting}
 use Rattle.dbgconf_text.specs.declared.conf.ConfItem.{ConfItem}
 use Rattle.dbgconf_text.specs.Conf.{ReadsConf, names}
 use Rattle.dbgconf_text.specs.Replacing.{settings_of}
-use Rattle.dbgconf_text.specs.Written.{item_bytes, conf_bytes, AreSpelled, AreNames, IsTextOf}
+use Rattle.dbgconf_text.specs.Written.{item_bytes, conf_bytes, AreSpelled, AreNames, IsConfText}
 use Rattle.dbgconf_text.proofs.Numbers.{hex_number}
 use Rattle.expr_grammar.proofs.Local.{size_of_mark, mark_by_first}
 use Rattle.dbgconf_text.proofs.Splice.{equals_front, number_front, pair_of}
@@ -148,7 +148,7 @@ names_by : (conf : List ConfItem) → names conf ≡ map setting_name (settings_
 names_by [] = refl
 names_by (item ∷ more) = ap (λ (l : List (List ℕ)). item.name.text ∷ l) (names_by more)
 
-pub read_again : (conf : List ConfItem) (text : List ℕ) → AreNames conf → text ≡ conf_bytes conf → IsTextOf conf text
+pub read_again : (conf : List ConfItem) (text : List ℕ) → AreNames conf → text ≡ conf_bytes conf → IsConfText conf text
 read_again conf text n e =
     let r = read text conf 0 n.spelled (omega arith) e in
     let same_names : names r.again ≡ names conf = names_by r.again ∙ ap (map setting_name) r.same ∙ sym (names_by conf) in
@@ -160,6 +160,6 @@ read_again conf text n e =
       same = r.same;
     }
 
-pub ok_again : {E : Type 0} (conf : List ConfItem) (r : Result (List ℕ) E) → AreNames conf → IfOk r (λ t. t ≡ conf_bytes conf) → IfOk r (IsTextOf conf)
+pub ok_again : {E : Type 0} (conf : List ConfItem) (r : Result (List ℕ) E) → AreNames conf → IfOk r (λ t. t ≡ conf_bytes conf) → IfOk r (IsConfText conf)
 ok_again conf (Ok text) n e = read_again conf text n e
 ok_again conf (Err x) n e = tt

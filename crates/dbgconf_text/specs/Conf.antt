@@ -29,16 +29,16 @@ ReadsConf ts [] = ts ≡ []
 ReadsConf ts (item ∷ more) = Then (λ front. IsItem item front) (λ rest. ReadsConf rest more) ts
 
 -- the bytes of a name
-abbrev pub name_of : ConfItem → List ℕ
-name_of item = item.name.text
+abbrev pub item_name : ConfItem → List ℕ
+item_name item = item.name.text
 
 -- the names, in order
 abbrev pub names : List ConfItem → List (List ℕ)
-names = map name_of
+names = map item_name
 
 -- whether a name stands in the list
-abbrev pub has_name : List ConfItem → List ℕ → Bool
-has_name conf name = list_any (λ (i : ConfItem). bytes_eq i.name.text name) conf
+abbrev pub has_item : List ConfItem → List ℕ → Bool
+has_item conf name = list_any (λ (i : ConfItem). bytes_eq i.name.text name) conf
 
 -- The token at this index is a name that stands before: all before it is read as names and values, of which one has its name.
 pub record IsRepeated (ts : List Lexeme) (i : ℕ) : Type 0 where
@@ -47,7 +47,7 @@ pub record IsRepeated (ts : List Lexeme) (i : ℕ) : Type 0 where
   pub here : Lexeme
   pub at : slice_get ts i ≡ Some here
   pub is_name : here.kind ≡ kinds.Name
-  pub again : has_name before here.text ≡ true
+  pub again : has_item before here.text ≡ true
 
 -- no name before this index stands before
 abbrev pub NoneRepeated : List Lexeme → ℕ → Type 0
@@ -83,10 +83,10 @@ pub data AnswersText (text : List ℕ) (answer : Result (List ConfItem) ConfFaul
   no_memory : answer ≡ Err OutOfMemory → AnswersText text answer
 
 -- these names and values, unless memory ran out
-abbrev pub Gives : List ConfItem → Result (List ConfItem) ConfFault → Type 0
-Gives conf (Ok given) = given ≡ conf
-Gives conf (Err OutOfMemory) = ⊤
-Gives conf (Err fault) = ⊥
+abbrev pub GivesItems : List ConfItem → Result (List ConfItem) ConfFault → Type 0
+GivesItems conf (Ok given) = given ≡ conf
+GivesItems conf (Err OutOfMemory) = ⊤
+GivesItems conf (Err fault) = ⊥
 
 -- this fault, unless memory ran out
 abbrev pub Refuses : ConfFault → Result (List ConfItem) ConfFault → Type 0

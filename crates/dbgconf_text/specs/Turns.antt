@@ -14,7 +14,7 @@ use Rattle.dbgconf_text.specs.declared.conf.ConfFault.{ConfFault}
 use Rattle.dbgconf_text.specs.declared.conf.ConfFault.TheVariants.{BadToken, OutOfMemory}
 use Rattle.expr_grammar.specs.declared.token_list.TokenError.{TokenError}
 use Rattle.expr_grammar.specs.declared.token_list.TokenError.TheVariants as tokens
-use Rattle.dbgconf_text.specs.Conf.{AnswersTokens, IsItem, NoneRepeated, ReadsConf, has_name, names}
+use Rattle.dbgconf_text.specs.Conf.{AnswersTokens, IsItem, NoneRepeated, ReadsConf, has_item, names}
 
 -- ---- tokens by their index
 
@@ -29,9 +29,9 @@ is_number_kind kinds.Number = true
 is_number_kind _ = false
 
 -- the number that the token is, if there is one
-abbrev pub number_of : Option Lexeme → Option ℕ
-number_of None = None
-number_of (Some k) = if is_number_kind k.kind then number_value k.text else None
+abbrev pub token_number : Option Lexeme → Option ℕ
+token_number None = None
+token_number (Some k) = if is_number_kind k.kind then number_value k.text else None
 
 -- the token at this index is this name
 abbrev pub IsNameAt : List Lexeme → ℕ → Name → Type 0
@@ -50,7 +50,7 @@ pub record Stands (ts : List Lexeme) (i : ℕ) (conf : List ConfItem) : Type 0 w
 pub record IsNext (ts : List Lexeme) (i : ℕ) (conf : List ConfItem) (item : ConfItem) : Type 0 where
   pub within : i + 4 ≤ length ts
   pub item_is : IsItem item (take 4 (drop i ts))
-  pub fresh : has_name conf item.name.text ≡ false
+  pub fresh : has_item conf item.name.text ≡ false
 
 -- what is answered where nothing is read
 abbrev pub IsRefusal : List Lexeme → ConfFault → Type 0

@@ -29,7 +29,7 @@ pub record AreNames (conf : List ConfItem) : Type 0 where
   pub distinct : IsDistinct bytes_eq (names conf)
 
 -- The text is that of these names and values: what is read from it are the same, at other places.
-pub record IsTextOf (conf : List ConfItem) (text : List ℕ) : Type 0 where
+pub record IsConfText (conf : List ConfItem) (text : List ℕ) : Type 0 where
   pub tokens : List Lexeme
   pub again : List ConfItem
   pub are : AreTokensOf text tokens

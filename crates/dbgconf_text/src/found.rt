@@ -1,6 +1,6 @@
 //! Names and values that were read so far.
 ghost use Rattle.std.specs.Prelude.{◌≡◌, ◌++◌, ◌∷◌, [], IfOk};
-ghost use Rattle.dbgconf_text.specs.Conf.{has_name};
+ghost use Rattle.dbgconf_text.specs.Conf.{has_item};
 
 use crate::conf::{Conf, ConfItem};
 use crate::values::Values;
@@ -40,7 +40,7 @@ impl Found {
 
     // Whether the name stands among them.
     pub fn has(&self, name: &str) -> bool
-        ensures { result ≡ has_name self.now name.now }
+        ensures { result ≡ has_item self.now name.now }
     {
         self.values.has(name)
     }

@@ -2,7 +2,7 @@
 ghost use Rattle.std.specs.Prelude.{◌≡◌, ◌∷◌, [], codes, slice_get};
 ghost use Rattle.expr_grammar.specs.Lexeme.{lexeme};
 ghost use Rattle.expr_grammar.specs.Reading as reading;
-ghost use Rattle.dbgconf_text.specs.Turns.{is_mark_of, number_of};
+ghost use Rattle.dbgconf_text.specs.Turns.{is_mark_of, token_number};
 
 use dap_base::number;
 use expr_grammar::{Token, TokenKind, Tokens};
@@ -42,7 +42,7 @@ pub fn is_mark_at(tokens: &Tokens<'_>, index: usize, mark: u8) -> bool
 
 // The number that the token at this index is, if there is one.
 pub fn number_at(tokens: &Tokens<'_>, index: usize) -> Option<u64>
-    ensures { result ≡ number_of (slice_get tokens.now index) }
+    ensures { result ≡ token_number (slice_get tokens.now index) }
 {
     match tokens.get(index) {
         Some(token) => match token.kind {

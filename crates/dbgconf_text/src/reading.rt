@@ -3,7 +3,7 @@ ghost use Rattle.std.specs.Prelude.{◌≡◌, ◌^◌, ◌<◌, ℕ, IfErr, IfO
 ghost use Rattle.expr_grammar.specs.Lexeme.{Lexeme};
 ghost use Rattle.expr_grammar.specs.Lexing.{AreTokensOf, IsFirstBad, place_at};
 ghost use Rattle.expr_grammar.specs.Refusal.{place_of};
-ghost use Rattle.dbgconf_text.specs.Conf.{AnswersText, AnswersTokens, Gives, IsConf, IsRepeatedFirst, IsUnexpectedFirst, Refuses, has_name};
+ghost use Rattle.dbgconf_text.specs.Conf.{AnswersText, AnswersTokens, GivesItems, IsConf, IsRepeatedFirst, IsUnexpectedFirst, Refuses, has_item};
 ghost use Rattle.dbgconf_text.specs.Written.{AreNames};
 ghost use Rattle.dbgconf_text.specs.Turns.{IsNameAt, IsNext, IsRefusal, Stands, token_fault};
 
@@ -24,7 +24,7 @@ fn read_name(
     requires stands { Stands tokens.now index found.now }
     requires here { index < length tokens.now }
     ensures name { IfOk result (IsNameAt tokens.now index) }
-    ensures fresh { IfOk result (λ n. has_name found.now n.text ≡ false) }
+    ensures fresh { IfOk result (λ n. has_item found.now n.text ≡ false) }
     ensures refused { IfErr result (IsRefusal tokens.now) }
 {
     let Some(token) = tokens.get(index) else {
@@ -110,7 +110,7 @@ fn read_text(alloc: Global, text: &str) -> Result<Conf, ConfFault>
 pub fn conf_of(alloc: Global, text: &str) -> Result<Conf, ConfFault>
     ensures answer { AnswersText text.now result }
     ensures names { IfOk result AreNames }
-    ensures only { (ts : List Lexeme) (conf : List ConfItem) → AreTokensOf text.now ts → IsConf ts conf → Gives conf result }
+    ensures only { (ts : List Lexeme) (conf : List ConfItem) → AreTokensOf text.now ts → IsConf ts conf → GivesItems conf result }
     ensures only_bad { (at : ℕ) → IsFirstBad text.now at → Refuses (ConfFault.BadToken (place_at text.now at)) result }
     ensures only_unexpected { (ts : List Lexeme) (i : ℕ) → AreTokensOf text.now ts → IsUnexpectedFirst ts i
         → Refuses (ConfFault.Unexpected (place_of ts i)) result }

@@ -1,6 +1,6 @@
 //! Names and values written as a text.
 ghost use Rattle.std.specs.Prelude.{◌≡◌, ◌++◌, IfOk, OnOk, string_bytes};
-ghost use Rattle.dbgconf_text.specs.Written.{AreNames, IsTextOf, conf_bytes, item_bytes};
+ghost use Rattle.dbgconf_text.specs.Written.{AreNames, IsConfText, conf_bytes, item_bytes};
 
 use crate::appending::{append, append_hex};
 use crate::conf::{Conf, ConfItem};
@@ -34,7 +34,7 @@ fn write_items(alloc: Global, conf: &[ConfItem]) -> Result<NameText, OutOfMemory
 pub fn conf_text(alloc: Global, conf: &Conf) -> Result<NameText, OutOfMemory>
     requires { AreNames conf.now }
     ensures text { IfOk result (λ t. t ≡ conf_bytes conf.now) }
-    ensures again { IfOk result (IsTextOf conf.now) }
+    ensures again { IfOk result (IsConfText conf.now) }
 {
     write_items(alloc, conf.as_slice())
 }

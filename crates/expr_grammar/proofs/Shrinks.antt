@@ -13,7 +13,7 @@ use Rattle.expr_grammar.specs.Tree.{Tree, ArgTree, ArgTrees, StmtTree}
 use Rattle.dap_base.specs.Number.{number_value}
 use Rattle.expr_grammar.specs.Lexeme.{Lexeme}
 use Rattle.expr_grammar.specs.Grammar.{level}
-use Rattle.expr_grammar.specs.Reading.{Front, Made, name_of, Aim, Whole, Choice, Level, Climb, Operand, Arguments, Further, Statements, is_mark, is_text_kind, is_name_kind, unary_of, binary_of, between_quotes, expect, name_first, numbered, quoted, grouped, marked, called, named, operand_by, climb_by, asked, set_to, assigned, argument, arguments, closed, further, declared, plain, statement, statements, step, whole, choice, at_level, climb, operand}
+use Rattle.expr_grammar.specs.Reading.{Front, Made, name_of, Aim, Whole, Choice, Level, Climb, Operand, Arguments, Further, Statements, is_mark, is_text_kind, is_name_kind, unary_of, binary_of, between_quotes, expect, name_first, number_read, quoted, grouped, marked, called, named, operand_by, climb_by, asked, set_to, assigned, argument, arguments, closed, further, declared, plain, statement, statements, step, whole, choice, at_level, climb, operand}
 use Rattle.dap_base.specs.Outcome.{◌>>=◌}
 
 pub bind_ok : {A B : Type 0} (r : Result A ℕ) (f : A → Result B ℕ) (y : B) → (r >>= f) ≡ Ok y → (x : A) × (r ≡ Ok x) × (f x ≡ Ok y)
@@ -90,7 +90,7 @@ module _ (n : ℕ) (p : (aim : Aim) → List Lexeme → Front (Made aim)) (h : S
   marked_shrinks (Some op) k ts x lt e = omega (arith, unary_shrinks op ts x lt e)
   marked_shrinks None k ts x lt e = omega (arith, grouped_shrinks ts x lt (cond_shrinks (bytes_eq k.text (codes "(")) (grouped p ts) (suc (length ts)) x e))
 
-  pub numbered_shrinks : (o : Option ℕ) (ts : List Lexeme) (x : Tree × List Lexeme) → numbered o ts ≡ Ok x → length x.1 < suc (length ts)
+  pub numbered_shrinks : (o : Option ℕ) (ts : List Lexeme) (x : Tree × List Lexeme) → number_read o ts ≡ Ok x → length x.1 < suc (length ts)
   numbered_shrinks None ts x e = absurd cc
   numbered_shrinks (Some v) ts x e = omega (arith, ap length (ap_rest (t.Number v) ts x e))
 

@@ -11,7 +11,7 @@ use Rattle.expr_grammar.specs.Lexeme.{Lexeme}
 use Rattle.expr_grammar.specs.Reading.{Front, all_of, is_mark, read, whole, statements}
 use Rattle.expr_grammar.specs.Tree.{Tree, StmtTree}
 use Rattle.expr_grammar.specs.Grammar.{ReadsCode, ReadsExpr}
-use Rattle.expr_grammar.specs.Refusal.{Begins, IsDeep, NoneDeepBefore, IsOneTooMany, token, parenthesis, counted_with_next, open_after, place_of, IsAccepted, IsUnexpectedFirst, IsDeepFirst, Answers}
+use Rattle.expr_grammar.specs.Refusal.{Begins, IsDeep, NoneDeepBefore, IsOneTooMany, token, parenthesis, counted_with_next, open_after, place_of, IsAccepted, IsUnexpectedFirst, IsDeepFirst, AnswersParse}
 use Rattle.expr_grammar.proofs.Found.{mark_from}
 use Rattle.expr_grammar.proofs.Levels.{mark_is}
 use Rattle.expr_grammar.proofs.Outcome.{Outcome}
@@ -94,11 +94,11 @@ module _ {X : Type 0} (R : List Lexeme → X → Type 0) (f : List Lexeme → Fr
   abbrev itself : X → X
   itself x = x
 
-  ok_by : (l : ℕ) (x : X) (b : Bool) → Answers itself R span ts (cond b (Ok x) (Err (TooDeep (place_of ts l)))) → Parsed R span ts
+  ok_by : (l : ℕ) (x : X) (b : Bool) → AnswersParse itself R span ts (cond b (Ok x) (Err (TooDeep (place_of ts l)))) → Parsed R span ts
   ok_by l x true a = inl (x, a)
   ok_by l x false a = inr (inr (a.0, a.1))
 
-  err_by : (l k : ℕ) (b : Bool) → Answers itself R span ts (cond b (Err (TooDeep (place_of ts l))) (Err (Unexpected (place_of ts (l - k))))) → Parsed R span ts
+  err_by : (l k : ℕ) (b : Bool) → AnswersParse itself R span ts (cond b (Err (TooDeep (place_of ts l))) (Err (Unexpected (place_of ts (l - k))))) → Parsed R span ts
   err_by l k true a = inr (inr (a.0, a.1))
   err_by l k false a = inr (inl (a.0, a.1))
 

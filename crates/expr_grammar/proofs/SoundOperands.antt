@@ -12,7 +12,7 @@ use Rattle.expr_grammar.specs.Lexeme.{Lexeme}
 use Rattle.expr_grammar.specs.Tree as t
 use Rattle.expr_grammar.specs.Tree.{Tree, ArgTree, ArgTrees, StmtTree}
 use Rattle.expr_grammar.specs.Grammar.{unary_text, IsMark, Single, Ended, Reads, ReadsArgs}
-use Rattle.expr_grammar.specs.Reading.{Read, Aim, Whole, Operand, Arguments, is_mark, unary_of, name_of, expect, numbered, grouped, marked, called, named, operand_by, read, operand}
+use Rattle.expr_grammar.specs.Reading.{Read, Aim, Whole, Operand, Arguments, is_mark, unary_of, name_of, expect, number_read, grouped, marked, called, named, operand_by, read, operand}
 use Rattle.dap_base.specs.Outcome.{◌>>=◌}
 use Rattle.expr_grammar.specs.Refusal.{Begins}
 use Rattle.expr_grammar.proofs.Found.{mark_from, unary_found}
@@ -54,7 +54,7 @@ module _ (n : ℕ) (H : (aim : Aim) (ts : List Lexeme) → length ts < n → Law
   pub operand_refused : (k : Lexeme) (ts : List Lexeme) → ((us : List Lexeme) → operand read (k ∷ us) ≡ Err (suc (length us))) → Operands (k ∷ ts) (Err (suc (length ts)))
   operand_refused k ts h = refused (Reads 12) (Viable 12) (operand read) (k ∷ ts) (viable_nothing 12 (omega arith)) (by_head (λ us. operand read us ≡ Err (length us)) k ts h)
 
-  pub number_law : (k : Lexeme) (ts : List Lexeme) → k.kind ≡ kinds.Number → (o : Option ℕ) → number_value k.text ≡ o → Operands (k ∷ ts) (numbered o ts)
+  pub number_law : (k : Lexeme) (ts : List Lexeme) → k.kind ≡ kinds.Number → (o : Option ℕ) → number_value k.text ≡ o → Operands (k ∷ ts) (number_read o ts)
   unfolding operand
   number_law k ts is None o_is = operand_refused k ts (λ us. rw (is, o_is) refl)
   number_law k ts is (Some v) o_is =

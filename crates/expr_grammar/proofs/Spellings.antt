@@ -6,18 +6,18 @@ use Rattle.expr_grammar.specs.Lexeme.{Lexeme}
 use Rattle.expr_grammar.specs.Tree as t
 use Rattle.expr_grammar.specs.Tree.{Tree, ArgTree, ArgTrees, StmtTree}
 use Rattle.expr_grammar.specs.Grammar.{IsMark, IsName, IsNumber, IsString, Reads, ReadsArg, ReadsArgs, ReadsMore, ReadsStmt, ReadsCode}
-use Rattle.expr_grammar.specs.Alike.{Alike, same_text, same_number, AllAlike}
+use Rattle.expr_grammar.specs.Alike.{AlikeTokens, same_text, same_number, AllAlike}
 
-mark_alike : (text : List ℕ) (a b : Lexeme) → IsMark text a → IsMark text b → Alike a b
+mark_alike : (text : List ℕ) (a b : Lexeme) → IsMark text a → IsMark text b → AlikeTokens a b
 mark_alike text a b p q = same_text (p.kind ∙ sym q.kind) (p.text_is ∙ sym q.text_is)
 
-name_alike : (n : Name) (a b : Lexeme) → IsName n a → IsName n b → Alike a b
+name_alike : (n : Name) (a b : Lexeme) → IsName n a → IsName n b → AlikeTokens a b
 name_alike n a b p q = same_text (p.kind ∙ sym q.kind) (p.text_is ∙ sym q.text_is)
 
-number_alike : (n : ℕ) (a b : Lexeme) → IsNumber n a → IsNumber n b → Alike a b
+number_alike : (n : ℕ) (a b : Lexeme) → IsNumber n a → IsNumber n b → AlikeTokens a b
 number_alike n a b p q = same_number p.kind q.kind (p.value ∙ sym q.value)
 
-string_alike : (s : string.TextArg) (a b : Lexeme) → IsString s a → IsString s b → Alike a b
+string_alike : (s : string.TextArg) (a b : Lexeme) → IsString s a → IsString s b → AlikeTokens a b
 string_alike s a b p q = same_text (p.kind ∙ sym q.kind) (p.text_is ∙ sym q.text_is)
 
 both : (a b c d : List Lexeme) → AllAlike a b → AllAlike c d → AllAlike (a ++ c) (b ++ d)

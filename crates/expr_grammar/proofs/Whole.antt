@@ -10,10 +10,10 @@ use Rattle.expr_grammar.specs.declared.limit.Span.{Span}
 use Rattle.expr_grammar.specs.declared.parse.ParseError.{ParseError}
 use Rattle.expr_grammar.specs.declared.parse.ParseError.TheVariants.{Unexpected, TooDeep, OutOfMemory}
 use Rattle.expr_grammar.specs.Lexeme.{Lexeme}
-use Rattle.expr_grammar.specs.Reading.{Front, Gives, all_of}
+use Rattle.expr_grammar.specs.Reading.{Front, GivesReading, all_of}
 use Rattle.dap_base.specs.Outcome.{◌>>=◌}
-use Rattle.expr_grammar.specs.Refusal.{Begins, IsUnexpected, IsDeep, NoneDeepBefore, place_of, IsAccepted, IsUnexpectedFirst, IsDeepFirst, Answers, Accepts, Refuses}
-use Rattle.expr_grammar.specs.Counting.{answered}
+use Rattle.expr_grammar.specs.Refusal.{Begins, IsUnexpected, IsDeep, NoneDeepBefore, place_of, IsAccepted, IsUnexpectedFirst, IsDeepFirst, AnswersParse, Accepts, Refuses}
+use Rattle.expr_grammar.specs.Counting.{limited_answer}
 use Rattle.expr_grammar.proofs.Shrinks.{ok_is}
 use Rattle.expr_grammar.proofs.Outcome.{SameHead, Outcome}
 
@@ -156,10 +156,10 @@ module _ {X : Type 0} (R : List Lexeme → X → Type 0) (f : List Lexeme → Fr
     fewer : (i : ℕ) → i ≤ limit → NoneDeepBefore span ts i
     fewer i le j lt d = none j (omega (arith, lt, le)) d
 
-    at_limit : Begins R front → limit < length ts → Answers view R span ts (Err (TooDeep (place_of ts limit)))
+    at_limit : Begins R front → limit < length ts → AnswersParse view R span ts (Err (TooDeep (place_of ts limit)))
     at_limit b less = (limit, record { deep = deep less; first = none; begins = subst (Begins R) is_front b }, refl)
 
-    ok_by : (v : V) → all_of f front ≡ Ok (view v) → (b : Bool) → eqb limit (length ts) ≡ b → Answers view R span ts (cond b (Ok v) (Err (TooDeep (place_of ts limit))))
+    ok_by : (v : V) → all_of f front ≡ Ok (view v) → (b : Bool) → eqb limit (length ts) ≡ b → AnswersParse view R span ts (cond b (Ok v) (Err (TooDeep (place_of ts limit))))
     ok_by v got true is =
         let all : limit ≡ length ts = eqb-true limit (length ts) is in
         record { reads = subst (λ (l : List Lexeme). R l (view v)) (front_all all) ((all_whole front).ok (view v) got); none_deep = fewer (length ts) (omega (arith, all)) }
@@ -167,7 +167,7 @@ module _ {X : Type 0} (R : List Lexeme → X → Type 0) (f : List Lexeme → Fr
         let less : limit < length ts = elim (cases_lt limit (length ts)) [ inl lt ↦ lt | inr ge ↦ absurd (eqb-false limit (length ts) is (omega (arith, ge, within))) ] in
         at_limit (record { more = []; made = view v; is = subst (λ (l : List Lexeme). R l (view v)) (sym (append-nil front)) ((all_whole front).ok (view v) got) }) less
 
-    unexpected : (left : ℕ) → all_of f front ≡ Err left → ((0 < left) ⊎ (limit ≡ length ts)) → Answers view R span ts (Err (Unexpected (place_of ts (limit - left))))
+    unexpected : (left : ℕ) → all_of f front ≡ Err left → ((0 < left) ⊎ (limit ≡ length ts)) → AnswersParse view R span ts (Err (Unexpected (place_of ts (limit - left))))
     unexpected left got which =
         let u : IsUnexpected R front (length front - left) = (all_whole front).err left got in
         let most : left ≤ length front = (all_whole front).most left got in
@@ -192,7 +192,7 @@ module _ {X : Type 0} (R : List Lexeme → X → Type 0) (f : List Lexeme → Fr
             past_end {j} d ge = absurd (omega (arith, ge, ap length d.parts, length-append d.before (d.here ∷ d.after), d.index))
 
     err_by : (left : ℕ) → all_of f front ≡ Err left → (b : Bool) → (eqb left 0 && ltb limit (length ts)) ≡ b
-        → Answers view R span ts (cond b (Err (TooDeep (place_of ts limit))) (Err (Unexpected (place_of ts (limit - left)))))
+        → AnswersParse view R span ts (cond b (Err (TooDeep (place_of ts limit))) (Err (Unexpected (place_of ts (limit - left)))))
     err_by left got true is =
         let two = and_parts (eqb left 0) (ltb limit (length ts)) is in
         let zero_is : left ≡ 0 = eqb-true left 0 two.0 in
@@ -208,7 +208,7 @@ module _ {X : Type 0} (R : List Lexeme → X → Type 0) (f : List Lexeme → Fr
           pos_by zero e = absurd (eqb-false 0 0 e refl)
           pos_by (suc n) e = omega arith
 
-    pub answers : (r : Result V Fault) → Gives view r (all_of f front) → Answers view R span ts (answered r ts limit)
+    pub answers : (r : Result V Fault) → GivesReading view r (all_of f front) → AnswersParse view R span ts (limited_answer r ts limit)
     answers (Ok v) got = ok_by v got (eqb limit (length ts)) refl
     answers (Err faults.Memory) got = tt
     answers (Err (faults.Unexpected left)) got = err_by left got (eqb left 0 && ltb limit (length ts)) refl
@@ -228,13 +228,13 @@ module _ {X : Type 0} (R : List Lexeme → X → Type 0) (f : List Lexeme → Fr
           | inr ge ↦ elim (cases_lt j i) [ inl gt ↦ absurd (begins_at j (omega (arith, gt, u.within)) v i gt u.begins) | inr le ↦ omega (arith, ge, le) ]
         ]
 
-    pub only_value : (r : Result V ParseError) → Answers view R span ts r → (x : X) → IsAccepted R span ts x → Accepts view x r
+    pub only_value : (r : Result V ParseError) → AnswersParse view R span ts r → (x : X) → IsAccepted R span ts x → Accepts view x r
     only_value (Ok v) a x r = one ts (view v) x a.reads r.reads
     only_value (Err OutOfMemory) a x r = tt
     only_value (Err (Unexpected at)) a x r = no_unexpected ts a.0 a.1.unexpected x r.reads
     only_value (Err (TooDeep at)) a x r = r.none_deep a.0 (deep_within ts a.0 a.1.deep) a.1.deep
 
-    pub only_unexpected : (r : Result V ParseError) → Answers view R span ts r → (i : ℕ) → IsUnexpectedFirst R span ts i → Refuses (Unexpected (place_of ts i)) r
+    pub only_unexpected : (r : Result V ParseError) → AnswersParse view R span ts r → (i : ℕ) → IsUnexpectedFirst R span ts i → Refuses (Unexpected (place_of ts i)) r
     only_unexpected (Ok v) a i u = no_unexpected ts i u.unexpected (view v) a.reads
     only_unexpected (Err OutOfMemory) a i u = tt
     only_unexpected (Err (Unexpected at)) a i u = ap (λ (p : Place). Unexpected p) (a.2 ∙ ap (place_of ts) (one_unexpected a.0 i a.1.unexpected u.unexpected))
@@ -242,7 +242,7 @@ module _ {X : Type 0} (R : List Lexeme → X → Type 0) (f : List Lexeme → Fr
         let within = deep_within ts a.0 a.1.deep in
         elim (cases_lt a.0 (i + 1)) [ inl lt ↦ absurd (u.none_deep a.0 lt a.1.deep) | inr ge ↦ absurd (begins_at i (omega (arith, ge, within)) u.unexpected a.0 (omega (arith, ge)) a.1.begins) ]
 
-    pub only_too_deep : (r : Result V ParseError) → Answers view R span ts r → (i : ℕ) → IsDeepFirst R span ts i → Refuses (TooDeep (place_of ts i)) r
+    pub only_too_deep : (r : Result V ParseError) → AnswersParse view R span ts r → (i : ℕ) → IsDeepFirst R span ts i → Refuses (TooDeep (place_of ts i)) r
     only_too_deep (Ok v) a i d = a.none_deep i (deep_within ts i d.deep) d.deep
     only_too_deep (Err OutOfMemory) a i d = tt
     only_too_deep (Err (Unexpected at)) a i d =

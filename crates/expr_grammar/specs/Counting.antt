@@ -44,9 +44,9 @@ abbrev pub with_token : Span → Count → Lexeme → Count
 with_token span count k = if ends span k then nothing_counted else counted count k
 
 -- the answer, from what was read of the tokens before the limit
-abbrev pub answered : {V : Type 0} → Result V Fault → List Lexeme → ℕ → Result V ParseError
-answered (Ok v) ts limit = if limit == length ts then Ok v else Err (TooDeep (place_of ts limit))
-answered (Err faults.Memory) ts limit = Err OutOfMemory
-answered (Err (faults.Unexpected left)) ts limit =
+abbrev pub limited_answer : {V : Type 0} → Result V Fault → List Lexeme → ℕ → Result V ParseError
+limited_answer (Ok v) ts limit = if limit == length ts then Ok v else Err (TooDeep (place_of ts limit))
+limited_answer (Err faults.Memory) ts limit = Err OutOfMemory
+limited_answer (Err (faults.Unexpected left)) ts limit =
     if left == 0 && nat_lt limit (length ts) then Err (TooDeep (place_of ts limit))
     else Err (Unexpected (place_of ts (limit - left)))

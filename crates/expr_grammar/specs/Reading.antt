@@ -25,9 +25,9 @@ Fails faults.Memory read = ⊤
 Fails (faults.Unexpected left) read = read ≡ Err left
 
 -- What a function returned, seen by view, is what reading gives, unless memory ran out.
-abbrev pub Gives : {X Y : Type 0} → (X → Y) → Result X Fault → Result Y ℕ → Type 0
-Gives view (Ok x) read = read ≡ Ok (view x)
-Gives view (Err e) read = Fails e read
+abbrev pub GivesReading : {X Y : Type 0} → (X → Y) → Result X Fault → Result Y ℕ → Type 0
+GivesReading view (Ok x) read = read ≡ Ok (view x)
+GivesReading view (Err e) read = Fails e read
 
 -- what is read from the front, and the tokens that are left
 abbrev pub Front : Type 0 → Type 0
@@ -156,9 +156,9 @@ name_first [] = Err 0
 name_first (k ∷ ts) = if is_name_kind k.kind then Ok (name_of k, ts) else Err (suc (length ts))
 
 -- a number, if the text has a value
-abbrev pub numbered : Option ℕ → List Lexeme → Read
-numbered None ts = Err (suc (length ts))
-numbered (Some n) ts = Ok (Number n, ts)
+abbrev pub number_read : Option ℕ → List Lexeme → Read
+number_read None ts = Err (suc (length ts))
+number_read (Some n) ts = Ok (Number n, ts)
 
 -- a string, if the text has quotes
 abbrev pub quoted : Option (List ℕ) → Place → List Lexeme → Front ArgTree
@@ -201,7 +201,7 @@ module _ (p : (aim : Aim) → List Lexeme → Front (Made aim)) where
 
   -- an operand, by the kind of its first token
   abbrev pub operand_by : TokenKind → Lexeme → List Lexeme → Read
-  operand_by kinds.Number k ts = numbered (number_value k.text) ts
+  operand_by kinds.Number k ts = number_read (number_value k.text) ts
   operand_by kinds.Name k ts = named (name_of k) ts
   operand_by kinds.Text k ts = Err (suc (length ts))
   operand_by kinds.Mark k ts = marked (unary_of k.text) k ts

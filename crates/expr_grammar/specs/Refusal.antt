@@ -88,11 +88,11 @@ pub record IsDeepFirst {X : Type 0} (R : List Lexeme → X → Type 0) (span : S
 -- What a parser answers. R reads lists of tokens, `view` gives what a value of the program stands for.
 module _ {V X : Type 0} (view : V → X) (R : List Lexeme → X → Type 0) (span : Span) (ts : List Lexeme) where
   -- the tree of the tokens, the first token that is unexpected or too deep, or that memory ran out
-  abbrev pub Answers : Result V ParseError → Type 0
-  Answers (Ok v) = IsAccepted R span ts (view v)
-  Answers (Err (Unexpected at)) = (i : ℕ) × IsUnexpectedFirst R span ts i × (at ≡ place_of ts i)
-  Answers (Err (TooDeep at)) = (i : ℕ) × IsDeepFirst R span ts i × (at ≡ place_of ts i)
-  Answers (Err OutOfMemory) = ⊤
+  abbrev pub AnswersParse : Result V ParseError → Type 0
+  AnswersParse (Ok v) = IsAccepted R span ts (view v)
+  AnswersParse (Err (Unexpected at)) = (i : ℕ) × IsUnexpectedFirst R span ts i × (at ≡ place_of ts i)
+  AnswersParse (Err (TooDeep at)) = (i : ℕ) × IsDeepFirst R span ts i × (at ≡ place_of ts i)
+  AnswersParse (Err OutOfMemory) = ⊤
 
 -- this value, unless memory ran out
 abbrev pub Accepts : {V X : Type 0} → (V → X) → X → Result V ParseError → Type 0

@@ -3,7 +3,7 @@
 ghost use Rattle.std.specs.Prelude.{◌≡◌, ◌<◌, suc, [], ◌∷◌, length, IfOk, Ok, IfSome, MatchOption};
 ghost use Rattle.expr_grammar.specs.Lexeme.{lexeme, lexemes};
 ghost use Rattle.expr_grammar.specs.Reading as reading;
-ghost use Rattle.expr_grammar.specs.Reading.{Gives};
+ghost use Rattle.expr_grammar.specs.Reading.{GivesReading};
 
 use crate::code::Name;
 use crate::fault::Fault;
@@ -37,7 +37,7 @@ pub fn after_mark<'t, 'a>(tokens: &'t [Token<'a>], mark: u8) -> Option<&'t [Toke
 /// The tokens after this mark, which has to be the next.
 #[tactic(auto, unfolding(crate::specs::Reading::expect))]
 pub fn expect<'t, 'a>(tokens: &'t [Token<'a>], mark: u8) -> Result<&'t [Token<'a>], Fault>
-    ensures reads { Gives (λ rest. (tt, lexemes rest.now)) result (reading.expect (mark ∷ []) (lexemes tokens.now)) }
+    ensures reads { GivesReading (λ rest. (tt, lexemes rest.now)) result (reading.expect (mark ∷ []) (lexemes tokens.now)) }
     ensures shorter { IfOk result (λ rest. length rest.now < length tokens.now) }
 {
     match next(tokens) {
@@ -52,7 +52,7 @@ pub fn expect_name<'t, 'a>(
     alloc: Global,
     tokens: &'t [Token<'a>],
 ) -> Result<(Box<Name>, &'t [Token<'a>]), Fault>
-    ensures reads { Gives (λ x. (x.0.value, lexemes x.1.now)) result (reading.name_first (lexemes tokens.now)) }
+    ensures reads { GivesReading (λ x. (x.0.value, lexemes x.1.now)) result (reading.name_first (lexemes tokens.now)) }
     ensures shorter { IfOk result (λ x. length x.1.now < length tokens.now) }
 {
     let Some((token, rest)) = next(tokens) else {

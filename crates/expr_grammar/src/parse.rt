@@ -5,10 +5,10 @@ ghost use Rattle.expr_grammar.specs.Tree.{Tree, tree, StmtTree, code_trees};
 ghost use Rattle.expr_grammar.specs.Lexeme.{lexemes};
 ghost use Rattle.expr_grammar.specs.Grammar.{ReadsExpr, ReadsCode};
 ghost use Rattle.expr_grammar.specs.Reading as reading;
-ghost use Rattle.expr_grammar.specs.Reading.{Gives, all_of};
-ghost use Rattle.expr_grammar.specs.Refusal.{Answers, IsAccepted, IsUnexpectedFirst, IsDeepFirst};
+ghost use Rattle.expr_grammar.specs.Reading.{GivesReading, all_of};
+ghost use Rattle.expr_grammar.specs.Refusal.{AnswersParse, IsAccepted, IsUnexpectedFirst, IsDeepFirst};
 ghost use Rattle.expr_grammar.specs.Refusal.{Accepts, Refuses, place_of};
-ghost use Rattle.expr_grammar.specs.Counting.{answered};
+ghost use Rattle.expr_grammar.specs.Counting.{limited_answer};
 ghost use Rattle.expr_grammar.specs.declared.limit.Span.TheVariants.{Text, Statement};
 
 use crate::code::{Code, Expr};
@@ -40,7 +40,7 @@ pub enum ParseError {
 /// 65th parenthesis that is open at once or at the 513th token, whichever is first, where no earlier
 /// token is unexpected. `OutOfMemory` where memory is refused.
 pub fn parse_expr(alloc: Global, tokens: &Tokens<'_>) -> Result<Expr, ParseError>
-    ensures answer { Answers tree ReadsExpr Text tokens.now result }
+    ensures answer { AnswersParse tree ReadsExpr Text tokens.now result }
     ensures only { (e : Tree) → IsAccepted ReadsExpr Text tokens.now e → Accepts tree e result }
     ensures only_unexpected { (i : ℕ) → IsUnexpectedFirst ReadsExpr Text tokens.now i
         → Refuses (ParseError.Unexpected (place_of tokens.now i)) result }
@@ -56,7 +56,7 @@ pub fn parse_expr(alloc: Global, tokens: &Tokens<'_>) -> Result<Expr, ParseError
 /// or at the 513th token of a statement, whichever is first, where no earlier token is unexpected. The tokens of a statement are counted
 /// from its first one, `__var` and `;` among them. `OutOfMemory` where memory is refused.
 pub fn parse_code(alloc: Global, tokens: &Tokens<'_>) -> Result<Code, ParseError>
-    ensures answer { Answers code_trees ReadsCode Statement tokens.now result }
+    ensures answer { AnswersParse code_trees ReadsCode Statement tokens.now result }
     ensures only { (code : List StmtTree) → IsAccepted ReadsCode Statement tokens.now code
         → Accepts code_trees code result }
     ensures only_unexpected { (i : ℕ) → IsUnexpectedFirst ReadsCode Statement tokens.now i
@@ -69,7 +69,7 @@ pub fn parse_code(alloc: Global, tokens: &Tokens<'_>) -> Result<Code, ParseError
 
 // The expression, or the place where there is none.
 fn expr_answer(alloc: Global, tokens: &Tokens<'_>) -> Result<Expr, ParseError>
-    ensures { Answers tree ReadsExpr Text tokens.now result }
+    ensures { AnswersParse tree ReadsExpr Text tokens.now result }
 {
     let all = tokens.as_slice();
     let limit = limit_of(all, Span::Text);
@@ -78,7 +78,7 @@ fn expr_answer(alloc: Global, tokens: &Tokens<'_>) -> Result<Expr, ParseError>
 
 // The statements, or the place where there are none.
 fn code_answer(alloc: Global, tokens: &Tokens<'_>) -> Result<Code, ParseError>
-    ensures { Answers code_trees ReadsCode Statement tokens.now result }
+    ensures { AnswersParse code_trees ReadsCode Statement tokens.now result }
 {
     let all = tokens.as_slice();
     let limit = limit_of(all, Span::Statement);
@@ -87,7 +87,7 @@ fn code_answer(alloc: Global, tokens: &Tokens<'_>) -> Result<Code, ParseError>
 
 // An expression that all of the tokens are.
 fn expression(alloc: Global, tokens: &[Token<'_>]) -> Result<Expr, Fault>
-    ensures { Gives tree result (all_of (reading.whole reading.read) (lexemes tokens.now)) }
+    ensures { GivesReading tree result (all_of (reading.whole reading.read) (lexemes tokens.now)) }
 {
     let (e, rest) = read_expression(alloc, tokens)?;
     if !rest.is_empty() {
@@ -98,7 +98,7 @@ fn expression(alloc: Global, tokens: &[Token<'_>]) -> Result<Expr, Fault>
 
 // Statements that all of the tokens are.
 fn code(alloc: Global, tokens: &[Token<'_>]) -> Result<Code, Fault>
-    ensures { Gives code_trees result
+    ensures { GivesReading code_trees result
         (all_of (reading.statements reading.read) (lexemes tokens.now)) }
 {
     statements(alloc, tokens)
@@ -112,7 +112,7 @@ fn answer<V: Drop>(
     limit: usize,
 ) -> Result<V, ParseError>
     requires { limit ≤ length tokens.now }
-    ensures { result ≡ answered outcome tokens.now limit }
+    ensures { result ≡ limited_answer outcome tokens.now limit }
 {
     match outcome {
         Ok(value) => {

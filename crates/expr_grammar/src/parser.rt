@@ -4,7 +4,7 @@ ghost use Rattle.std.specs.Prelude.{◌≡◌, ◌<◌, ◌≤◌, length, IfOk,
 ghost use Rattle.expr_grammar.specs.Tree.{tree, arg_tree, arg_trees};
 ghost use Rattle.expr_grammar.specs.Lexeme.{lexemes};
 ghost use Rattle.expr_grammar.specs.Reading as reading;
-ghost use Rattle.expr_grammar.specs.Reading.{Gives};
+ghost use Rattle.expr_grammar.specs.Reading.{GivesReading};
 
 use crate::code::{Arg, Args, Expr, Name, UnaryOp};
 use crate::cursor::{after_mark, expect, next};
@@ -22,7 +22,7 @@ pub fn read_expression<'t, 'a>(
     alloc: Global,
     tokens: &'t [Token<'a>],
 ) -> Result<(Expr, &'t [Token<'a>]), Fault>
-    ensures reads { Gives (λ x. (tree x.0, lexemes x.1.now)) result (reading.whole reading.read (lexemes tokens.now)) }
+    ensures reads { GivesReading (λ x. (tree x.0, lexemes x.1.now)) result (reading.whole reading.read (lexemes tokens.now)) }
     ensures shorter { IfOk result (λ x. length x.1.now < length tokens.now) }
 {
     let (left, rest) = choice(alloc, tokens)?;
@@ -41,7 +41,7 @@ fn assignment<'t, 'a>(
     name: Box<Name>,
     tokens: &'t [Token<'a>],
 ) -> Result<(Expr, &'t [Token<'a>]), Fault>
-    ensures reads { Gives (λ x. (tree x.0, lexemes x.1.now)) result (reading.set_to reading.read name.value (lexemes tokens.now)) }
+    ensures reads { GivesReading (λ x. (tree x.0, lexemes x.1.now)) result (reading.set_to reading.read name.value (lexemes tokens.now)) }
     ensures shorter { IfOk result (λ x. length x.1.now ≤ length tokens.now) }
 {
     match next(tokens) {
@@ -57,7 +57,7 @@ fn assignment<'t, 'a>(
 #[cycle(parser)]
 #[tactic(auto, unfolding(crate::specs::Reading::choice, crate::specs::Reading::asked), using(crate::proofs::Fix::fixes))]
 fn choice<'t, 'a>(alloc: Global, tokens: &'t [Token<'a>]) -> Result<(Expr, &'t [Token<'a>]), Fault>
-    ensures reads { Gives (λ x. (tree x.0, lexemes x.1.now)) result (reading.choice reading.read (lexemes tokens.now)) }
+    ensures reads { GivesReading (λ x. (tree x.0, lexemes x.1.now)) result (reading.choice reading.read (lexemes tokens.now)) }
     ensures shorter { IfOk result (λ x. length x.1.now < length tokens.now) }
 {
     let (test, rest) = at_level(alloc, 2, tokens)?;
@@ -77,7 +77,7 @@ fn read_choice_values<'t, 'a>(
     test: Expr,
     tokens: &'t [Token<'a>],
 ) -> Result<(Expr, &'t [Token<'a>]), Fault>
-    ensures reads { Gives (λ x. (tree x.0, lexemes x.1.now)) result (reading.chosen reading.read (tree test) (lexemes tokens.now)) }
+    ensures reads { GivesReading (λ x. (tree x.0, lexemes x.1.now)) result (reading.chosen reading.read (tree test) (lexemes tokens.now)) }
     ensures shorter { IfOk result (λ x. length x.1.now < length tokens.now) }
 {
     let (then, rest) = read_expression(alloc, tokens)?;
@@ -94,7 +94,7 @@ fn at_level<'t, 'a>(
     least: u8,
     tokens: &'t [Token<'a>],
 ) -> Result<(Expr, &'t [Token<'a>]), Fault>
-    ensures reads { Gives (λ x. (tree x.0, lexemes x.1.now)) result (reading.at_level reading.read least (lexemes tokens.now)) }
+    ensures reads { GivesReading (λ x. (tree x.0, lexemes x.1.now)) result (reading.at_level reading.read least (lexemes tokens.now)) }
     ensures shorter { IfOk result (λ x. length x.1.now < length tokens.now) }
 {
     let (mut left, mut rest) = operand(alloc, tokens)?;
@@ -117,7 +117,7 @@ fn read_group<'t, 'a>(
     alloc: Global,
     tokens: &'t [Token<'a>],
 ) -> Result<(Expr, &'t [Token<'a>]), Fault>
-    ensures reads { Gives (λ x. (tree x.0, lexemes x.1.now)) result (reading.grouped reading.read (lexemes tokens.now)) }
+    ensures reads { GivesReading (λ x. (tree x.0, lexemes x.1.now)) result (reading.grouped reading.read (lexemes tokens.now)) }
     ensures shorter { IfOk result (λ x. length x.1.now < length tokens.now) }
 {
     let (inner, rest) = read_expression(alloc, tokens)?;
@@ -129,7 +129,7 @@ fn read_group<'t, 'a>(
 #[cycle(parser)]
 #[tactic(auto, unfolding(crate::specs::Reading::operand), using(crate::proofs::Fix::fixes))]
 fn operand<'t, 'a>(alloc: Global, tokens: &'t [Token<'a>]) -> Result<(Expr, &'t [Token<'a>]), Fault>
-    ensures reads { Gives (λ x. (tree x.0, lexemes x.1.now)) result (reading.operand reading.read (lexemes tokens.now)) }
+    ensures reads { GivesReading (λ x. (tree x.0, lexemes x.1.now)) result (reading.operand reading.read (lexemes tokens.now)) }
     ensures shorter { IfOk result (λ x. length x.1.now < length tokens.now) }
 {
     let Some((token, rest)) = next(tokens) else {
@@ -164,7 +164,7 @@ fn read_unary<'t, 'a>(
     op: UnaryOp,
     tokens: &'t [Token<'a>],
 ) -> Result<(Expr, &'t [Token<'a>]), Fault>
-    ensures reads { Gives (λ x. (tree x.0, lexemes x.1.now)) result (reading.signed reading.read op (lexemes tokens.now)) }
+    ensures reads { GivesReading (λ x. (tree x.0, lexemes x.1.now)) result (reading.signed reading.read op (lexemes tokens.now)) }
     ensures shorter { IfOk result (λ x. length x.1.now < length tokens.now) }
 {
     let (inner, rest) = operand(alloc, tokens)?;
@@ -179,7 +179,7 @@ fn read_name_or_call<'t, 'a>(
     name: Name,
     tokens: &'t [Token<'a>],
 ) -> Result<(Expr, &'t [Token<'a>]), Fault>
-    ensures reads { Gives (λ x. (tree x.0, lexemes x.1.now)) result (reading.named reading.read name (lexemes tokens.now)) }
+    ensures reads { GivesReading (λ x. (tree x.0, lexemes x.1.now)) result (reading.named reading.read name (lexemes tokens.now)) }
     ensures shorter { IfOk result (λ x. length x.1.now ≤ length tokens.now) }
 {
     match next(tokens) {
@@ -196,7 +196,7 @@ fn read_call<'t, 'a>(
     name: Name,
     tokens: &'t [Token<'a>],
 ) -> Result<(Expr, &'t [Token<'a>]), Fault>
-    ensures reads { Gives (λ x. (tree x.0, lexemes x.1.now)) result (reading.called reading.read name (lexemes tokens.now)) }
+    ensures reads { GivesReading (λ x. (tree x.0, lexemes x.1.now)) result (reading.called reading.read name (lexemes tokens.now)) }
     ensures shorter { IfOk result (λ x. length x.1.now < length tokens.now) }
 {
     let Some((mark, after)) = next(tokens) else {
@@ -213,7 +213,7 @@ fn read_call<'t, 'a>(
 #[cycle(parser)]
 #[tactic(auto, unfolding(crate::specs::Reading::argument), using(crate::proofs::Fix::fixes))]
 fn argument<'t, 'a>(alloc: Global, tokens: &'t [Token<'a>]) -> Result<(Arg, &'t [Token<'a>]), Fault>
-    ensures reads { Gives (λ x. (arg_tree x.0, lexemes x.1.now)) result (reading.argument reading.read (lexemes tokens.now)) }
+    ensures reads { GivesReading (λ x. (arg_tree x.0, lexemes x.1.now)) result (reading.argument reading.read (lexemes tokens.now)) }
     ensures shorter { IfOk result (λ x. length x.1.now < length tokens.now) }
 {
     let Some((token, rest)) = next(tokens) else {
@@ -238,7 +238,7 @@ fn arguments<'t, 'a>(
     alloc: Global,
     tokens: &'t [Token<'a>],
 ) -> Result<(Args, &'t [Token<'a>]), Fault>
-    ensures reads { Gives (λ x. (arg_trees x.0, lexemes x.1.now)) result (reading.arguments reading.read (lexemes tokens.now)) }
+    ensures reads { GivesReading (λ x. (arg_trees x.0, lexemes x.1.now)) result (reading.arguments reading.read (lexemes tokens.now)) }
     ensures shorter { IfOk result (λ x. length x.1.now < length tokens.now) }
 {
     let (first, mut rest) = argument(alloc, tokens)?;

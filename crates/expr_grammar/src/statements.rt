@@ -4,7 +4,7 @@ ghost use Rattle.std.specs.Prelude.{◌≡◌, ◌<◌, length, IfOk, IfErr, IfS
 ghost use Rattle.expr_grammar.specs.Tree.{tree, stmt_tree, code_trees};
 ghost use Rattle.expr_grammar.specs.Lexeme.{Lexeme, lexemes};
 ghost use Rattle.expr_grammar.specs.Reading as reading;
-ghost use Rattle.expr_grammar.specs.Reading.{Gives};
+ghost use Rattle.expr_grammar.specs.Reading.{GivesReading};
 ghost use Rattle.expr_grammar.specs.Found.{found_statements};
 
 use crate::code::{Code, Stmt};
@@ -23,7 +23,7 @@ fn declaration<'t, 'a>(
     alloc: Global,
     tokens: &'t [Token<'a>],
 ) -> Result<(Stmt, &'t [Token<'a>]), Fault>
-    ensures reads { Gives (λ x. (stmt_tree x.0, lexemes x.1.now)) result (reading.declared reading.read (lexemes tokens.now)) }
+    ensures reads { GivesReading (λ x. (stmt_tree x.0, lexemes x.1.now)) result (reading.declared reading.read (lexemes tokens.now)) }
     ensures shorter { IfOk result (λ x. length x.1.now < length tokens.now) }
 {
     let (name, rest) = expect_name(alloc, tokens)?;
@@ -40,7 +40,7 @@ fn read_plain<'t, 'a>(
     at: Place,
     tokens: &'t [Token<'a>],
 ) -> Result<(Stmt, &'t [Token<'a>]), Fault>
-    ensures reads { Gives (λ x. (stmt_tree x.0, lexemes x.1.now)) result (reading.plain reading.read at (lexemes tokens.now)) }
+    ensures reads { GivesReading (λ x. (stmt_tree x.0, lexemes x.1.now)) result (reading.plain reading.read at (lexemes tokens.now)) }
     ensures shorter { IfOk result (λ x. length x.1.now < length tokens.now) }
 {
     let (value, rest) = read_expression(alloc, tokens)?;
@@ -54,7 +54,7 @@ fn statement<'t, 'a>(
     alloc: Global,
     tokens: &'t [Token<'a>],
 ) -> Result<(Stmt, &'t [Token<'a>]), Fault>
-    ensures reads { Gives (λ x. (stmt_tree x.0, lexemes x.1.now)) result (reading.statement reading.read (lexemes tokens.now)) }
+    ensures reads { GivesReading (λ x. (stmt_tree x.0, lexemes x.1.now)) result (reading.statement reading.read (lexemes tokens.now)) }
     ensures shorter { IfOk result (λ x. length x.1.now < length tokens.now) }
 {
     let Some((token, rest)) = next(tokens) else {
@@ -87,7 +87,7 @@ fn next_statement<'t, 'a>(
 
 /// All of the tokens as statements.
 pub fn statements(alloc: Global, tokens: &[Token<'_>]) -> Result<Code, Fault>
-    ensures { Gives (λ code. let none : List Lexeme = [] in (code_trees code, none)) result (reading.statements reading.read (lexemes tokens.now)) }
+    ensures { GivesReading (λ code. let none : List Lexeme = [] in (code_trees code, none)) result (reading.statements reading.read (lexemes tokens.now)) }
 {
     let room = tokens.iter().filter(|t| is_mark(t, b';')).count();
     let mut code = Code::with_room(alloc, room)?;

@@ -9,7 +9,7 @@ use Rattle.json_form.specs.Reading.{only_keys, required}
 use Rattle.device_tree.specs.declared.pack.Pack.{Pack}
 use Rattle.device_tree.specs.PackForm.{IsPack}
 use Rattle.device_tree.specs.PackReading.{pack_in}
-use Rattle.job_text.specs.Answers.{IsTextOf}
+use Rattle.job_text.specs.Answers.{IsJsonText}
 use Rattle.job_text.specs.Keys.{job_keys}
 use Rattle.job_check.specs.declared.answer.Refusal.{Refusal}
 use Rattle.job_check.specs.declared.answer.Refusal.TheVariants as refusals
@@ -24,7 +24,7 @@ pub record HasPack (d : Data) (p : Pack) : Type 0 where
 
 -- the bytes are the JSON text of such a value
 abbrev pub DescribesPack : List ℕ → Pack → Type 0
-DescribesPack bytes pack = (d : Data) × IsTextOf bytes d × HasPack d pack
+DescribesPack bytes pack = (d : Data) × IsJsonText bytes d × HasPack d pack
 
 -- reading the pack, or the first fault: of the keys, and then of the pack
 unfoldable pub pack_in_job : Data → Result Pack JobFault
@@ -34,8 +34,8 @@ pack_in_job d = do
 
 -- the bytes are the text of no value, or this is its first fault
 abbrev pub NoPack : List ℕ → Refusal → Type 0
-NoPack bytes refusals.BadJson = (d : Data) → IsTextOf bytes d → ⊥
-NoPack bytes (refusals.Job fault) = (d : Data) × IsTextOf bytes d × (pack_in_job d ≡ Err fault) × (fault ≢ faults.OutOfMemory)
+NoPack bytes refusals.BadJson = (d : Data) → IsJsonText bytes d → ⊥
+NoPack bytes (refusals.Job fault) = (d : Data) × IsJsonText bytes d × (pack_in_job d ≡ Err fault) × (fault ≢ faults.OutOfMemory)
 NoPack bytes other = ⊥
 
 -- ---- what is answered to bytes
@@ -48,5 +48,5 @@ IsPackAnswer pack (Err ends.OutOfMemory) = ⊤
 
 -- it is what reading gives, unless memory ran out
 abbrev pub AnswersPack : List ℕ → Result Pack CheckRefusal → Type 0
-AnswersPack bytes (Ok pack) = (d : Data) × IsTextOf bytes d × (pack_in_job d ≡ Ok pack)
+AnswersPack bytes (Ok pack) = (d : Data) × IsJsonText bytes d × (pack_in_job d ≡ Ok pack)
 AnswersPack bytes (Err end) = OnRefusal (NoPack bytes) end

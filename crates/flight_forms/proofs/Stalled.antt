@@ -9,7 +9,7 @@ use Rattle.dap_messages.specs.declared.request.Response.{Response}
 use Rattle.dap_messages.specs.declared.request.Response.TheVariants.{Good, Wait, Fault, Mismatch}
 use Rattle.dap_transfer.specs.Wires.{Role, Posts, Moves, Fetches, Reads, Matches, Writes, Checks, Wire, wires, last_mask}
 use Rattle.dap_transfer.specs.State.{Setting, TransferState, WireState, is_good}
-use Rattle.dap_transfer.specs.WireTransfer.{Ending, ends, made, next_number, number_after, value, wire_ending, wire_ending_as}
+use Rattle.dap_transfer.specs.WireTransfer.{Ending, ends, access_made, next_number, number_after, value, wire_ending, wire_ending_as}
 use Rattle.dap_transfer.specs.ValueMatch.{match_ending, match_ending_as}
 use Rattle.dap_transfer.specs.Transfer.{RunResult, ending, ending_as, good_front, run_to_place, transferred}
 use Rattle.dap_transfer.specs.Private.{first_then, run}
@@ -47,7 +47,7 @@ match_by Mismatch hit s l a rest e h w = absurd (cc)
 match_over : (s : Setting) (mask requested : ℕ) (a : RegAccess) (n : ℕ) (l : WireState) → (match_ending s mask requested a n l).response ≡ Wait → IsOver s (match_ending s mask requested a n l).line.number
 match_over s mask requested a zero l w = absurd (cc)
 match_over s mask requested a (suc n) l w =
-    match_by (ends s l a) (bit_and (value l a) mask == requested) s l a (match_ending s mask requested a n (made l a)) refl (match_over s mask requested a n (made l a)) w
+    match_by (ends s l a) (bit_and (value l a) mask == requested) s l a (match_ending s mask requested a n (access_made l a)) refl (match_over s mask requested a n (access_made l a)) w
 
 role_over : (role : Role) (s : Setting) (l : WireState) (mask : ℕ) (a : RegAccess) → (ending_as role s l mask a).response ≡ Wait → IsOver s (ending_as role s l mask a).line.number
 role_over Posts s l mask a w = wire_over (ends s l a) s l a refl w

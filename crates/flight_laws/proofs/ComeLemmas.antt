@@ -13,7 +13,7 @@ use Rattle.target_calls.specs.declared.calls.Ask.{Ask}
 use Rattle.target_calls.proofs.CallLists.{count_of, head_of, results_front, whole_front}
 use Rattle.target_calls.proofs.EndLemmas.{skipped_forgives}
 use Rattle.target_calls.proofs.OneCall.{one_last, one_results, one_skips, one_small, one_stops}
-use Rattle.access_regs.specs.Alone.{alone, alone_after, large_of_all}
+use Rattle.access_regs.specs.Alone.{call_alone, alone_after, large_of_all}
 use Rattle.access_regs.specs.Entries.{AnsweredAt, kept_by, target_by}
 use Rattle.access_regs.specs.Journal.{issue_of, issued}
 use Rattle.access_regs.specs.Stops.{world_at}
@@ -67,7 +67,7 @@ never_over [] t large whole = refl
 never_over (x ∷ asks) t large whole =
     let h = head_of (stops_here (world_at t large None) x) (stop (next_world (world_at t large None) x) asks) whole in
     ap (λ (b : Bool). (cond b (left_at (world_at t large None) x) (world_after (next_world (world_at t large None) x) asks)).answered) h.0
-    ∙ never_over asks (alone t large x).next (alone t large x).large h.1
+    ∙ never_over asks (call_alone t large x).next (call_alone t large x).large h.1
 
 module _ (t : TargetState) (asks : List Ask) (ask : Ask) (more : List Ask) (whole : stop (start_world t None) (asks ++ ask ∷ more) ≡ None) where
   abbrev w : World
@@ -106,7 +106,7 @@ module _ (t : TargetState) (asks : List Ask) (ask : Ask) (whole : stop (start_wo
   abbrev pub there : CallEnd
   there = (done_now (world_after (start_world t None) asks) ask).end
 
-  pub alone_is : there ≡ (alone (alone_after t [] asks) (large_of_all t [] asks) ask).end
+  pub alone_is : there ≡ (call_alone (alone_after t [] asks) (large_of_all t [] asks) ask).end
   alone_is =
       let target = after_alone t [] None asks never.none never.enough in
       let larges = large_alone t [] None asks never.none never.enough in

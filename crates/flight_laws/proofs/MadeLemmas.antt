@@ -12,7 +12,7 @@ use Rattle.target_calls.specs.World.{is_faulted, left_at, next_world, start_worl
 use Rattle.target_calls.specs.declared.calls.Ask.{Ask}
 use Rattle.target_calls.specs.declared.journal.Part.{Part}
 use Rattle.target_calls.specs.declared.journal.Part.TheVariants.{Ends, Leads, Settles, Skips}
-use Rattle.access_regs.specs.Alone.{NoneFaults, alone, alone_after}
+use Rattle.access_regs.specs.Alone.{NoneFaults, call_alone, alone_after}
 use Rattle.access_regs.specs.Closed.{HasMade, IsMadeAt, closed_after, closed_by, closes}
 use Rattle.access_regs.specs.Journal.{issued}
 use Rattle.access_regs.specs.Stops.{StaysThere, StopsThere, world_at}
@@ -68,7 +68,7 @@ answered_first t large (ask ∷ asks) zero at none few = refl
 answered_first t large (ask ∷ asks) (suc n) zero none few = by_end (is_faulted d.end)
   where
     d : CallDone
-    d = alone t large ask
+    d = call_alone t large ask
 
     last : alone_after d.next d.large (take n asks) ≡ d.next
     last = (let no : n ≡ 0 = omega (arith, few) in ap (λ (i : ℕ). alone_after d.next d.large (take i asks)) no)
@@ -80,7 +80,7 @@ answered_first t large (ask ∷ asks) (suc n) zero none few = by_end (is_faulted
     by_end true = last
     by_end false = last ∙ sym after
 answered_first t large (ask ∷ asks) (suc n) (suc at) none few =
-    let d : CallDone = alone t large ask in
+    let d : CallDone = call_alone t large ask in
     answered_first d.next d.large asks n at none.1 (omega (arith, few))
     ∙ sym (ap (λ (b : Bool). (cond b (left_at (world_at t large (Some (suc n))) ask) (world_after (world_at d.next d.large (Some n)) asks)).target) (good_end d.end none.0))
 

@@ -15,7 +15,7 @@ use Rattle.target_calls.proofs.CallLists.{append_results, append_skips, count_of
 use Rattle.target_calls.proofs.EndLemmas.{none_skipped}
 use Rattle.target_calls.proofs.EntryLemmas.{pass_front, pass_none}
 use Rattle.target_calls.proofs.WorldLemmas.{results_first, whole_least, whole_skips, whole_unlimited}
-use Rattle.access_regs.specs.Alone.{NoneFaults, alone, alone_after, large_of_all}
+use Rattle.access_regs.specs.Alone.{NoneFaults, call_alone, alone_after, large_of_all}
 use Rattle.access_regs.specs.Journal.{issued}
 use Rattle.access_regs.specs.Kept.{Kept}
 use Rattle.access_regs.specs.Stops.{NoneStops, world_at}
@@ -48,16 +48,16 @@ pub after_alone : (t : TargetState) (large : List ℕ) (n : Option ℕ) (calls :
 after_alone t large n [] none enough = refl
 after_alone t large n (c ∷ calls) none enough =
     let live = live_more n (length calls) enough in
-    let good : is_faulted (alone t large c).end ≡ false = good_end (alone t large c).end none.0 in
-    rw (live.0, good) (after_alone (alone t large c).next (alone t large c).large (one_fewer n) calls none.1 live.1)
+    let good : is_faulted (call_alone t large c).end ≡ false = good_end (call_alone t large c).end none.0 in
+    rw (live.0, good) (after_alone (call_alone t large c).next (call_alone t large c).large (one_fewer n) calls none.1 live.1)
 
 -- and so are the APs that are known to have large addresses
 pub large_alone : (t : TargetState) (large : List ℕ) (n : Option ℕ) (calls : List Ask) → NoneFaults t large calls → AtLeast (length calls) n → (world_after (world_at t large n) calls).large ≡ large_of_all t large calls
 large_alone t large n [] none enough = refl
 large_alone t large n (c ∷ calls) none enough =
     let live = live_more n (length calls) enough in
-    let good : is_faulted (alone t large c).end ≡ false = good_end (alone t large c).end none.0 in
-    rw (live.0, good) (large_alone (alone t large c).next (alone t large c).large (one_fewer n) calls none.1 live.1)
+    let good : is_faulted (call_alone t large c).end ≡ false = good_end (call_alone t large c).end none.0 in
+    rw (live.0, good) (large_alone (call_alone t large c).next (call_alone t large c).large (one_fewer n) calls none.1 live.1)
 
 module _ (p : Planner) (a : AccessView) (kept : Kept) (accesses : List RegAccess) (came : List ℕ) (n : Option ℕ) (m0 m : BenchState) (f : IsFlying p a kept accesses came m0 m) (enough : AtLeast a.came n) where
   abbrev t0 : TargetState

@@ -12,7 +12,7 @@ use Rattle.target_calls.specs.Journal.{Entry, Passes, lines_before}
 use Rattle.target_calls.specs.World.{World, later_by, next_world, start_world, stop, stops_here}
 use Rattle.target_calls.specs.declared.calls.Ask.{Ask}
 use Rattle.target_calls.proofs.EntryLemmas.{pass_front}
-use Rattle.access_regs.specs.Alone.{NoneFaults, alone}
+use Rattle.access_regs.specs.Alone.{NoneFaults, call_alone}
 use Rattle.access_regs.specs.Journal.{issued}
 use Rattle.access_regs.specs.Stops.{StaysThere, world_at}
 use Rattle.access_regs.specs.declared.planner.Planner.{Planner}
@@ -40,7 +40,7 @@ stop_later t large (ask ∷ asks) (suc at) n none within is =
     (sym (stop_goes t large None ask asks refl (good_end d.end none.0)) ∙ is)
   where
     d : CallDone
-    d = alone t large ask
+    d = call_alone t large ask
 
     by_stop : (o : Option ℕ) → ((m : ℕ) → o ≡ Some m → at < m) → later_by 1 o ≡ Some n → suc at < n
     by_stop None less h = absurd (cc)

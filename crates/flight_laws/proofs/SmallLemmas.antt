@@ -13,7 +13,7 @@ use Rattle.target_calls.specs.Asks.{AreAskable, IsUnitInRange, is_wide, unit_ask
 use Rattle.target_calls.specs.World.{AtLeast, is_faulted, is_over, is_small_end, one_fewer, small_after, small_now, start_world, stop, stops_here, world_after}
 use Rattle.target_calls.specs.declared.calls.Ask.{Ask}
 use Rattle.target_calls.proofs.CallLists.{head_of}
-use Rattle.access_regs.specs.Alone.{NoneFaults, alone, alone_after, large_of_all}
+use Rattle.access_regs.specs.Alone.{NoneFaults, call_alone, alone_after, large_of_all}
 use Rattle.access_regs.specs.Entries.{kept_by}
 use Rattle.access_regs.specs.Kept.{Kept, known}
 use Rattle.access_regs.specs.Plan.{needs_cfg}
@@ -43,10 +43,10 @@ never_at (Some n) = omega arith
 pub never_stops : (t : TargetState) (large : List ℕ) (n : Option ℕ) (asks : List Ask) → stop (world_at t large n) asks ≡ None → NeverStops t large n asks
 never_stops t large n [] e = record { none = tt; enough = never_at n }
 never_stops t large n (ask ∷ asks) e =
-    let h = head_of (stops_here (world_at t large n) ask) (stop (world_at (alone t large ask).next (alone t large ask).large (one_fewer n)) asks) e in
-    let g = or_parts (is_over n) (is_faulted (alone t large ask).end) h.0 in
-    let r = never_stops (alone t large ask).next (alone t large ask).large (one_fewer n) asks h.1 in
-    record { none = (not_faulted (alone t large ask).end g.1, r.none); enough = enough_more n (length asks) g.0 r.enough }
+    let h = head_of (stops_here (world_at t large n) ask) (stop (world_at (call_alone t large ask).next (call_alone t large ask).large (one_fewer n)) asks) e in
+    let g = or_parts (is_over n) (is_faulted (call_alone t large ask).end) h.0 in
+    let r = never_stops (call_alone t large ask).next (call_alone t large ask).large (one_fewer n) asks h.1 in
+    record { none = (not_faulted (call_alone t large ask).end g.1, r.none); enough = enough_more n (length asks) g.0 r.enough }
 
 pub not_small : (b forgive s : Bool) (v : ℕ) (t : TargetState) (l : List ℕ) (xs : List Action) → s ≡ false → is_small_end (ended b forgive s v t l xs).end ≡ false
 not_small true true s v t l xs e = refl

@@ -2,7 +2,7 @@
 
 ghost use Rattle.std.specs.Prelude.{◌≡◌, ◌↔◌, false, true, IsTrue, Some};
 ghost use Rattle.function_table.specs.declared.function.Function.{Function};
-ghost use Rattle.function_table.specs.Functions.{name_of, parameters_of, has_more, Takes, kind_at, result_of};
+ghost use Rattle.function_table.specs.Functions.{name_of, parameters_of, has_more, Takes, kind_at, result_kind_of};
 ghost use Rattle.function_table.specs.Lookup.{function_named};
 
 use ParameterKind::{Number, Text};
@@ -200,7 +200,7 @@ impl Function {
 
     /// What a call gives.
     pub fn result(self) -> ResultKind
-        ensures { result ≡ result_of self }
+        ensures { result ≡ result_kind_of self }
     {
         row_of(self).result
     }
@@ -220,7 +220,7 @@ fn row_of(function: Function) -> Row
     ensures name { result.name.now ≡ name_of function }
     ensures parameters { result.parameters.now ≡ parameters_of function }
     ensures more { result.more ≡ has_more function }
-    ensures result { result.result ≡ result_of function }
+    ensures result { result.result ≡ result_kind_of function }
 {
     match function {
         Function::Read8 => fixed_row("Read8", &[Number], Value),

@@ -2,7 +2,7 @@
 use Rattle.std.proofs.Common.{◌≡◌, ℕ, ◌+◌, ◌*◌, ◌%◌, ◌≤◌, ◌==◌, nat_le, Bool, true, false, cond, List, [], ◌∷◌, length, sum, Option, None, Some, Result, Ok, Err, refl, subst, arith, IfOk}
 use Rattle.std.proofs.lemmas.Bool.{leb-true}
 use Rattle.hex_image.specs.Image.{Bytes, FaultAt, Reading, at_start, by_type, image, line_then, placed, read_on, where_length, with_base, with_data, with_end, with_image, with_line, with_record}
-use Rattle.hex_image.specs.Records.{Line, address_of, content_of, count_of, data_of, lines_of, record_of, type_of, word_of}
+use Rattle.hex_image.specs.Records.{Line, address_of, content_of, count_of, data_of, lines_of, record_of, type_of, front_word}
 use Rattle.hex_image.specs.declared.fault.ImageKind.{ImageKind}
 use Rattle.hex_image.specs.declared.fault.ImageKind.TheVariants as kind
 
@@ -24,9 +24,9 @@ type_few : (r : Reading) (bytes : List ℕ) (t : ℕ) → HasFew r → IfOk (by_
 type_few r bytes t h =
     by_either (t == 0) _ _ (by_either (nat_le (address_of bytes + count_of bytes) 65536) _ (Err kind.BadLength) (image_few_of r (placed (r.base + address_of bytes) (data_of bytes) r.image)) tt)
     (by_either (t == 1) _ _ (by_either (count_of bytes == 0) (with_end r) (Err kind.BadLength) h tt)
-    (by_either (t == 2) _ _ (by_either (count_of bytes == 2) (with_base r (word_of bytes * 16)) (Err kind.BadLength) h tt)
+    (by_either (t == 2) _ _ (by_either (count_of bytes == 2) (with_base r (front_word bytes * 16)) (Err kind.BadLength) h tt)
     (by_either (t == 3) _ _ (by_either (count_of bytes == 4) (Ok r) (Err kind.BadLength) h tt)
-    (by_either (t == 4) _ _ (by_either (count_of bytes == 2) (with_base r (word_of bytes * 65536)) (Err kind.BadLength) h tt)
+    (by_either (t == 4) _ _ (by_either (count_of bytes == 2) (with_base r (front_word bytes * 65536)) (Err kind.BadLength) h tt)
     (by_either (t == 5) _ _ (by_either (count_of bytes == 4) (Ok r) (Err kind.BadLength) h tt) tt)))))
 
 record_few : (r : Reading) (o : Option (List ℕ)) → HasFew r → IfOk (with_record r o) HasFew

@@ -2,7 +2,7 @@
 use Rattle.std.specs.Prelude.{ℕ, ◌+◌, ◌*◌, ◌%◌, ◌==◌, nat_le, Bool, true, false, if◌then◌else◌, List, [], ◌∷◌, length, sum, Option, Some, None, Result, Ok, Err}
 use Rattle.std.specs.BTreeMap.{insert_entry}
 use Rattle.std.specs.Ordering.{nat_cmp}
-use Rattle.hex_image.specs.Records.{Line, address_of, count_of, data_of, content_of, lines_of, record_of, type_of, word_of}
+use Rattle.hex_image.specs.Records.{Line, address_of, count_of, data_of, content_of, lines_of, record_of, type_of, front_word}
 use Rattle.hex_image.specs.declared.fault.ImageKind.{ImageKind}
 use Rattle.hex_image.specs.declared.fault.ImageKind.TheVariants as kind
 
@@ -53,9 +53,9 @@ abbrev pub by_type : Reading → List ℕ → ℕ → Result Reading ImageKind
 by_type r bytes t =
     if t == 0 then with_data r bytes
     else if t == 1 then where_length 0 bytes (with_end r)
-    else if t == 2 then where_length 2 bytes (with_base r (word_of bytes * 16))
+    else if t == 2 then where_length 2 bytes (with_base r (front_word bytes * 16))
     else if t == 3 then where_length 4 bytes (Ok r)
-    else if t == 4 then where_length 2 bytes (with_base r (word_of bytes * 65536))
+    else if t == 4 then where_length 2 bytes (with_base r (front_word bytes * 65536))
     else if t == 5 then where_length 4 bytes (Ok r)
     else Err kind.BadKind
 

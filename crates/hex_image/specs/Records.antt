@@ -63,5 +63,5 @@ abbrev pub data_of : List ℕ → List ℕ
 data_of r = take (count_of r) (drop 4 r)
 
 -- The number that the first two bytes of data are, with the high byte first.
-abbrev pub word_of : List ℕ → ℕ
-word_of r = slice_index r 4 * 256 + slice_index r 5
+abbrev pub front_word : List ℕ → ℕ
+front_word r = slice_index r 4 * 256 + slice_index r 5

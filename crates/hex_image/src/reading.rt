@@ -2,7 +2,7 @@
 ghost use Rattle.std.specs.Prelude.{◌≡◌, ◌+◌, ◌*◌, ◌^◌, ◌≤◌, true, Ok, Some, length, sum, OnOk, IfErr};
 ghost use Rattle.hex_image.specs.Image.{at_end, at_start, by_type, image, placed, where_length, with_base, with_data, with_end, with_line, with_record, with_content};
 ghost use Rattle.hex_image.specs.Reads.{IsFault, IsImage, IsRead};
-ghost use Rattle.hex_image.specs.Records.{count_of, type_of, word_of};
+ghost use Rattle.hex_image.specs.Records.{count_of, type_of, front_word};
 
 use crate::fault::{ImageFault, ImageKind};
 use crate::image::Image;
@@ -89,7 +89,7 @@ impl Reader {
     fn read_base(&mut self, bytes: &[u8], times: u32) -> Result<(), LineFault>
         requires count { length bytes.now ≡ count_of bytes.now + 5 }
         requires times { times ≤ 65536 }
-        ensures { IsRead result (where_length 2 bytes.now (with_base self.old (word_of bytes.now * times))) self.new }
+        ensures { IsRead result (where_length 2 bytes.now (with_base self.old (front_word bytes.now * times))) self.new }
     {
         if bytes[0] != 2 {
             return Err(LineFault::Kind(ImageKind::BadLength));

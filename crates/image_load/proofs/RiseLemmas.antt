@@ -10,7 +10,7 @@ use Rattle.hex.specs.Hex.{IsBytes, decode_of}
 use Rattle.hex.specs.declared.error.FromHexError.{FromHexError}
 use Rattle.hex.proofs.HexLemmas.{decode_of-ok}
 use Rattle.hex_image.specs.Image.{Bytes, FaultAt, Reading, at_start, by_type, image, line_then, placed, read_on, where_length, with_base, with_data, with_end, with_image, with_line, with_record}
-use Rattle.hex_image.specs.Records.{Line, address_of, content_of, count_of, data_of, decoded, lines_of, of_its_length, record_of, type_of, word_of}
+use Rattle.hex_image.specs.Records.{Line, address_of, content_of, count_of, data_of, decoded, lines_of, of_its_length, record_of, type_of, front_word}
 use Rattle.hex_image.specs.declared.fault.ImageKind.{ImageKind}
 use Rattle.hex_image.specs.declared.fault.ImageKind.TheVariants as kind
 use Rattle.image_load.specs.Laid.{HasRisingAddresses}
@@ -127,7 +127,7 @@ data_sound r bytes h all =
 based : (r : Reading) (n base : ℕ) (bytes : List ℕ) → IsSound r → base ≤ 0xFFFF_0000 → IfOk (where_length n bytes (with_base r base)) IsSound
 based r n base bytes h low = by_either (count_of bytes == n) (with_base r base) (Err kind.BadLength) (record { image = h.image; base = low }) tt
 
-word_low : (bytes : List ℕ) → IsBytes bytes → word_of bytes < 65536
+word_low : (bytes : List ℕ) → IsBytes bytes → front_word bytes < 65536
 word_low bytes all = (let high = all 4 in let low = all 5 in omega (arith, high, low))
 
 type_sound : (r : Reading) (bytes : List ℕ) (t : ℕ) → IsSound r → IsBytes bytes → IfOk (by_type r bytes t) IsSound
@@ -135,9 +135,9 @@ type_sound r bytes t h all =
     let word = word_low bytes all in
     by_either (t == 0) _ _ (data_sound r bytes h all)
     (by_either (t == 1) _ _ (by_either (count_of bytes == 0) (with_end r) (Err kind.BadLength) (record { image = h.image; base = h.base }) tt)
-    (by_either (t == 2) _ _ (based r 2 (word_of bytes * 16) bytes h (omega (arith, word)))
+    (by_either (t == 2) _ _ (based r 2 (front_word bytes * 16) bytes h (omega (arith, word)))
     (by_either (t == 3) _ _ (by_either (count_of bytes == 4) (Ok r) (Err kind.BadLength) h tt)
-    (by_either (t == 4) _ _ (based r 2 (word_of bytes * 65536) bytes h (omega (arith, word)))
+    (by_either (t == 4) _ _ (based r 2 (front_word bytes * 65536) bytes h (omega (arith, word)))
     (by_either (t == 5) _ _ (by_either (count_of bytes == 4) (Ok r) (Err kind.BadLength) h tt) tt)))))
 
 -- ---- lines

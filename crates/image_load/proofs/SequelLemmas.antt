@@ -3,7 +3,7 @@ use Rattle.std.proofs.Common.{◌≡◌, ◌∙◌, ℕ, suc, ◌+◌, Bool, tru
 use Rattle.target_calls.specs.World.{World, done_now, end_result, later_by, next_world, results, stop, stops_here}
 use Rattle.target_calls.specs.declared.calls.Ask.{Ask}
 use Rattle.target_calls.proofs.CallLists.{head_of}
-use Rattle.sequels.specs.Sequel.{Comes, Ends, comes, stopped_at, with_call}
+use Rattle.sequels.specs.Sequel.{Comes, Ends, comes, stopped_at, call_first}
 use Rattle.image_load.specs.LoadSequel.{asks_each}
 
 -- where none of them stops
@@ -12,7 +12,7 @@ pub comes_whole : {X : Type 0} (w : World) (calls : List Ask) (end : List ℕ �
 comes_whole w [] end h = refl
 comes_whole w (a ∷ calls) end h =
     let q = head_of (stops_here w a) (stop (next_world w a) calls) h in
-    rw q.0 (ap (with_call a) (comes_whole (next_world w a) calls (λ found. end (end_result (done_now w a).end ∷ found)) q.1))
+    rw q.0 (ap (call_first a) (comes_whole (next_world w a) calls (λ found. end (end_result (done_now w a).end ∷ found)) q.1))
 
 -- where they stop
 pub comes_stopped : {X : Type 0} (w : World) (calls : List Ask) (end : List ℕ → X) (k : ℕ) → stop w calls ≡ Some k
@@ -24,10 +24,10 @@ comes_stopped {X = X} w (a ∷ calls) end k h = one (stops_here w a) (stop (next
     rest = comes (next_world w a) (asks_each calls (λ found. Ends (end (end_result (done_now w a).end ∷ found))))
 
     one : (b : Bool) (at : Option ℕ) → cond b (Some 1) (later_by 1 at) ≡ Some k → ((j : ℕ) → at ≡ Some j → rest ≡ record { calls = take j calls; written = []; end = None })
-        → cond b (stopped_at a) (with_call a rest) ≡ record { calls = take k (a ∷ calls); written = []; end = None }
+        → cond b (stopped_at a) (call_first a rest) ≡ record { calls = take k (a ∷ calls); written = []; end = None }
     one true at h same = (let e : 1 ≡ k = cc in ap (λ (n : ℕ). record { calls = take n (a ∷ calls); written = []; end = None }) e)
     one false None h same = absurd cc
     one false (Some j) h same =
         let e : 1 + j ≡ k = cc in
         let more : suc j ≡ k = omega (arith, e) in
-        ap (with_call a) (same j refl) ∙ ap (λ (n : ℕ). record { calls = take n (a ∷ calls); written = []; end = None }) more
+        ap (call_first a) (same j refl) ∙ ap (λ (n : ℕ). record { calls = take n (a ∷ calls); written = []; end = None }) more

@@ -13,7 +13,7 @@ use Rattle.seq_check.specs.Valid.{IsValid}
 use Rattle.seq_check.proofs.OneFault.{one_first_fault, valid_or_faulty}
 use Rattle.job_text.specs.declared.job.Job.{Job}
 use Rattle.job_text.specs.JobReading.{job_in}
-use Rattle.job_text.specs.Answers.{IsTextOf, Describes}
+use Rattle.job_text.specs.Answers.{IsJsonText, Describes}
 use Rattle.job_text.proofs.JobLaws.{job_reads}
 use Rattle.job_text.proofs.AnswerLaws.{one_value}
 use Rattle.job_check.specs.declared.answer.Refusal.{Refusal}
@@ -129,7 +129,7 @@ no_fault : (j : Job) (f : JobFault) → found j ≡ faulty f → ⊥
 no_fault j f e = cc
 
 -- a job that the bytes describe is what their value is read as
-reads_as : (bytes : List ℕ) (j : Job) (d : Data) → Describes bytes j → IsTextOf bytes d → job_in d ≡ found j
+reads_as : (bytes : List ℕ) (j : Job) (d : Data) → Describes bytes j → IsJsonText bytes d → job_in d ≡ found j
 reads_as bytes j d p text = ap job_in (one_value bytes d p.0 text p.1) ∙ job_reads.complete p.0 j p.2
 
 pub one_job : (bytes : List ℕ) (a b : Job) → Describes bytes a → Describes bytes b → a ≡ b

@@ -23,7 +23,7 @@ use Rattle.job_text.specs.Tests.{has_bit_0, lacks_bits_4_and_6, is_aligned, is_w
 use Rattle.job_text.specs.RunReading.{variable_in, values_after, variables_in, run_in}
 use Rattle.job_text.specs.TargetReading.{ap_in, region_in, word_in, values_in, script_in, power_reads_in, port_in, aps_in, regions_in, words_in, listed_in, reset_in, scripts_in, target_in, packet_size_in, packet_count_in, limits_in, bench_in}
 use Rattle.job_text.specs.JobReading.{watch_item_in, watch_in, image_job_in, image_in, dbgconf_in, entry_text_in, trace_in, optional_in, job_in}
-use Rattle.job_text.specs.Answers.{IsTextOf, Describes, IsRefused}
+use Rattle.job_text.specs.Answers.{IsJsonText, Describes, IsRefused}
 use Rattle.job_text.proofs.JobLaws.{job_reads}
 
 -- ---- how sequences are run
@@ -206,7 +206,7 @@ module _ (bytes : List ℕ) where
   abbrev pub JobOrNone : Type 0
   JobOrNone = ((job : Job) × Describes bytes job) ⊎ ((refusal : JobRefusal) × IsRefused bytes refusal × (refusal ≢ refusals.OutOfMemory))
 
-  by_reading : (d : Data) → IsTextOf bytes d → (r : Result Job JobFault) → job_in d ≡ r → IsDecided r → JobOrNone
+  by_reading : (d : Data) → IsJsonText bytes d → (r : Result Job JobFault) → job_in d ≡ r → IsDecided r → JobOrNone
   by_reading d text (Ok job) is decided = inl (job, (d, text, job_reads.sound d job is))
   by_reading d text (Err fault) is decided = inr (refusals.Fault fault, (d, text, is, of_value fault decided), λ e. absurd cc)
 

@@ -10,23 +10,23 @@ use Rattle.job_text.specs.JobReading.{job_in}
 use Rattle.job_text.specs.JobForm.{IsJob}
 
 -- the bytes are the JSON text of the value
-abbrev pub IsTextOf : List ℕ → Data → Type 0
-IsTextOf bytes d = IsUtf8 bytes × (read bytes ≡ Some d)
+abbrev pub IsJsonText : List ℕ → Data → Type 0
+IsJsonText bytes d = IsUtf8 bytes × (read bytes ≡ Some d)
 
 -- the bytes are the JSON text of a value that stands for the job
 abbrev pub Describes : List ℕ → Job → Type 0
-Describes bytes job = (d : Data) × IsTextOf bytes d × IsJob d job
+Describes bytes job = (d : Data) × IsJsonText bytes d × IsJob d job
 
 -- `BadJson` where the bytes are the text of no value, and a fault where it is the first one of the value
 abbrev pub IsRefused : List ℕ → JobRefusal → Type 0
-IsRefused bytes refusals.BadJson = (d : Data) → IsTextOf bytes d → ⊥
-IsRefused bytes (refusals.Fault fault) = (d : Data) × IsTextOf bytes d × (job_in d ≡ Err fault) × (fault ≢ faults.OutOfMemory)
+IsRefused bytes refusals.BadJson = (d : Data) → IsJsonText bytes d → ⊥
+IsRefused bytes (refusals.Fault fault) = (d : Data) × IsJsonText bytes d × (job_in d ≡ Err fault) × (fault ≢ faults.OutOfMemory)
 IsRefused bytes refusals.OutOfMemory = ⊤
 
 -- it is what reading gives, unless memory ran out
-abbrev pub Answers : List ℕ → Result Job JobRefusal → Type 0
-Answers bytes (Ok job) = (d : Data) × IsTextOf bytes d × (job_in d ≡ Ok job)
-Answers bytes (Err refusal) = IsRefused bytes refusal
+abbrev pub AnswersJob : List ℕ → Result Job JobRefusal → Type 0
+AnswersJob bytes (Ok job) = (d : Data) × IsJsonText bytes d × (job_in d ≡ Ok job)
+AnswersJob bytes (Err refusal) = IsRefused bytes refusal
 
 -- the answer, unless memory ran out
 abbrev pub IsAnswer : Job → Result Job JobRefusal → Type 0

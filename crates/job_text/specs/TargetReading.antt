@@ -4,7 +4,7 @@ use Rattle.serde_json.specs.Data.{Data}
 use Rattle.json_form.specs.declared.fault.JobFault.{JobFault}
 use Rattle.json_form.specs.declared.fault.JobFault.TheVariants.{Missing}
 use Rattle.dap_base.specs.Outcome.{◌>>=◌}
-use Rattle.json_form.specs.Reading.{flag, choice, number, such, only_keys, required, or_else, list_of, alone, never, repeats_by}
+use Rattle.json_form.specs.Reading.{flag, one_of_two, number, such, only_keys, required, or_else, list_of, alone, never, repeats_by}
 use Rattle.target_machine.specs.declared.job.ApJob.{ApJob}
 use Rattle.target_machine.specs.declared.job.RegionJob.{RegionJob}
 use Rattle.target_machine.specs.declared.job.WordJob.{WordJob}
@@ -41,7 +41,7 @@ region_in earlier d = do
   known ← only_keys region_keys d
   address ← required (codes "address") (such is_aligned address_number) d
   length ← required (codes "length") (such (is_length_after earlier address) (number 4 4194304)) d
-  read_only ← or_else (codes "kind") (choice (codes "rw") (codes "ro")) false d
+  read_only ← or_else (codes "kind") (one_of_two (codes "rw") (codes "ro")) false d
   Ok (record { address = address; length = length; read_only = read_only })
 
 -- an item of `words` or `reset`: the value of a word in a region
@@ -77,7 +77,7 @@ port_in d = do
   powered ← or_else (codes "powered") flag false d
   power_reads ← power_reads_in d
   pins ← or_else (codes "pins") (such lacks_bits_4_and_6 (number 0 255)) 0xA0 d
-  carry ← or_else (codes "edge") (choice (codes "wrap") (codes "carry")) false d
+  carry ← or_else (codes "edge") (one_of_two (codes "wrap") (codes "carry")) false d
   Ok (record { dpidr = dpidr; powered = powered; power_reads = power_reads; pins = pins; carry = carry })
 
 -- the value of `aps`: at most 16 access ports of different numbers

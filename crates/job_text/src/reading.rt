@@ -6,7 +6,7 @@ ghost use Rattle.json_form.specs.Reading.{only_keys};
 ghost use Rattle.probe_core.specs.Ranges.{IsBenchJob};
 ghost use Rattle.job_text.specs.Keys.{job_keys};
 ghost use Rattle.job_text.specs.JobReading.{dbgconf_in, job_in, optional_in, watch_in};
-ghost use Rattle.job_text.specs.Answers.{Answers, Describes, IsRefused, IsAnswer};
+ghost use Rattle.job_text.specs.Answers.{AnswersJob, Describes, IsRefused, IsAnswer};
 ghost use Rattle.job_text.specs.Ranges.{AreSettings, AreWatched, AreEntryTexts};
 ghost use Rattle.job_text.specs.declared.job.Job.{Job};
 
@@ -103,7 +103,7 @@ fn job_in_value(alloc: Global, value: &Value) -> Result<Job, JobFault>
 }
 
 fn answer_of(alloc: Global, bytes: &[u8]) -> Result<Job, JobRefusal>
-    ensures { Answers bytes.now result }
+    ensures { AnswersJob bytes.now result }
 {
     let value = match Value::from_slice(alloc, bytes) {
         Ok(value) => value,

@@ -13,7 +13,7 @@ use Rattle.json_form.specs.declared.path.PathStep.TheVariants.{Key, Index}
 use Rattle.json_form.specs.Faults.{at, fault_at, IsValueFault, IsDecided}
 use Rattle.dap_base.specs.Outcome.{◌>>=◌}
 use Rattle.json_form.specs.Names.{names, least_unknown}
-use Rattle.json_form.specs.Reading.{text, flag, choice, any_number, number, such, only_keys, required, some_of, optional, or_else, item_after, items_after, items_len, has_room, list_of, alone}
+use Rattle.json_form.specs.Reading.{text, flag, one_of_two, any_number, number, such, only_keys, required, some_of, optional, or_else, item_after, items_after, items_len, has_room, list_of, alone}
 
 -- ---- steps of a reading
 
@@ -54,8 +54,8 @@ text_decided d = ok_or_decided (as_str d) (WrongKind []) tt
 pub flag_decided : (d : Data) → IsDecided (flag d)
 flag_decided d = ok_or_decided (as_bool d) (WrongKind []) tt
 
-pub choice_decided : (first second : List ℕ) (d : Data) → IsDecided (choice first second d)
-unfolding choice
+pub choice_decided : (first second : List ℕ) (d : Data) → IsDecided (one_of_two first second d)
+unfolding one_of_two
 choice_decided first second d =
     bind_decided (text d) _ (text_decided d) (λ word. cond_decided (bytes_eq word first) _ _ tt (cond_decided (bytes_eq word second) _ _ tt tt))
 

@@ -7,7 +7,7 @@ use Rattle.dap_base.specs.Number.{number_value}
 use Rattle.dap_base.proofs.Basics.{text_itself, same_text}
 use Rattle.json_form.specs.declared.fault.JobFault.{JobFault}
 use Rattle.json_form.specs.declared.fault.JobFault.TheVariants.{WrongKind, BadNumber}
-use Rattle.json_form.specs.Reading.{text, flag, choice, any_number, number as number_in, such}
+use Rattle.json_form.specs.Reading.{text, flag, one_of_two, any_number, number as number_in, such}
 use Rattle.json_form.specs.Form.{IsText, IsFlag, IsChoice, IsAnyNumber, IsNumber, Such}
 use Rattle.json_form.proofs.ReadingLaws.{Reads, done, bind_ok}
 
@@ -43,8 +43,8 @@ chosen_at true b x e = inl (refl, (let same : false ≡ x = cc in sym same))
 chosen_at false true x e = inr (refl, (let same : true ≡ x = cc in sym same))
 chosen_at false false x e = absurd cc
 
-pub choice_reads : (first second : List ℕ) → bytes_eq second first ≡ false → Reads (choice first second) (IsChoice first second)
-unfolding choice
+pub choice_reads : (first second : List ℕ) → bytes_eq second first ≡ false → Reads (one_of_two first second) (IsChoice first second)
+unfolding one_of_two
 choice_reads first second apart = record {
   sound = λ d x e. (
       let a = bind_ok _ _ x e in

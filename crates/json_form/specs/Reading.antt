@@ -24,8 +24,8 @@ abbrev pub flag : Data → Result Bool JobFault
 flag d = ok_or (as_bool d) (WrongKind [])
 
 -- one of two texts; `true` for the second
-unfoldable pub choice : List ℕ → List ℕ → Data → Result Bool JobFault
-choice first second d = do
+unfoldable pub one_of_two : List ℕ → List ℕ → Data → Result Bool JobFault
+one_of_two first second d = do
   word ← text d
   if bytes_eq word first then Ok false else (if bytes_eq word second then Ok true else Err (WrongKind []))
 

@@ -1,6 +1,6 @@
 //! Texts, flags and choices.
 ghost use Rattle.std.specs.Prelude.{◌≡◌};
-ghost use Rattle.json_form.specs.Reading.{text, flag, choice};
+ghost use Rattle.json_form.specs.Reading.{text, flag, one_of_two};
 
 use crate::fault::JobFault;
 use crate::path::Path;
@@ -54,9 +54,9 @@ pub struct Choice {
 impl Reader for Choice {
     type Item = bool;
 
-    ghost reads = { λ c. choice c.first.now c.second.now };
+    ghost reads = { λ c. one_of_two c.first.now c.second.now };
 
-    #[tactic(auto, unfolding(crate::specs::Reading::choice))]
+    #[tactic(auto, unfolding(crate::specs::Reading::one_of_two))]
     fn read(&self, alloc: Global, value: &Value) -> Result<bool, JobFault> {
         let Some(word) = value.as_str() else {
             return Err(JobFault::WrongKind(Path::new(alloc)));

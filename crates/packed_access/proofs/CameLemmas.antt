@@ -17,7 +17,7 @@ use Rattle.target_calls.specs.declared.journal.Part.TheVariants.{Settles}
 use Rattle.target_calls.proofs.CallLists.{append_results, count_of}
 use Rattle.target_calls.proofs.EntryLemmas.{pass_front}
 use Rattle.target_calls.proofs.MarkLemmas.{length_marked, marked_same, results_marked, stop_marked}
-use Rattle.access_regs.specs.Alone.{NoneFaults, alone}
+use Rattle.access_regs.specs.Alone.{NoneFaults, call_alone}
 use Rattle.access_regs.specs.Entries.{kept_by, target_by}
 use Rattle.access_regs.specs.Journal.{Step, entries_at, finish_of, issue_of, issued, issued_from, kept_at, kept_from, numbered, steps_of, target_at}
 use Rattle.access_regs.specs.Kept.{nothing_kept}
@@ -104,7 +104,7 @@ askable_unmarked (x ∷ y ∷ calls) h = (h.0, askable_unmarked (y ∷ calls) h.
 faults_marked : (t : TargetState) (large : List ℕ) (calls : List Ask) → NoneFaults t large calls → NoneFaults t large (settled_last calls)
 faults_marked t large [] h = h
 faults_marked t large (x ∷ []) h = h
-faults_marked t large (x ∷ y ∷ calls) h = (h.0, faults_marked (alone t large x).next (alone t large x).large (y ∷ calls) h.1)
+faults_marked t large (x ∷ y ∷ calls) h = (h.0, faults_marked (call_alone t large x).next (call_alone t large x).large (y ∷ calls) h.1)
 
 pub none_marked : (t : TargetState) (large : List ℕ) (calls : List Ask) → NoneStops t large calls → NoneStops t large (settled_last calls)
 none_marked t large calls h = record {

@@ -12,7 +12,7 @@ use Rattle.target_calls.specs.Asks.{is_wide, unit_ask}
 use Rattle.target_calls.specs.World.{AtLeast, is_faulted, is_small_end, later_by, one_fewer, small_after, small_now, start_world, stop, world_after}
 use Rattle.target_calls.specs.declared.calls.Ask.{Ask}
 use Rattle.target_calls.proofs.OneCall.{one_small}
-use Rattle.access_regs.specs.Alone.{NoneFaults, alone, alone_after, large_of_all}
+use Rattle.access_regs.specs.Alone.{NoneFaults, call_alone, alone_after, large_of_all}
 use Rattle.access_regs.specs.Kept.{Kept}
 use Rattle.access_regs.specs.Stops.{world_at}
 use Rattle.access_regs.proofs.StopLists.{good_end, live_more}
@@ -33,8 +33,8 @@ none_stop : (t : TargetState) (large : List ℕ) (n : Option ℕ) (calls : List 
 none_stop t large n [] none enough = refl
 none_stop t large n (c ∷ calls) none enough =
     let live = live_more n (length calls) enough in
-    let good : is_faulted (alone t large c).end ≡ false = good_end (alone t large c).end none.0 in
-    rw (live.0, good) (ap (later_by 1) (none_stop (alone t large c).next (alone t large c).large (one_fewer n) calls none.1 live.1))
+    let good : is_faulted (call_alone t large c).end ≡ false = good_end (call_alone t large c).end none.0 in
+    rw (live.0, good) (ap (later_by 1) (none_stop (call_alone t large c).next (call_alone t large c).large (one_fewer n) calls none.1 live.1))
 
 -- a call after them ends the same in each of these worlds
 small_here : (t : TargetState) (n : Option ℕ) (calls : List Ask) (ask : Ask) → NoneFaults t [] calls → AtLeast (length calls) n → small_now (start_world t n) calls ask ≡ is_small_end (call_done (alone_after t [] calls) (large_of_all t [] calls) ask.forgive ask.call).end

@@ -1,6 +1,6 @@
 -- What a bench reports stays in range.
 use Rattle.std.proofs.Common.{◌≡◌, ℕ, ◌+◌, ◌^◌, ◌<◌, ◌==◌, Bool, true, false, cond, if◌then◌else◌, List, [], ◌∷◌, ◌++◌, length, length-append, refl, ap, ◌∙◌, arith}
-use Rattle.probe_core.specs.Bench.{CanSend, Exchange, Reported, counted, last_with, loaded, received, sent}
+use Rattle.probe_core.specs.Bench.{CanSend, Exchange, Reported, counted_up, last_with, loaded, received, sent}
 use Rattle.probe_core.specs.Probe.{is_queued}
 use Rattle.probe_core.specs.Ranges.{AreLimits, IsBenchJob}
 use Rattle.probe_core.specs.Reports.{AreInRange, IsInRange}
@@ -59,9 +59,9 @@ loaded_in_range r job range few_exchanges = record {
 }
 
 abbrev exchanges_with : Reported → ℕ
-exchanges_with r = if r.held == 0 then counted r.exchanges else r.exchanges
+exchanges_with r = if r.held == 0 then counted_up r.exchanges else r.exchanges
 
-few_as : (z : Bool) (n : ℕ) → n < 2 ^ 64 → cond z (counted n) n < 2 ^ 64
+few_as : (z : Bool) (n : ℕ) → n < 2 ^ 64 → cond z (counted_up n) n < 2 ^ 64
 few_as true n few = omega arith
 few_as false n few = few
 

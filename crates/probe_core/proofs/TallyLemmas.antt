@@ -5,7 +5,7 @@ use Rattle.std.proofs.lemmas.Nat.{mul-le}
 use Rattle.std.proofs.lemmas.List.{length-drop}
 use Rattle.std.proofs.lemmas.Bool.{both_ways}
 use Rattle.std.proofs.lemmas.Grind.{common_steps}
-use Rattle.probe_core.specs.Bench.{BenchState, counted}
+use Rattle.probe_core.specs.Bench.{BenchState, counted_up}
 use Rattle.probe_core.specs.Log.{Entry, IsCountedLog, IsLongestFront, IsMeasuredLog, Log, empty_log, keeps, logged, logged_all, packet_entry, reply_entry, size_of, total_size}
 use Rattle.probe_core.specs.Packet.{accepted}
 use Rattle.probe_core.specs.Probe.{ProbeState, is_queued}
@@ -235,18 +235,18 @@ few_held count waiting held most few = omega (arith, few)
 
 -- one more entry, and the packets of an exchange are answered
 few_answered : (count waiting held size starting : ℕ) → count < 2 ^ 32 → waiting ≡ 0 → held < size → size ≤ 64 → count + waiting ≤ 2 * size * starting + held
-    → min (count + 1) (2 ^ 32 - 1) + (held + 1) ≤ 2 * size * counted starting + 0
+    → min (count + 1) (2 ^ 32 - 1) + (held + 1) ≤ 2 * size * counted_up starting + 0
 few_answered count waiting held size starting small none room most few = by (nat_le (starting + 1) (2 ^ 64 - 1)) refl where
-  by : (b : Bool) → nat_le (starting + 1) (2 ^ 64 - 1) ≡ b → min (count + 1) (2 ^ 32 - 1) + (held + 1) ≤ 2 * size * counted starting + 0
+  by : (b : Bool) → nat_le (starting + 1) (2 ^ 64 - 1) ≡ b → min (count + 1) (2 ^ 32 - 1) + (held + 1) ≤ 2 * size * counted_up starting + 0
   by true is =
       let le : starting + 1 ≤ 2 ^ 64 - 1 = grind (arith, common_steps, is) in
-      let next : counted starting ≡ suc starting = omega (arith, le) in
-      let product : 2 * size * counted starting ≡ 2 * size * starting + 2 * size = ap (λ (n : ℕ). 2 * size * n) next ∙ mul-suc (2 * size) starting in
+      let next : counted_up starting ≡ suc starting = omega (arith, le) in
+      let product : 2 * size * counted_up starting ≡ 2 * size * starting + 2 * size = ap (λ (n : ℕ). 2 * size * n) next ∙ mul-suc (2 * size) starting in
       omega (arith, product, few, none, room)
   by false is =
       let high : 2 ^ 64 - 1 < starting + 1 = grind (arith, common_steps, is) in
-      let last : counted starting ≡ 2 ^ 64 - 1 = omega (arith, high) in
-      let product : 2 * size * counted starting ≡ 2 * size * (2 ^ 64 - 1) = ap (λ (n : ℕ). 2 * size * n) last in
+      let last : counted_up starting ≡ 2 ^ 64 - 1 = omega (arith, high) in
+      let product : 2 * size * counted_up starting ≡ 2 * size * (2 ^ 64 - 1) = ap (λ (n : ℕ). 2 * size * n) last in
       omega (arith, product, room, most)
 
 -- one more entry, and one reply fewer
@@ -259,14 +259,14 @@ few_replied count waiting held most some few = omega (arith, some, few)
 packet_by : (b : Bool) (p : ProbeState) (packet : List ℕ) (starting : ℕ) (log : Log) → AreLimits p.executor.limits → length p.held < p.executor.limits.packet_count → length p.waiting ≡ 0
     → IsCountedLog log → log.count + length p.waiting ≤ 2 * p.executor.limits.packet_count * starting + length p.held
     → min (log.count + 1) (2 ^ 32 - 1) + cond b (length p.waiting) (length p.held + 1)
-    ≤ 2 * p.executor.limits.packet_count * cond b starting (counted starting) + cond b (length p.held + 1) 0
+    ≤ 2 * p.executor.limits.packet_count * cond b starting (counted_up starting) + cond b (length p.held + 1) 0
 packet_by true p packet starting log range room none c few = few_held log.count (length p.waiting) (length p.held) (2 * p.executor.limits.packet_count * starting) few
 packet_by false p packet starting log range room none c few = few_answered log.count (length p.waiting) (length p.held) p.executor.limits.packet_count starting c.few none room range.count_high few
 
 -- the same where the parts are those of a probe after the packet
 pub tallied_packet : (p q : ProbeState) (packet : List ℕ) (starting next : ℕ) (queued : Bool) (log after : Log) → AreLimits p.executor.limits → length p.held < p.executor.limits.packet_count
     → length p.waiting ≡ 0 → length packet ≤ p.executor.limits.packet_size → IsCountedLog log → AreTallied p.executor.limits (length p.held) (length p.waiting) starting log
-    → q ≡ accepted p packet → next ≡ cond queued starting (counted starting) → queued ≡ is_queued packet → after ≡ logged log (packet_entry packet)
+    → q ≡ accepted p packet → next ≡ cond queued starting (counted_up starting) → queued ≡ is_queued packet → after ≡ logged log (packet_entry packet)
     → AreTallied q.executor.limits (length q.held) (length q.waiting) next after
 tallied_packet p q packet starting next queued log after range room none size c t is_q is_next is_queue is_log =
     rw is_q (subst (λ (l : Limits). AreTallied l (length (accepted p packet).held) (length (accepted p packet).waiting) next after) (sym (limits_as (is_queued packet) p packet)) (record {

@@ -13,7 +13,7 @@ use Rattle.target_calls.specs.declared.calls.Ask.{Ask}
 use Rattle.access_calls.specs.declared.stop.Stop.{Stop}
 use Rattle.access_calls.specs.declared.stop.Stop.TheVariants.{OutOfMemory}
 use Rattle.sequels.specs.Meeting.{Gave, LeftOff, Reaches}
-use Rattle.sequels.specs.Sequel.{Sequel, Ends, Writes, after}
+use Rattle.sequels.specs.Sequel.{Sequel, Ends, Writes, followed_by}
 use Rattle.sequels.proofs.MeetingLemmas.{gave_by, left_line, left_on, reaches_by, reaches_line, reaches_on, reaches_same, reaches_to}
 use Rattle.rom_scan.specs.Components.{component_at, component_line, is_table}
 use Rattle.rom_scan.specs.Arrivals.{IsOpenTable, reads_left}
@@ -36,7 +36,7 @@ module _ (w : World) (n : ℕ) (tables : List Table) (address : ℕ) (listed : L
   full_here le = gave_by w all Full old old before before (reaches_to w all all (Ends Full) old old before before ((opens 1024 n tables address listed).full le) (reaches_same w all old before))
 
   module _ (deep : length tables ≤ 7) (room : length listed < 1024) where
-    opened_is : all ≡ after (component_at n address (1 + length tables)) lined
+    opened_is : all ≡ followed_by (component_at n address (1 + length tables)) lined
     opened_is = (opens 1024 n tables address listed).room deep room
 
     pub arrive_stops : (lines : ℕ) (new : List Ask) (e : Stop) → StopsIn w lines (component_at n address (1 + length tables)) old new before before e → StopsIn w lines all old new before before e

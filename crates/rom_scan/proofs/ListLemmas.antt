@@ -5,7 +5,7 @@ use Rattle.std.proofs.lemmas.Bool.{le-leb, leb-false, leb-true, lt-leb, ltb-fals
 use Rattle.std.proofs.lemmas.List.{flat_map_more, length-append, take-append-le}
 use Rattle.std.proofs.Math.Seq.{take-append-add}
 use Rattle.target_calls.specs.declared.calls.Ask.{Ask}
-use Rattle.sequels.specs.Sequel.{Sequel, Ends, Writes, after, answered}
+use Rattle.sequels.specs.Sequel.{Sequel, Ends, Writes, followed_by, written_and_end}
 use Rattle.sequels.proofs.SequelLemmas.{answered_after}
 use Rattle.rom_scan.specs.Components.{base_ask, by_words, component_at, component_line, identified, is_component, is_no_base, is_table, known_as, named_by, page, unknown_at, word_ask, words_sequel}
 use Rattle.rom_scan.specs.Listing.{ListsComponents, component_lines, component_of, components_by, listed_within, row_of_words, with_component, with_entries}
@@ -55,8 +55,8 @@ module _ (word : ℕ → ℕ) where
 
 -- From the components so far a walk goes on to all of these, within the limit.
 pub record Goes (f : Ask → ℕ) (most : ℕ) (s : Sequel Walked) (listed all : List Component) : Type 0 where
-  pub written : component_lines listed ++ (answered f s).0 ≡ component_lines (take most all)
-  pub end : (answered f s).1 ≡ listed_within most all
+  pub written : component_lines listed ++ (written_and_end f s).0 ≡ component_lines (take most all)
+  pub end : (written_and_end f s).1 ≡ listed_within most all
 
 take_all : (most : ℕ) (l : List Component) → length l ≤ most → take most l ≡ l
 take_all most l le = by_count (most - length l) (omega (arith, le))
@@ -103,11 +103,11 @@ module _ (f : Ask → ℕ) (most : ℕ) where
   goes_on s next listed mid all g grows rest = one (nat_le (length mid) most) refl
     where
       first : List ℕ
-      first = (answered f s).0
+      first = (written_and_end f s).0
 
       -- by the end of the first part
-      by_end : (x : Walked) → (answered f s).1 ≡ x → answered f (on s next) ≡ (first ++ (answered f (on_listed next x)).0, (answered f (on_listed next x)).1)
-      by_end x e = answered_after f s (on_listed next) ∙ ap (λ (w : Walked). (first ++ (answered f (on_listed next w)).0, (answered f (on_listed next w)).1)) e
+      by_end : (x : Walked) → (written_and_end f s).1 ≡ x → written_and_end f (on s next) ≡ (first ++ (written_and_end f (on_listed next x)).0, (written_and_end f (on_listed next x)).1)
+      by_end x e = answered_after f s (on_listed next) ∙ ap (λ (w : Walked). (first ++ (written_and_end f (on_listed next w)).0, (written_and_end f (on_listed next w)).1)) e
 
       one : (b : Bool) → nat_le (length mid) most ≡ b → Goes f most (on s next) listed all
       one true e =
@@ -116,8 +116,8 @@ module _ (f : Ask → ℕ) (most : ℕ) where
           let q = by_end (Listed mid) (g.end ∙ within most mid le) in
           record {
             written =
-                ap (λ (p : List ℕ × Walked). component_lines listed ++ p.0) q ∙ sym (append_assoc (component_lines listed) first (answered f (next mid)).0)
-                ∙ ap (λ (l : List ℕ). l ++ (answered f (next mid)).0) (g.written ∙ ap component_lines (take_all most mid le)) ∙ r.written;
+                ap (λ (p : List ℕ × Walked). component_lines listed ++ p.0) q ∙ sym (append_assoc (component_lines listed) first (written_and_end f (next mid)).0)
+                ∙ ap (λ (l : List ℕ). l ++ (written_and_end f (next mid)).0) (g.written ∙ ap component_lines (take_all most mid le)) ∙ r.written;
             end = ap (λ (p : List ℕ × Walked). p.1) q ∙ r.end;
           }
       one false e =
@@ -133,30 +133,30 @@ module _ (f : Ask → ℕ) (most : ℕ) where
   -- ---- a component
 
   -- what is read without a line
-  silent : {X Y : Type 0} (s : Sequel X) (next : X → Sequel Y) (x : X) → answered f s ≡ ([], x) → answered f (after s next) ≡ answered f (next x)
-  silent s next x e = answered_after f s next ∙ ap (λ (p : List ℕ × _). (p.0 ++ (answered f (next p.1)).0, (answered f (next p.1)).1)) e
+  silent : {X Y : Type 0} (s : Sequel X) (next : X → Sequel Y) (x : X) → written_and_end f s ≡ ([], x) → written_and_end f (followed_by s next) ≡ written_and_end f (next x)
+  silent s next x e = answered_after f s next ∙ ap (λ (p : List ℕ × _). (p.0 ++ (written_and_end f (next p.1)).0, (written_and_end f (next p.1)).1)) e
 
   module _ (ap_ : ℕ) where
     abbrev word : ℕ → ℕ
     word address = f (word_ask ap_ address)
 
-    words_are : (n address : ℕ) (read : List ℕ) → answered f (words_sequel ap_ n address read) ≡ ([], read ++ row_of_words word n address)
+    words_are : (n address : ℕ) (read : List ℕ) → written_and_end f (words_sequel ap_ n address read) ≡ ([], read ++ row_of_words word n address)
     words_are zero address read = ap (λ (l : List ℕ). ([], l)) (sym (append-nil read))
     words_are (suc n) address read =
         words_are n (address + 4) (read ++ word address ∷ []) ∙ ap (λ (l : List ℕ). ([], l)) (append_assoc read (word address ∷ []) (row_of_words word n (address + 4)))
 
-    identified_is : (address depth : ℕ) (cidr : List ℕ) → answered f (identified ap_ address depth cidr) ≡ ([], known_as address depth cidr (row_of_words word 1 (address + 0xFD0)) (row_of_words word 4 (address + 0xFE0)))
+    identified_is : (address depth : ℕ) (cidr : List ℕ) → written_and_end f (identified ap_ address depth cidr) ≡ ([], known_as address depth cidr (row_of_words word 1 (address + 0xFD0)) (row_of_words word 4 (address + 0xFE0)))
     identified_is address depth cidr =
-        silent (words_sequel ap_ 1 (address + 0xFD0) []) (λ fourth. after (words_sequel ap_ 4 (address + 0xFE0) []) (λ first. Ends (known_as address depth cidr fourth first))) (row_of_words word 1 (address + 0xFD0)) (words_are 1 (address + 0xFD0) [])
+        silent (words_sequel ap_ 1 (address + 0xFD0) []) (λ fourth. followed_by (words_sequel ap_ 4 (address + 0xFE0) []) (λ first. Ends (known_as address depth cidr fourth first))) (row_of_words word 1 (address + 0xFD0)) (words_are 1 (address + 0xFD0) [])
         ∙ silent (words_sequel ap_ 4 (address + 0xFE0) []) (λ first. Ends (known_as address depth cidr (row_of_words word 1 (address + 0xFD0)) first)) (row_of_words word 4 (address + 0xFE0)) (words_are 4 (address + 0xFE0) [])
 
-    component_is : (address depth : ℕ) → answered f (component_at ap_ address depth) ≡ ([], component_of word address depth)
+    component_is : (address depth : ℕ) → written_and_end f (component_at ap_ address depth) ≡ ([], component_of word address depth)
     unfolding component_at component_of
     component_is address depth =
         silent (words_sequel ap_ 4 (address + 0xFF0) []) (λ cidr. by_words ap_ address depth cidr) (row_of_words word 4 (address + 0xFF0)) (words_are 4 (address + 0xFF0) [])
         ∙ one (is_component (row_of_words word 4 (address + 0xFF0)))
       where
-        one : (b : Bool) → answered f (cond b (identified ap_ address depth (row_of_words word 4 (address + 0xFF0))) (Ends (unknown_at address depth)))
+        one : (b : Bool) → written_and_end f (cond b (identified ap_ address depth (row_of_words word 4 (address + 0xFF0))) (Ends (unknown_at address depth)))
             ≡ ([], cond b (known_as address depth (row_of_words word 4 (address + 0xFF0)) (row_of_words word 1 (address + 0xFD0)) (row_of_words word 4 (address + 0xFE0))) (unknown_at address depth))
         one true = identified_is address depth (row_of_words word 4 (address + 0xFF0))
         one false = refl
@@ -177,16 +177,16 @@ module _ (f : Ask → ℕ) (most : ℕ) where
         lined : Component → Sequel Walked
         lined x = Writes (component_line x) (inside x (listed ++ x ∷ []))
 
-        one : (b : Bool) → nat_lt (length listed) most ≡ b → Goes f most (cond b (after (component_at ap_ address depth) lined) (Ends Full)) listed all
+        one : (b : Bool) → nat_lt (length listed) most ≡ b → Goes f most (cond b (followed_by (component_at ap_ address depth) lined) (Ends Full)) listed all
         one true e =
             let room : length (listed ++ c ∷ []) ≤ most = (let lt = ltb-true (length listed) most e in omega (arith, count, lt)) in
             let r = rest room in
-            let q : answered f (after (component_at ap_ address depth) lined) ≡ answered f (lined c) = silent (component_at ap_ address depth) lined c (component_is address depth) in
+            let q : written_and_end f (followed_by (component_at ap_ address depth) lined) ≡ written_and_end f (lined c) = silent (component_at ap_ address depth) lined c (component_is address depth) in
             record {
               written =
                   ap (λ (p : List ℕ × Walked). component_lines listed ++ p.0) q
-                  ∙ sym (append_assoc (component_lines listed) (component_line c) (answered f (inside c (listed ++ c ∷ []))).0)
-                  ∙ ap (λ (l : List ℕ). l ++ (answered f (inside c (listed ++ c ∷ []))).0) (one_more listed c)
+                  ∙ sym (append_assoc (component_lines listed) (component_line c) (written_and_end f (inside c (listed ++ c ∷ []))).0)
+                  ∙ ap (λ (l : List ℕ). l ++ (written_and_end f (inside c (listed ++ c ∷ []))).0) (one_more listed c)
                   ∙ r.written;
               end = ap (λ (p : List ℕ × Walked). p.1) q ∙ r.end;
             }

@@ -1,7 +1,7 @@
 -- What a scan asks.
 use Rattle.std.proofs.Common.{◌≡◌, ℕ, zero, suc, ◌+◌, ◌-◌, ◌*◌, ◌%◌, ◌^◌, ◌<◌, ◌≤◌, nat_lt, ◌==◌, Bool, true, false, cond, List, [], ◌∷◌, ◌++◌, length, refl, arith}
 use Rattle.target_calls.specs.declared.calls.Ask.{Ask}
-use Rattle.sequels.specs.Sequel.{Sequel, Asks, Ends, Writes, after}
+use Rattle.sequels.specs.Sequel.{Sequel, Asks, Ends, Writes, followed_by}
 use Rattle.sequels.specs.Steady.{OnlyAsks}
 use Rattle.rom_scan.specs.Components.{by_words, component_at, component_line, identified, is_component, is_no_base, is_table, known_as, named_by, page, unknown_at, word_ask}
 use Rattle.rom_scan.specs.Components.{words_sequel as words_from}
@@ -23,13 +23,13 @@ module _ (n : ℕ) where
   EachEnd R (Writes line on) = EachEnd R on
 
   -- the same after each end
-  ends_after : {X Y : Type 0} (R : Y → Type 0) (s : Sequel X) (next : X → Sequel Y) → ((x : X) → EachEnd R (next x)) → EachEnd R (after s next)
+  ends_after : {X Y : Type 0} (R : Y → Type 0) (s : Sequel X) (next : X → Sequel Y) → ((x : X) → EachEnd R (next x)) → EachEnd R (followed_by s next)
   unfolding EachEnd
   ends_after R (Ends x) next h = h x
   ends_after R (Asks ask on) next h = λ k. ends_after R (on k) next h
   ends_after R (Writes line on) next h = ends_after R on next h
 
-  only_after : {X Y : Type 0} (R : X → Type 0) (s : Sequel X) (next : X → Sequel Y) → OnlyAsks (Reads n) s → EachEnd R s → ((x : X) → R x → OnlyAsks (Reads n) (next x)) → OnlyAsks (Reads n) (after s next)
+  only_after : {X Y : Type 0} (R : X → Type 0) (s : Sequel X) (next : X → Sequel Y) → OnlyAsks (Reads n) s → EachEnd R s → ((x : X) → R x → OnlyAsks (Reads n) (next x)) → OnlyAsks (Reads n) (followed_by s next)
   unfolding EachEnd
   only_after R (Ends x) next q e h = h x e
   only_after R (Asks ask on) next q e h = (q.0, λ k. only_after R (on k) next (q.1 k) (e k) h)
@@ -41,7 +41,7 @@ module _ (n : ℕ) where
   any_end (Asks ask on) = λ k. any_end (on k)
   any_end (Writes line on) = any_end on
 
-  only_then : {X Y : Type 0} (s : Sequel X) (next : X → Sequel Y) → OnlyAsks (Reads n) s → ((x : X) → OnlyAsks (Reads n) (next x)) → OnlyAsks (Reads n) (after s next)
+  only_then : {X Y : Type 0} (s : Sequel X) (next : X → Sequel Y) → OnlyAsks (Reads n) s → ((x : X) → OnlyAsks (Reads n) (next x)) → OnlyAsks (Reads n) (followed_by s next)
   only_then s next q h = only_after (λ x. Unit {0}) s next q (any_end s) (λ x e. h x)
 
   only_either : {X : Type 0} (b : Bool) (s q : Sequel X) → OnlyAsks (Reads n) s → OnlyAsks (Reads n) q → OnlyAsks (Reads n) (cond b s q)
@@ -55,7 +55,7 @@ module _ (n : ℕ) where
 
   only_identified : (address depth : ℕ) (cidr : List ℕ) → address % 4096 ≡ 0 → address < 2 ^ 32 → OnlyAsks (Reads n) (identified n address depth cidr)
   only_identified address depth cidr aligned low =
-      only_then (words_from n 1 (address + 0xFD0) []) (λ fourth. after (words_from n 4 (address + 0xFE0) []) (λ first. Ends (known_as address depth cidr fourth first))) (only_words 1 (address + 0xFD0) [] (omega (arith, aligned)) (omega (arith, aligned, low)))
+      only_then (words_from n 1 (address + 0xFD0) []) (λ fourth. followed_by (words_from n 4 (address + 0xFE0) []) (λ first. Ends (known_as address depth cidr fourth first))) (only_words 1 (address + 0xFD0) [] (omega (arith, aligned)) (omega (arith, aligned, low)))
       (λ fourth. only_then (words_from n 4 (address + 0xFE0) []) (λ first. Ends (known_as address depth cidr fourth first)) (only_words 4 (address + 0xFE0) [] (omega (arith, aligned)) (omega (arith, aligned, low))) (λ first. tt))
 
   only_component : (address depth : ℕ) → address % 4096 ≡ 0 → address < 2 ^ 32 → OnlyAsks (Reads n) (component_at n address depth)
@@ -74,7 +74,7 @@ module _ (n : ℕ) where
     where
       one : (cidr : List ℕ) (b : Bool) → EachEnd (IsAt address) (cond b (identified n address depth cidr) (Ends (unknown_at address depth)))
       one cidr true =
-          ends_after (IsAt address) (words_from n 1 (address + 0xFD0) []) (λ fourth. after (words_from n 4 (address + 0xFE0) []) (λ first. Ends (known_as address depth cidr fourth first)))
+          ends_after (IsAt address) (words_from n 1 (address + 0xFD0) []) (λ fourth. followed_by (words_from n 4 (address + 0xFE0) []) (λ first. Ends (known_as address depth cidr fourth first)))
           (λ fourth. ends_after (IsAt address) (words_from n 4 (address + 0xFE0) []) (λ first. Ends (known_as address depth cidr fourth first)) (λ first. refl))
       one cidr false = refl
 
@@ -89,7 +89,7 @@ module _ (n : ℕ) where
       → ((c : Component) (l : List Component) → c.address ≡ address → OnlyAsks (Reads n) (inside c l)) → OnlyAsks (Reads n) (visited most n depth address listed inside)
   unfolding IsAt
   only_visited most depth address listed inside aligned low h =
-      only_either (nat_lt (length listed) most) (after (component_at n address depth) (λ c. Writes (component_line c) (inside c (listed ++ c ∷ [])))) (Ends Full)
+      only_either (nat_lt (length listed) most) (followed_by (component_at n address depth) (λ c. Writes (component_line c) (inside c (listed ++ c ∷ [])))) (Ends Full)
       (only_after (IsAt address) (component_at n address depth) (λ c. Writes (component_line c) (inside c (listed ++ c ∷ []))) (only_component address depth aligned low) (component_ends address depth) (λ c is. h c (listed ++ c ∷ []) is)) tt
 
   -- an entry, and then the rest of its table

@@ -4,7 +4,7 @@ use Rattle.target_calls.specs.World.{World, stop}
 use Rattle.target_calls.specs.declared.calls.Ask.{Ask}
 use Rattle.access_calls.specs.declared.stop.Stop.{Stop}
 use Rattle.sequels.specs.Meeting.{Gave, Reaches}
-use Rattle.sequels.specs.Sequel.{Sequel, Asks, Ends, after, asks}
+use Rattle.sequels.specs.Sequel.{Sequel, Asks, Ends, followed_by, asks}
 use Rattle.sequels.proofs.MeetingLemmas.{gave_by, reaches_by, reaches_on, reaches_same, reaches_to}
 use Rattle.rom_scan.specs.Components.{by_words, component_at, identified, is_component, known_as, unknown_at, word_ask, words_sequel}
 use Rattle.rom_scan.specs.Meets.{StopsIn}
@@ -61,7 +61,7 @@ module _ (w : World) (n address depth : ℕ) (old : List Ask) (written : Option 
   all = component_at n address depth
 
   abbrev last : List ℕ → List ℕ → Sequel Component
-  last cidr fourth = after (words_sequel n 4 (address + 0xFE0) []) (λ first. Ends (known_as address depth cidr fourth first))
+  last cidr fourth = followed_by (words_sequel n 4 (address + 0xFE0) []) (λ first. Ends (known_as address depth cidr fourth first))
 
   by_test : (cidr : List ℕ) (b : Bool) → is_component cidr ≡ b → by_words n address depth cidr ≡ cond b (identified n address depth cidr) (Ends (unknown_at address depth))
   by_test cidr b e = ap (λ (x : Bool). cond x (identified n address depth cidr) (Ends (unknown_at address depth))) e

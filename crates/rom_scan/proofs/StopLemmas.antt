@@ -6,7 +6,7 @@ use Rattle.access_calls.specs.Answers.{AtCut}
 use Rattle.access_calls.specs.declared.stop.Stop.{Stop}
 use Rattle.access_calls.specs.declared.stop.Stop.TheVariants.{Cut, BenchFault, ReplyBad, OutOfMemory}
 use Rattle.sequels.specs.Meeting.{CutOff, Reaches}
-use Rattle.sequels.specs.Sequel.{Sequel, after}
+use Rattle.sequels.specs.Sequel.{Sequel, followed_by}
 use Rattle.sequels.proofs.MeetingLemmas.{cut_by, cut_on, left_by, left_on}
 use Rattle.rom_scan.specs.Meets.{StopsIn}
 
@@ -18,10 +18,10 @@ at_cut ReplyBad P Q f h = tt
 at_cut OutOfMemory P Q f h = tt
 
 -- in the first of two sequels
-pub stops_by : {X Y : Type 0} (w : World) (lines : ℕ) (s : Sequel X) (f : X → Sequel Y) (old new : List Ask) (b n : Option (List ℕ)) (e : Stop) → StopsIn w lines s old new b n e → StopsIn w lines (after s f) old new b n e
+pub stops_by : {X Y : Type 0} (w : World) (lines : ℕ) (s : Sequel X) (f : X → Sequel Y) (old new : List Ask) (b n : Option (List ℕ)) (e : Stop) → StopsIn w lines s old new b n e → StopsIn w lines (followed_by s f) old new b n e
 stops_by w lines s f old new b n e h = record {
   left = left_by w s f old new b n h.left;
-  cut = at_cut e (CutOff w s old new b n × (stop w new ≡ Some (lines + 1))) (CutOff w (after s f) old new b n × (stop w new ≡ Some (lines + 1))) (λ k. (cut_by w s f old new b n k.0, k.1)) h.cut;
+  cut = at_cut e (CutOff w s old new b n × (stop w new ≡ Some (lines + 1))) (CutOff w (followed_by s f) old new b n × (stop w new ≡ Some (lines + 1))) (λ k. (cut_by w s f old new b n k.0, k.1)) h.cut;
 }
 
 -- in the rest of a sequel

@@ -9,7 +9,7 @@ use Rattle.target_machine.specs.declared.ap.ApState.{ApState}
 use Rattle.target_calls.specs.World.{World, done_now, end_result, next_world, stops_here, world_after}
 use Rattle.target_calls.specs.declared.calls.Ask.{Ask}
 use Rattle.sequels.specs.Laws.{AsAnswered}
-use Rattle.sequels.specs.Sequel.{Sequel, Asks, Comes, answered, comes, with_call}
+use Rattle.sequels.specs.Sequel.{Sequel, Asks, Comes, written_and_end, comes, call_first}
 use Rattle.sequels.specs.Steady.{OnlyAsks}
 use Rattle.sequels.proofs.SequelLemmas.{steady_comes}
 use Rattle.rom_scan.specs.Components.{base_ask, word_ask}
@@ -24,7 +24,7 @@ use Rattle.rom_scan.proofs.ShowLemmas.{Fine, Gives, Ready, base_call, by_call, b
 -- ---- a whole scan
 
 -- a call that does not stop
-asks_comes : {X : Type 0} (w : World) (ask : Ask) (on : ℕ → Sequel X) (k : ℕ) → stops_here w ask ≡ false → end_result (done_now w ask).end ≡ k → comes w (Asks ask on) ≡ with_call ask (comes (next_world w ask) (on k))
+asks_comes : {X : Type 0} (w : World) (ask : Ask) (on : ℕ → Sequel X) (k : ℕ) → stops_here w ask ≡ false → end_result (done_now w ask).end ≡ k → comes w (Asks ask on) ≡ call_first ask (comes (next_world w ask) (on k))
 asks_comes w ask on k goes result = rw goes (rw result refl)
 
 asks_after : (w : World) (ask : Ask) (calls : List Ask) → stops_here w ask ≡ false → world_after w (ask ∷ calls) ≡ world_after (next_world w ask) calls
@@ -96,10 +96,10 @@ module _ (w : World) (most n : ℕ) (port : n < 2 ^ 8) (can : CanScan w n) where
   shown : components_by g n ≡ components (shows w.target) base
   shown = ap (components (λ address. g (word_ask n address))) by_base ∙ ap (λ (word : ℕ → ℕ). components word base) (λ i address. by_words address i)
 
-  from_base : answered g (scanned most n) ≡ answered g (components_below most n base)
-  from_base = ap (λ (k : ℕ). answered g (components_below most n k)) by_base
+  from_base : written_and_end g (scanned most n) ≡ written_and_end g (components_below most n base)
+  from_base = ap (λ (k : ℕ). written_and_end g (components_below most n k)) by_base
 
-  comes_is : comes w (scanned most n) ≡ with_call (base_ask n) (comes after_base (components_below most n base))
+  comes_is : comes w (scanned most n) ≡ call_first (base_ask n) (comes after_base (components_below most n base))
   comes_is = asks_comes w (base_ask n) (λ k. components_below most n k) base goes first.result_is
 
   pub lists_target : ListsTarget w most n

@@ -1,7 +1,7 @@
 -- A walk with the tables that are open.
 use Rattle.std.proofs.Common.{◌≡◌, ◌∙◌, ℕ, zero, suc, ◌+◌, ◌-◌, ◌*◌, ◌%◌, ◌==◌, ◌<◌, ◌≤◌, ◌&&◌, Bool, true, false, cond, List, [], ◌∷◌, ◌++◌, length, refl, sym, ap, arith}
 use Rattle.std.proofs.lemmas.Bool.{lt-ltb, le-ltb}
-use Rattle.sequels.specs.Sequel.{Sequel, Asks, Ends, Writes, after}
+use Rattle.sequels.specs.Sequel.{Sequel, Asks, Ends, Writes, followed_by}
 use Rattle.sequels.proofs.SequelLemmas.{after_after, after_ends, after_same}
 use Rattle.rom_scan.specs.declared.component.Component.{Component}
 use Rattle.rom_scan.specs.Components.{component_at, component_line, is_table, named_by, word_ask}
@@ -13,7 +13,7 @@ use Rattle.rom_scan.specs.Tables.{GoesOnByEntry, OpensTables, next_entry, tables
 pub on_on : (s : Sequel Walked) (f g : List Component → Sequel Walked) → on (on s f) g ≡ on s (λ l. on (f l) g)
 on_on s f g = after_after s (on_listed f) (on_listed g) ∙ after_same s _ _ each
   where
-    each : (r : Walked) → after (on_listed f r) (on_listed g) ≡ on_listed (λ l. on (f l) g) r
+    each : (r : Walked) → followed_by (on_listed f r) (on_listed g) ≡ on_listed (λ l. on (f l) g) r
     each (Listed l) = refl
     each Full = refl
 
@@ -28,15 +28,15 @@ on_listed_same s = after_same s _ _ each ∙ after_ends s
 module _ (most ap_ : ℕ) where
   -- a component that has room, and then the rest of a walk
   room_on : (depth address : ℕ) (listed : List Component) (inside : Component → List Component → Sequel Walked) (next : List Component → Sequel Walked) → length listed < most
-      → on (visited most ap_ depth address listed inside) next ≡ after (component_at ap_ address depth) (λ c. Writes (component_line c) (on (inside c (listed ++ c ∷ [])) next))
+      → on (visited most ap_ depth address listed inside) next ≡ followed_by (component_at ap_ address depth) (λ c. Writes (component_line c) (on (inside c (listed ++ c ∷ [])) next))
   room_on depth address listed inside next less =
-      ap (λ (b : Bool). on (cond b (after (component_at ap_ address depth) (λ c. Writes (component_line c) (inside c (listed ++ c ∷ [])))) (Ends Full)) next) (lt-ltb (length listed) most less)
+      ap (λ (b : Bool). on (cond b (followed_by (component_at ap_ address depth) (λ c. Writes (component_line c) (inside c (listed ++ c ∷ [])))) (Ends Full)) next) (lt-ltb (length listed) most less)
       ∙ after_after (component_at ap_ address depth) (λ c. Writes (component_line c) (inside c (listed ++ c ∷ []))) (on_listed next)
 
   full_on : (depth address : ℕ) (listed : List Component) (inside : Component → List Component → Sequel Walked) (next : List Component → Sequel Walked) → most ≤ length listed
       → on (visited most ap_ depth address listed inside) next ≡ Ends Full
   full_on depth address listed inside next le =
-      ap (λ (b : Bool). on (cond b (after (component_at ap_ address depth) (λ c. Writes (component_line c) (inside c (listed ++ c ∷ [])))) (Ends Full)) next) (le-ltb (length listed) most le)
+      ap (λ (b : Bool). on (cond b (followed_by (component_at ap_ address depth) (λ c. Writes (component_line c) (inside c (listed ++ c ∷ [])))) (Ends Full)) next) (le-ltb (length listed) most le)
 
   -- what comes after the line of a component
   next_of : (tables : List Table) (levels : ℕ) (c : Component) (more : List Component) → 7 - length tables ≡ suc levels
@@ -72,15 +72,15 @@ module _ (most ap_ : ℕ) where
       full_by (suc levels) le = full_on (7 - levels) address listed (λ c more. cond (is_table c.known) (entries ap_ (component most ap_ levels) c.address 960 more) (Ends (Listed more))) (λ l. unwound most ap_ tables l) le
 
       room_by : (levels : ℕ) → 7 - length tables ≡ levels → length tables ≤ 7 → length listed < most → on (component most ap_ levels address listed) (λ l. unwound most ap_ tables l)
-          ≡ after (component_at ap_ address (1 + length tables)) (λ c. Writes (component_line c) (unwound most ap_ (tables_after tables c) (listed ++ c ∷ [])))
+          ≡ followed_by (component_at ap_ address (1 + length tables)) (λ c. Writes (component_line c) (unwound most ap_ (tables_after tables c) (listed ++ c ∷ [])))
       room_by zero is le less =
           room_on 8 address listed (λ c more. Ends (Listed more)) (λ l. unwound most ap_ tables l) less
-          ∙ (let depth : 8 ≡ 1 + length tables = omega (arith, is, le) in ap (λ (k : ℕ). after (component_at ap_ address k) (λ c. Writes (component_line c) (unwound most ap_ tables (listed ++ c ∷ [])))) depth)
+          ∙ (let depth : 8 ≡ 1 + length tables = omega (arith, is, le) in ap (λ (k : ℕ). followed_by (component_at ap_ address k) (λ c. Writes (component_line c) (unwound most ap_ tables (listed ++ c ∷ [])))) depth)
           ∙ after_same (component_at ap_ address (1 + length tables)) (λ c. Writes (component_line c) (unwound most ap_ tables (listed ++ c ∷ []))) (λ c. Writes (component_line c) (unwound most ap_ (tables_after tables c) (listed ++ c ∷ []))) (λ c. ap (Writes (component_line c)) (last_of tables c (listed ++ c ∷ []) is le))
       room_by (suc levels) is le less =
           room_on (7 - levels) address listed (λ c more. cond (is_table c.known) (entries ap_ (component most ap_ levels) c.address 960 more) (Ends (Listed more))) (λ l. unwound most ap_ tables l) less
           ∙ (let depth : 7 - levels ≡ 1 + length tables = omega (arith, is, le) in
-          ap (λ (k : ℕ). after (component_at ap_ address k) (λ c. Writes (component_line c) (on (cond (is_table c.known) (entries ap_ (component most ap_ levels) c.address 960 (listed ++ c ∷ [])) (Ends (Listed (listed ++ c ∷ [])))) (λ l. unwound most ap_ tables l)))) depth)
+          ap (λ (k : ℕ). followed_by (component_at ap_ address k) (λ c. Writes (component_line c) (on (cond (is_table c.known) (entries ap_ (component most ap_ levels) c.address 960 (listed ++ c ∷ [])) (Ends (Listed (listed ++ c ∷ [])))) (λ l. unwound most ap_ tables l)))) depth)
           ∙ after_same (component_at ap_ address (1 + length tables))
           (λ c. Writes (component_line c) (on (cond (is_table c.known) (entries ap_ (component most ap_ levels) c.address 960 (listed ++ c ∷ [])) (Ends (Listed (listed ++ c ∷ [])))) (λ l. unwound most ap_ tables l)))
           (λ c. Writes (component_line c) (unwound most ap_ (tables_after tables c) (listed ++ c ∷ [])))

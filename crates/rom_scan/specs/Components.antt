@@ -6,7 +6,7 @@ use Rattle.text_lines.specs.Hex.{hex8}
 use Rattle.target_calls.specs.Asks.{unit_ask}
 use Rattle.target_calls.specs.declared.calls.Ask.{Ask}
 use Rattle.target_machine.specs.declared.unit.Unit.TheVariants as unit
-use Rattle.sequels.specs.Sequel.{Sequel, Asks, Ends, after}
+use Rattle.sequels.specs.Sequel.{Sequel, Asks, Ends, followed_by}
 use Rattle.rom_scan.specs.declared.component.Component.{Component}
 use Rattle.rom_scan.specs.declared.component.Known.{Known}
 
@@ -56,7 +56,7 @@ unknown_at address depth = record { address = address; depth = depth; known = No
 -- what is read of a component that is known
 abbrev pub identified : ℕ → ℕ → ℕ → List ℕ → Sequel Component
 identified ap address depth cidr =
-    after (words_sequel ap 1 (address + 0xFD0) []) (λ fourth. after (words_sequel ap 4 (address + 0xFE0) []) (λ first. Ends (known_as address depth cidr fourth first)))
+    followed_by (words_sequel ap 1 (address + 0xFD0) []) (λ fourth. followed_by (words_sequel ap 4 (address + 0xFE0) []) (λ first. Ends (known_as address depth cidr fourth first)))
 
 -- what is read after the first four words
 abbrev pub by_words : ℕ → ℕ → ℕ → List ℕ → Sequel Component
@@ -64,7 +64,7 @@ by_words ap address depth cidr = if is_component cidr then identified ap address
 
 -- What is read of a component.
 unfoldable pub component_at : ℕ → ℕ → ℕ → Sequel Component
-component_at ap address depth = after (words_sequel ap 4 (address + 0xFF0) []) (λ cidr. by_words ap address depth cidr)
+component_at ap address depth = followed_by (words_sequel ap 4 (address + 0xFF0) []) (λ cidr. by_words ap address depth cidr)
 
 -- how many words are read of a component
 abbrev pub words_read_of : Option Known → ℕ

@@ -1,6 +1,6 @@
 -- The tables that are open, the innermost first.
 use Rattle.std.specs.Prelude.{◌≡◌, ℕ, ◌+◌, ◌-◌, ◌*◌, ◌%◌, ◌==◌, ◌<◌, ◌≤◌, nat_lt, ◌&&◌, if◌then◌else◌, List, [], ◌∷◌, ◌++◌, length}
-use Rattle.sequels.specs.Sequel.{Sequel, Asks, Ends, Writes, after}
+use Rattle.sequels.specs.Sequel.{Sequel, Asks, Ends, Writes, followed_by}
 use Rattle.rom_scan.specs.declared.component.Component.{Component}
 use Rattle.rom_scan.specs.Components.{component_at, component_line, is_table, named_by, word_ask}
 use Rattle.rom_scan.specs.declared.tables.Table.{Table}
@@ -23,7 +23,7 @@ tables_after tables c = if is_table c.known && nat_lt (length tables) 7 then rec
 pub record OpensTables (most ap : ℕ) (tables : List Table) (address : ℕ) (listed : List Component) : Type 0 where
   pub room : length tables ≤ 7 → length listed < most
       → walk_from_component most ap tables address listed
-      ≡ after (component_at ap address (1 + length tables)) (λ c. Writes (component_line c) (unwound most ap (tables_after tables c) (listed ++ c ∷ [])))
+      ≡ followed_by (component_at ap address (1 + length tables)) (λ c. Writes (component_line c) (unwound most ap (tables_after tables c) (listed ++ c ∷ [])))
   pub full : most ≤ length listed → walk_from_component most ap tables address listed ≡ Ends Full
 
 -- after an entry of the innermost table, of which so many are left

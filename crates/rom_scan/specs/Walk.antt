@@ -1,7 +1,7 @@
 -- The components below the base of an access port, one table after the other.
 use Rattle.std.specs.Prelude.{ℕ, zero, suc, ◌+◌, ◌-◌, ◌*◌, ◌%◌, ◌==◌, nat_lt, Bool, if◌then◌else◌, List, [], ◌∷◌, ◌++◌, length}
 use Rattle.std.specs.List.{list_any}
-use Rattle.sequels.specs.Sequel.{Sequel, Asks, Ends, Writes, after}
+use Rattle.sequels.specs.Sequel.{Sequel, Asks, Ends, Writes, followed_by}
 use Rattle.rom_scan.specs.declared.component.Component.{Component}
 use Rattle.rom_scan.specs.Components.{base_ask, component_at, component_line, is_no_base, is_table, named_by, page, word_ask}
 
@@ -17,7 +17,7 @@ on_listed next Full = Ends Full
 
 -- one part of a walk, and then the next
 abbrev pub on : Sequel Walked → (List Component → Sequel Walked) → Sequel Walked
-on s next = after s (on_listed next)
+on s next = followed_by s (on_listed next)
 
 -- the address is that of a component that was listed
 abbrev pub is_listed : ℕ → List Component → Bool
@@ -43,7 +43,7 @@ entries ap visit table (suc n) listed = Asks (word_ask ap (table + 4 * (959 - n)
 -- a component is read and its line written, unless there were as many as may be listed
 abbrev pub visited : ℕ → ℕ → ℕ → ℕ → List Component → (Component → List Component → Sequel Walked) → Sequel Walked
 visited most ap depth address listed inside =
-    if nat_lt (length listed) most then after (component_at ap address depth) (λ c. Writes (component_line c) (inside c (listed ++ c ∷ []))) else Ends Full
+    if nat_lt (length listed) most then followed_by (component_at ap address depth) (λ c. Writes (component_line c) (inside c (listed ++ c ∷ []))) else Ends Full
 
 -- A component and all below it, down to depth 8: so many levels.
 abbrev pub component : ℕ → ℕ → ℕ → ℕ → List Component → Sequel Walked

@@ -4,12 +4,12 @@ use Rattle.target_calls.specs.Asks.{settled_last}
 use Rattle.target_calls.specs.World.{World, done_now, end_result, is_faulted, is_over, next_world, one_fewer, stops_here}
 use Rattle.target_calls.specs.declared.calls.Ask.{Ask}
 use Rattle.target_calls.proofs.MarkLemmas.{marked_same, marked_settled}
-use Rattle.sequels.specs.Sequel.{Sequel, Ends, Asks, Writes, Comes, comes, stopped_at, with_call, with_line}
+use Rattle.sequels.specs.Sequel.{Sequel, Ends, Asks, Writes, Comes, comes, stopped_at, call_first, line_first}
 use Rattle.sequels.specs.Limits.{GoesOnFrom, IsLimited, limited}
 
 -- one more call before both
-more_call : {X : Type 0} (ask : Ask) (m : ℕ) (whole short : Comes X) → IsLimited m whole short → IsLimited (suc m) (with_call ask whole) (with_call ask short)
-more_call ask m whole short (inl h) = inl (record { few = (let few = h.few in omega (arith, few)); same = ap (with_call ask) h.same })
+more_call : {X : Type 0} (ask : Ask) (m : ℕ) (whole short : Comes X) → IsLimited m whole short → IsLimited (suc m) (call_first ask whole) (call_first ask short)
+more_call ask m whole short (inl h) = inl (record { few = (let few = h.few in omega (arith, few)); same = ap (call_first ask) h.same })
 more_call ask m whole short (inr h) = inr (record {
   none = h.none;
   count = (let count = h.count in omega (arith, count));
@@ -19,8 +19,8 @@ more_call ask m whole short (inr h) = inr (record {
   written = h.written;
 })
 
-more_line : {X : Type 0} (line : List ℕ) (m : ℕ) (whole short : Comes X) → IsLimited m whole short → IsLimited m (with_line line whole) (with_line line short)
-more_line line m whole short (inl h) = inl (record { few = h.few; same = ap (with_line line) h.same })
+more_line : {X : Type 0} (line : List ℕ) (m : ℕ) (whole short : Comes X) → IsLimited m whole short → IsLimited m (line_first line whole) (line_first line short)
+more_line line m whole short (inl h) = inl (record { few = h.few; same = ap (line_first line) h.same })
 more_line line m whole short (inr h) = inr (record {
   none = h.none;
   count = h.count;
@@ -34,14 +34,14 @@ pub limit_comes : {X : Type 0} (w : World) (m : ℕ) (s : Sequel X) → w.answer
 limit_comes w m (Ends x) free = inl (record { few = omega arith; same = refl })
 limit_comes {X = X} w zero (Asks ask on) free = one (stops_here w ask)
   where
-    cut : (c : Comes X) → IsLimited 0 (with_call ask c) (stopped_at ask)
+    cut : (c : Comes X) → IsLimited 0 (call_first ask c) (stopped_at ask)
     cut c = inr (record { none = refl; count = refl; more = c.calls; calls = refl; further = c.written; written = refl })
 
-    one : (b : Bool) → IsLimited 0 (cond b (stopped_at ask) (with_call ask (comes (next_world w ask) (on (end_result (done_now w ask).end))))) (stopped_at ask)
+    one : (b : Bool) → IsLimited 0 (cond b (stopped_at ask) (call_first ask (comes (next_world w ask) (on (end_result (done_now w ask).end))))) (stopped_at ask)
     one true = inr (record { none = refl; count = refl; more = []; calls = refl; further = []; written = refl })
     one false = cut (comes (next_world w ask) (on (end_result (done_now w ask).end)))
 limit_comes {X = X} w (suc m) (Asks ask on) free =
-    subst (λ (o : Option ℕ). IsLimited (suc m) (cond (is_over o || f) (stopped_at ask) (with_call ask first)) (cond f (stopped_at ask) (with_call ask second))) (sym free)
+    subst (λ (o : Option ℕ). IsLimited (suc m) (cond (is_over o || f) (stopped_at ask) (call_first ask first)) (cond f (stopped_at ask) (call_first ask second))) (sym free)
     (one f (limit_comes (next_world w ask) m (on (end_result (done_now w ask).end)) (ap one_fewer free)))
   where
     f : Bool
@@ -53,7 +53,7 @@ limit_comes {X = X} w (suc m) (Asks ask on) free =
     second : Comes X
     second = comes (limited (next_world w ask) m) (on (end_result (done_now w ask).end))
 
-    one : (b : Bool) → IsLimited m first second → IsLimited (suc m) (cond b (stopped_at ask) (with_call ask first)) (cond b (stopped_at ask) (with_call ask second))
+    one : (b : Bool) → IsLimited m first second → IsLimited (suc m) (cond b (stopped_at ask) (call_first ask first)) (cond b (stopped_at ask) (call_first ask second))
     one true h = inl (record { few = omega arith; same = refl })
     one false h = more_call ask m first second h
 limit_comes w m (Writes line on) free = more_line line m (comes w on) (comes (limited w m) on) (limit_comes w m on free)

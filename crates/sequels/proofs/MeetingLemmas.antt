@@ -6,7 +6,7 @@ use Rattle.target_calls.specs.World.{World, done_now, end_result, later_by, next
 use Rattle.target_calls.specs.declared.calls.Ask.{Ask}
 use Rattle.target_calls.proofs.CallLists.{append_after, append_stop}
 use Rattle.target_calls.proofs.OneCall.{one_goes}
-use Rattle.sequels.specs.Sequel.{Sequel, Ends, Asks, Writes, Comes, after, comes}
+use Rattle.sequels.specs.Sequel.{Sequel, Ends, Asks, Writes, Comes, followed_by, comes}
 use Rattle.sequels.specs.Going.{GoesOn, joined}
 use Rattle.sequels.specs.Laws.{rest_by}
 use Rattle.sequels.specs.Meeting.{CutOff, Gave, LeftOff, Reaches}
@@ -31,7 +31,7 @@ reaches_on w s rest last old mid new b m n whole r q = record {
       (subst (λ (u : World). GoesOn u rest q.more q.lines last) (ap (world_after w) r.calls ∙ append_after w old r.more whole) q.goes);
 }
 
-pub reaches_by : {X Y : Type 0} (w : World) (s : Sequel X) (f : X → Sequel Y) (x : X) (old new : List Ask) (b n : Option (List ℕ)) → Gave w s old new b n x → Reaches w (after s f) old new b n (f x)
+pub reaches_by : {X Y : Type 0} (w : World) (s : Sequel X) (f : X → Sequel Y) (x : X) (old new : List Ask) (b n : Option (List ℕ)) → Gave w s old new b n x → Reaches w (followed_by s f) old new b n (f x)
 reaches_by w s f x old new b n g = record { more = g.more; lines = g.lines; calls = g.calls; written = g.written; goes = goes_after (world_after w old) s f g.more g.lines x g.ends }
 
 pub gave_by : {X : Type 0} (w : World) (s : Sequel X) (x : X) (old new : List Ask) (b n : Option (List ℕ)) → Reaches w s old new b n (Ends x) → Gave w s old new b n x
@@ -89,7 +89,7 @@ front_by : {X Y : Type 0} (u : World) (calls : List Ask) (lines : List ℕ) (end
 front_by u calls lines None f = (([], sym (append-nil calls)), ([], sym (append-nil lines)))
 front_by u calls lines (Some x) f = (((comes (world_after u calls) (f x)).calls, refl), ((comes (world_after u calls) (f x)).written, refl))
 
-pub left_by : {X Y : Type 0} (w : World) (s : Sequel X) (f : X → Sequel Y) (old new : List Ask) (b n : Option (List ℕ)) → LeftOff w s old new b n → LeftOff w (after s f) old new b n
+pub left_by : {X Y : Type 0} (w : World) (s : Sequel X) (f : X → Sequel Y) (old new : List Ask) (b n : Option (List ℕ)) → LeftOff w s old new b n → LeftOff w (followed_by s f) old new b n
 left_by w s f old new b n q =
     let u : World = world_after w old in
     let front = front_by u (comes u s).calls (comes u s).written (comes u s).end f in
@@ -104,7 +104,7 @@ left_by w s f old new b n q =
       lines_are = ap (λ (c : Comes _). c.written) (after_comes u s f) ∙ front.1.1 ∙ ap (λ (l : List ℕ). l ++ front.1.0) q.lines_are ∙ append_assoc q.lines q.further front.1.0;
     }
 
-pub cut_by : {X Y : Type 0} (w : World) (s : Sequel X) (f : X → Sequel Y) (old new : List Ask) (b n : Option (List ℕ)) → CutOff w s old new b n → CutOff w (after s f) old new b n
+pub cut_by : {X Y : Type 0} (w : World) (s : Sequel X) (f : X → Sequel Y) (old new : List Ask) (b n : Option (List ℕ)) → CutOff w s old new b n → CutOff w (followed_by s f) old new b n
 cut_by w s f old new b n q =
     let u : World = world_after w old in
     record {

@@ -4,7 +4,7 @@ use Rattle.std.specs.Prelude.{MatchOption}
 use Rattle.target_calls.specs.World.{World, done_now, end_result, later_by, next_world, stops_here, stop, world_after}
 use Rattle.target_calls.specs.declared.calls.Ask.{Ask}
 use Rattle.target_calls.proofs.CallLists.{append_after, append_stop}
-use Rattle.sequels.specs.Sequel.{Sequel, Ends, Asks, Writes, Comes, after, answered, comes, with_call, with_line}
+use Rattle.sequels.specs.Sequel.{Sequel, Ends, Asks, Writes, Comes, followed_by, written_and_end, comes, call_first, line_first}
 use Rattle.sequels.specs.Going.{GoesOn, EndsWith, joined}
 use Rattle.sequels.specs.Laws.{AsAnswered, StopsByEnd, rest_by}
 use Rattle.sequels.specs.Steady.{OnlyAsks, Steady}
@@ -32,17 +32,17 @@ stops_by_end w (Writes line on) = record { so = (stops_by_end w on).so }
 -- ---- sequels as such
 
 -- the same after each end
-pub after_same : {X Y : Type 0} (s : Sequel X) (f g : X → Sequel Y) → ((x : X) → f x ≡ g x) → after s f ≡ after s g
+pub after_same : {X Y : Type 0} (s : Sequel X) (f g : X → Sequel Y) → ((x : X) → f x ≡ g x) → followed_by s f ≡ followed_by s g
 after_same (Ends x) f g same = same x
 after_same (Asks ask on) f g same = λ i. Asks ask (λ n. after_same (on n) f g same i)
 after_same (Writes line on) f g same = ap (Writes line) (after_same on f g same)
 
-pub after_after : {X Y Z : Type 0} (s : Sequel X) (f : X → Sequel Y) (g : Y → Sequel Z) → after (after s f) g ≡ after s (λ x. after (f x) g)
+pub after_after : {X Y Z : Type 0} (s : Sequel X) (f : X → Sequel Y) (g : Y → Sequel Z) → followed_by (followed_by s f) g ≡ followed_by s (λ x. followed_by (f x) g)
 after_after (Ends x) f g = refl
 after_after (Asks ask on) f g = λ i. Asks ask (λ n. after_after (on n) f g i)
 after_after (Writes line on) f g = ap (Writes line) (after_after on f g)
 
-pub after_ends : {X : Type 0} (s : Sequel X) → after s (λ x. Ends x) ≡ s
+pub after_ends : {X : Type 0} (s : Sequel X) → followed_by s (λ x. Ends x) ≡ s
 after_ends (Ends x) = refl
 after_ends (Asks ask on) = λ i. Asks ask (λ n. after_ends (on n) i)
 after_ends (Writes line on) = ap (Writes line) (after_ends on)
@@ -55,7 +55,7 @@ joined_nothing c = refl
 pub joined_twice : {X : Type 0} (calls more : List Ask) (lines further : List ℕ) (c : Comes X) → joined calls lines (joined more further c) ≡ joined (calls ++ more) (lines ++ further) c
 joined_twice calls more lines further c = rw (append_assoc calls more c.calls, append_assoc lines further c.written) refl
 
-pub after_comes : {X Y : Type 0} (w : World) (s : Sequel X) (next : X → Sequel Y) → comes w (after s next) ≡ rest_by w (comes w s).calls (comes w s).written (comes w s).end next
+pub after_comes : {X Y : Type 0} (w : World) (s : Sequel X) (next : X → Sequel Y) → comes w (followed_by s next) ≡ rest_by w (comes w s).calls (comes w s).written (comes w s).end next
 after_comes w (Ends x) next = refl
 after_comes {X = X} {Y = Y} w (Asks ask on) next = one (stops_here w ask) refl (after_comes u (on n) next)
   where
@@ -65,23 +65,23 @@ after_comes {X = X} {Y = Y} w (Asks ask on) next = one (stops_here w ask) refl (
     n : ℕ
     n = end_result (done_now w ask).end
 
-    more : (c : Comes X) → stops_here w ask ≡ false → with_call ask (rest_by u c.calls c.written c.end next) ≡ rest_by w (ask ∷ c.calls) c.written c.end next
+    more : (c : Comes X) → stops_here w ask ≡ false → call_first ask (rest_by u c.calls c.written c.end next) ≡ rest_by w (ask ∷ c.calls) c.written c.end next
     more c e = by_end c.end
       where
-        by_end : (end : Option X) → with_call ask (rest_by u c.calls c.written end next) ≡ rest_by w (ask ∷ c.calls) c.written end next
+        by_end : (end : Option X) → call_first ask (rest_by u c.calls c.written end next) ≡ rest_by w (ask ∷ c.calls) c.written end next
         by_end None = refl
         by_end (Some x) = rw e refl
 
-    one : (b : Bool) → stops_here w ask ≡ b → comes u (after (on n) next) ≡ rest_by u (comes u (on n)).calls (comes u (on n)).written (comes u (on n)).end next
-        → comes w (after (Asks ask on) next) ≡ rest_by w (comes w (Asks ask on)).calls (comes w (Asks ask on)).written (comes w (Asks ask on)).end next
+    one : (b : Bool) → stops_here w ask ≡ b → comes u (followed_by (on n) next) ≡ rest_by u (comes u (on n)).calls (comes u (on n)).written (comes u (on n)).end next
+        → comes w (followed_by (Asks ask on) next) ≡ rest_by w (comes w (Asks ask on)).calls (comes w (Asks ask on)).written (comes w (Asks ask on)).end next
     one true e h = rw e refl
-    one false e h = rw e (ap (with_call ask) h ∙ more (comes u (on n)) e)
-after_comes {X = X} {Y = Y} w (Writes line on) next = ap (with_line line) (after_comes w on next) ∙ more (comes w on)
+    one false e h = rw e (ap (call_first ask) h ∙ more (comes u (on n)) e)
+after_comes {X = X} {Y = Y} w (Writes line on) next = ap (line_first line) (after_comes w on next) ∙ more (comes w on)
   where
-    more : (c : Comes X) → with_line line (rest_by w c.calls c.written c.end next) ≡ rest_by w c.calls (line ++ c.written) c.end next
+    more : (c : Comes X) → line_first line (rest_by w c.calls c.written c.end next) ≡ rest_by w c.calls (line ++ c.written) c.end next
     more c = by_end c.end
       where
-        by_end : (end : Option X) → with_line line (rest_by w c.calls c.written end next) ≡ rest_by w c.calls (line ++ c.written) end next
+        by_end : (end : Option X) → line_first line (rest_by w c.calls c.written end next) ≡ rest_by w c.calls (line ++ c.written) end next
         by_end None = refl
         by_end (Some x) = rw (append_assoc line c.written (comes (world_after w c.calls) (next x)).written) refl
 
@@ -100,7 +100,7 @@ goes_on w s calls lines rest more further last g h = record {
 }
 
 -- a sequel that came to its end goes on with the next
-pub goes_after : {X Y : Type 0} (w : World) (s : Sequel X) (next : X → Sequel Y) (calls : List Ask) (lines : List ℕ) (x : X) → EndsWith w s calls lines x → GoesOn w (after s next) calls lines (next x)
+pub goes_after : {X Y : Type 0} (w : World) (s : Sequel X) (next : X → Sequel Y) (calls : List Ask) (lines : List ℕ) (x : X) → EndsWith w s calls lines x → GoesOn w (followed_by s next) calls lines (next x)
 goes_after w s next calls lines x h = record {
   whole_is = after_comes w s next ∙ ap (λ (c : Comes _). rest_by w c.calls c.written c.end next) h.is;
   goes = h.goes;
@@ -124,12 +124,12 @@ goes_call w ask on e = record { whole_is = rw e refl; goes = rw e refl }
 -- ---- where each call has the result that a function gives of it
 
 pub answered_after : {X Y : Type 0} (f : Ask → ℕ) (s : Sequel X) (next : X → Sequel Y)
-    → answered f (after s next) ≡ ((answered f s).0 ++ (answered f (next (answered f s).1)).0, (answered f (next (answered f s).1)).1)
+    → written_and_end f (followed_by s next) ≡ ((written_and_end f s).0 ++ (written_and_end f (next (written_and_end f s).1)).0, (written_and_end f (next (written_and_end f s).1)).1)
 answered_after f (Ends x) next = refl
 answered_after f (Asks ask on) next = answered_after f (on (f ask)) next
 answered_after f (Writes line on) next =
     let h = answered_after f on next in
-    rw h (rw (append_assoc line (answered f on).0 (answered f (next (answered f on).1)).0) refl)
+    rw h (rw (append_assoc line (written_and_end f on).0 (written_and_end f (next (written_and_end f on).1)).0) refl)
 
 -- such a sequel comes to what these answers make of it
 pub steady_comes : {X : Type 0} (P : World → Type 0) (Q : Ask → Type 0) (f : Ask → ℕ) (w : World) (s : Sequel X) → Steady P Q f → P w → OnlyAsks Q s → AsAnswered f w s

@@ -3,7 +3,7 @@ use Rattle.std.specs.Prelude.{◌≡◌, ℕ, List, length, Option, Some, None, 
 use Rattle.target_calls.specs.World.{World, stop, world_after}
 use Rattle.target_calls.specs.declared.calls.Ask.{Ask}
 use Rattle.sequels.specs.Going.{joined}
-use Rattle.sequels.specs.Sequel.{Sequel, Comes, after, answered, comes}
+use Rattle.sequels.specs.Sequel.{Sequel, Comes, followed_by, written_and_end, comes}
 
 -- The calls that are made do not stop where the sequel comes to its end, and else stop at the last.
 pub record StopsByEnd {X : Type 0} (w : World) (s : Sequel X) : Type 0 where
@@ -16,9 +16,9 @@ rest_by w calls lines (Some x) next = joined calls lines (comes (world_after w c
 
 -- One sequel and then another comes to that.
 abbrev pub ComesAfter : {X Y : Type 0} → World → Sequel X → (X → Sequel Y) → Type 0
-ComesAfter w s next = comes w (after s next) ≡ rest_by w (comes w s).calls (comes w s).written (comes w s).end next
+ComesAfter w s next = comes w (followed_by s next) ≡ rest_by w (comes w s).calls (comes w s).written (comes w s).end next
 
 -- What is written, and the end, are those of the results that a function gives.
 pub record AsAnswered {X : Type 0} (f : Ask → ℕ) (w : World) (s : Sequel X) : Type 0 where
-  pub written : (comes w s).written ≡ (answered f s).0
-  pub end : (comes w s).end ≡ Some (answered f s).1
+  pub written : (comes w s).written ≡ (written_and_end f s).0
+  pub end : (comes w s).end ≡ Some (written_and_end f s).1

@@ -10,10 +10,10 @@ pub data Sequel (X : Type 0) : Type 0 where
   Writes : List ℕ → Sequel X → Sequel X
 
 -- one sequel, and then another by the end of the first
-abbrev pub after : {X Y : Type 0} → Sequel X → (X → Sequel Y) → Sequel Y
-after (Ends x) next = next x
-after (Asks ask on) next = Asks ask (λ n. after (on n) next)
-after (Writes line on) next = Writes line (after on next)
+abbrev pub followed_by : {X Y : Type 0} → Sequel X → (X → Sequel Y) → Sequel Y
+followed_by (Ends x) next = next x
+followed_by (Asks ask on) next = Asks ask (λ n. followed_by (on n) next)
+followed_by (Writes line on) next = Writes line (followed_by on next)
 
 -- a call, and its result
 abbrev pub asks : Ask → Sequel ℕ
@@ -28,12 +28,12 @@ pub record Comes (X : Type 0) : Type 0 where
   pub end : Option X
 
 -- a call before all else
-abbrev pub with_call : {X : Type 0} → Ask → Comes X → Comes X
-with_call ask c = record { calls = ask ∷ c.calls; written = c.written; end = c.end }
+abbrev pub call_first : {X : Type 0} → Ask → Comes X → Comes X
+call_first ask c = record { calls = ask ∷ c.calls; written = c.written; end = c.end }
 
 -- a line before all else
-abbrev pub with_line : {X : Type 0} → List ℕ → Comes X → Comes X
-with_line line c = record { calls = c.calls; written = line ++ c.written; end = c.end }
+abbrev pub line_first : {X : Type 0} → List ℕ → Comes X → Comes X
+line_first line c = record { calls = c.calls; written = line ++ c.written; end = c.end }
 
 -- the calls stop at this one
 abbrev pub stopped_at : {X : Type 0} → Ask → Comes X
@@ -42,13 +42,13 @@ stopped_at ask = record { calls = ask ∷ []; written = []; end = None }
 -- What a sequel comes to in a world, each of its calls made alone and at once.
 abbrev pub comes : {X : Type 0} → World → Sequel X → Comes X
 comes w (Ends x) = record { calls = []; written = []; end = Some x }
-comes w (Asks ask on) = if stops_here w ask then stopped_at ask else with_call ask (comes (next_world w ask) (on (end_result (done_now w ask).end)))
-comes w (Writes line on) = with_line line (comes w on)
+comes w (Asks ask on) = if stops_here w ask then stopped_at ask else call_first ask (comes (next_world w ask) (on (end_result (done_now w ask).end)))
+comes w (Writes line on) = line_first line (comes w on)
 
 -- ---- what it comes to where each call has the result that a function gives of it
 
 -- what is written, and the end
-abbrev pub answered : {X : Type 0} → (Ask → ℕ) → Sequel X → List ℕ × X
-answered f (Ends x) = ([], x)
-answered f (Asks ask on) = answered f (on (f ask))
-answered f (Writes line on) = (line ++ (answered f on).0, (answered f on).1)
+abbrev pub written_and_end : {X : Type 0} → (Ask → ℕ) → Sequel X → List ℕ × X
+written_and_end f (Ends x) = ([], x)
+written_and_end f (Asks ask on) = written_and_end f (on (f ask))
+written_and_end f (Writes line on) = (line ++ (written_and_end f on).0, (written_and_end f on).1)

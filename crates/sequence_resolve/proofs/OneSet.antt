@@ -7,7 +7,7 @@ use Rattle.device_tree.specs.declared.pack.Pack.{Pack}
 use Rattle.sequence_resolve.specs.declared.entry.SeqSet.{SeqSet}
 use Rattle.sequence_resolve.specs.declared.fault.ResolveFault.{ResolveFault}
 use Rattle.sequence_resolve.specs.declared.fault.ResolveFault.TheVariants as faults
-use Rattle.sequence_resolve.specs.Places.{DevicePlace, named, requested_variant}
+use Rattle.sequence_resolve.specs.Places.{DevicePlace, devices_named, requested_variant}
 use Rattle.sequence_resolve.specs.Levels.{LevelAt, path_of, deepest}
 use Rattle.sequence_resolve.specs.Effective.{Candidate, NoneAbove, AllBelow, Wins, AreWinners, candidates, entry_of}
 use Rattle.sequence_resolve.specs.Resolving.{IsSetAlong, IsEffectiveSet, HasNone}
@@ -97,7 +97,7 @@ one_set_along pack place variant pname x y p q =
 pub one_set : (pack : Pack) (device : List ℕ) (variant pname : Option (List ℕ)) (x y : SeqSet)
     → IsEffectiveSet pack device variant pname x → IsEffectiveSet pack device variant pname y → x ≡ y
 one_set pack device variant pname x y p q =
-    let place : p.place ≡ q.place = one_place (named device pack) p.place q.place p.only q.only in
+    let place : p.place ≡ q.place = one_place (devices_named device pack) p.place q.place p.only q.only in
     let requested : requested_variant variant q.place.device ≡ Some p.variant = subst (λ (at : DevicePlace). requested_variant variant at.device ≡ Some p.variant) place p.requested in
     let same : p.variant ≡ q.variant = one_variant (requested_variant variant q.place.device) p.variant q.variant requested q.requested in
     let path : path_of pack p.place p.variant ≡ path_of pack q.place q.variant = ap (λ at. path_of pack at p.variant) place ∙ ap (path_of pack q.place) same in
@@ -114,18 +114,18 @@ none_of_many places p many = let e : length places ≡ 0 = ap length p in omega 
 one_of_many : (places : List DevicePlace) (x : DevicePlace) → places ≡ x ∷ [] → 1 < length places → ⊥
 one_of_many places x p many = let e : length places ≡ 1 = ap length p in omega arith
 
-no_variant : (pack : Pack) (device : List ℕ) (variant : Option (List ℕ)) (x y : DevicePlace) (found : Option Variant) → named device pack ≡ x ∷ [] → named device pack ≡ y ∷ []
+no_variant : (pack : Pack) (device : List ℕ) (variant : Option (List ℕ)) (x y : DevicePlace) (found : Option Variant) → devices_named device pack ≡ x ∷ [] → devices_named device pack ≡ y ∷ []
     → requested_variant variant x.device ≡ Some found → requested_variant variant y.device ≡ None → ⊥
 no_variant pack device variant x y found p q is none =
-    let place : x ≡ y = one_place (named device pack) x y p q in
+    let place : x ≡ y = one_place (devices_named device pack) x y p q in
     let here : requested_variant variant y.device ≡ Some found = subst (λ (at : DevicePlace). requested_variant variant at.device ≡ Some found) place is in
     cc
 
 -- where there is a set, memory is refused or there is no cause
 pub set_or_refusal : (pack : Pack) (device : List ℕ) (variant pname : Option (List ℕ)) (set : SeqSet) (fault : ResolveFault)
     → IsEffectiveSet pack device variant pname set → HasNone pack device variant fault → fault ≡ faults.OutOfMemory
-set_or_refusal pack device variant pname set faults.NoDevice p none = absurd (none_named (named device pack) p.place p.only none)
-set_or_refusal pack device variant pname set faults.AmbiguousDevice p many = absurd (one_of_many (named device pack) p.place p.only many)
+set_or_refusal pack device variant pname set faults.NoDevice p none = absurd (none_named (devices_named device pack) p.place p.only none)
+set_or_refusal pack device variant pname set faults.AmbiguousDevice p many = absurd (one_of_many (devices_named device pack) p.place p.only many)
 set_or_refusal pack device variant pname set faults.NoVariant p none = absurd (no_variant pack device variant p.place none.0 p.variant p.only none.1 p.requested none.2)
 set_or_refusal pack device variant pname set faults.OutOfMemory p none = refl
 
@@ -133,13 +133,13 @@ set_or_refusal pack device variant pname set faults.OutOfMemory p none = refl
 pub one_refusal : (pack : Pack) (device : List ℕ) (variant : Option (List ℕ)) (x y : ResolveFault)
     → HasNone pack device variant x → HasNone pack device variant y → x ≢ faults.OutOfMemory → y ≢ faults.OutOfMemory → x ≡ y
 one_refusal pack device variant faults.NoDevice faults.NoDevice p q a b = refl
-one_refusal pack device variant faults.NoDevice faults.AmbiguousDevice p q a b = absurd (none_of_many (named device pack) p q)
-one_refusal pack device variant faults.NoDevice faults.NoVariant p q a b = absurd (none_named (named device pack) q.0 q.1 p)
-one_refusal pack device variant faults.AmbiguousDevice faults.NoDevice p q a b = absurd (none_of_many (named device pack) q p)
+one_refusal pack device variant faults.NoDevice faults.AmbiguousDevice p q a b = absurd (none_of_many (devices_named device pack) p q)
+one_refusal pack device variant faults.NoDevice faults.NoVariant p q a b = absurd (none_named (devices_named device pack) q.0 q.1 p)
+one_refusal pack device variant faults.AmbiguousDevice faults.NoDevice p q a b = absurd (none_of_many (devices_named device pack) q p)
 one_refusal pack device variant faults.AmbiguousDevice faults.AmbiguousDevice p q a b = refl
-one_refusal pack device variant faults.AmbiguousDevice faults.NoVariant p q a b = absurd (one_of_many (named device pack) q.0 q.1 p)
-one_refusal pack device variant faults.NoVariant faults.NoDevice p q a b = absurd (none_named (named device pack) p.0 p.1 q)
-one_refusal pack device variant faults.NoVariant faults.AmbiguousDevice p q a b = absurd (one_of_many (named device pack) p.0 p.1 q)
+one_refusal pack device variant faults.AmbiguousDevice faults.NoVariant p q a b = absurd (one_of_many (devices_named device pack) q.0 q.1 p)
+one_refusal pack device variant faults.NoVariant faults.NoDevice p q a b = absurd (none_named (devices_named device pack) p.0 p.1 q)
+one_refusal pack device variant faults.NoVariant faults.AmbiguousDevice p q a b = absurd (one_of_many (devices_named device pack) p.0 p.1 q)
 one_refusal pack device variant faults.NoVariant faults.NoVariant p q a b = refl
 one_refusal pack device variant faults.OutOfMemory y p q a b = absurd (a refl)
 one_refusal pack device variant x faults.OutOfMemory p q a b = absurd (b refl)

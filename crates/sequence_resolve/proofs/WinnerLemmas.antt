@@ -3,7 +3,7 @@ use Rattle.std.proofs.Common.{◌≡◌, ℕ, suc, ◌+◌, ◌<◌, Bool, true,
 use Rattle.sequence_resolve.specs.declared.winners.Winner.{Winner}
 use Rattle.sequence_resolve.specs.declared.levels.LevelRef.{LevelRef}
 use Rattle.sequence_resolve.specs.Effective.{Candidate, candidates_at, candidates}
-use Rattle.sequence_resolve.specs.Winners.{has_name, with_candidate, with_all, place_in}
+use Rattle.sequence_resolve.specs.Winners.{is_called, with_candidate, with_all, place_in}
 use Rattle.sequence_resolve.specs.Views.{level_view, winner_view}
 use Rattle.dap_base.proofs.Basics.{text_itself, same_text}
 
@@ -25,16 +25,16 @@ later_at (Some j) i e = (j, refl, (let same : suc j ≡ i = cc in sym same))
 
 -- the first winner has the name, or it stands among the others
 abbrev Holds : List ℕ → Winner → List Winner → ℕ → Bool → Type 0
-Holds name w ws i true = (has_name name (winner_view w) ≡ true) × (i ≡ 0)
-Holds name w ws i false = (has_name name (winner_view w) ≡ false) × ((j : ℕ) × (place_in name (seen ws) ≡ Some j) × (i ≡ suc j))
+Holds name w ws i true = (is_called name (winner_view w) ≡ true) × (i ≡ 0)
+Holds name w ws i false = (is_called name (winner_view w) ≡ false) × ((j : ℕ) × (place_in name (seen ws) ≡ Some j) × (i ≡ suc j))
 
-holds_at : (name : List ℕ) (w : Winner) (ws : List Winner) (i : ℕ) (b : Bool) → has_name name (winner_view w) ≡ b
+holds_at : (name : List ℕ) (w : Winner) (ws : List Winner) (i : ℕ) (b : Bool) → is_called name (winner_view w) ≡ b
     → cond b (Some 0) (option_map (λ j. suc j) (place_in name (seen ws))) ≡ Some i → Holds name w ws i b
 holds_at name w ws i true is e = (is, first_at true (place_in name (seen ws)) i e refl)
 holds_at name w ws i false is e = (is, later_at (place_in name (seen ws)) i e)
 
-holds : (name : List ℕ) (w : Winner) (ws : List Winner) (i : ℕ) → place_in name (seen (w ∷ ws)) ≡ Some i → Holds name w ws i (has_name name (winner_view w))
-holds name w ws i e = holds_at name w ws i (has_name name (winner_view w)) refl e
+holds : (name : List ℕ) (w : Winner) (ws : List Winner) (i : ℕ) → place_in name (seen (w ∷ ws)) ≡ Some i → Holds name w ws i (is_called name (winner_view w))
+holds name w ws i e = holds_at name w ws i (is_called name (winner_view w)) refl e
 
 below_at : (name : List ℕ) (w : Winner) (ws : List Winner) (i : ℕ) (b : Bool) → Holds name w ws i b → ((j : ℕ) → place_in name (seen ws) ≡ Some j → j < length ws) → i < length (w ∷ ws)
 below_at name w ws i true h rest = omega (arith, h.1)
@@ -43,7 +43,7 @@ below_at name w ws i false h rest = omega (arith, h.1.2, rest h.1.0 h.1.1)
 -- a place lies among the winners
 pub place_in-below : (name : List ℕ) (ws : List Winner) (i : ℕ) → place_in name (seen ws) ≡ Some i → i < length ws
 place_in-below name [] i e = absurd cc
-place_in-below name (w ∷ ws) i e = below_at name w ws i (has_name name (winner_view w)) (holds name w ws i e) (place_in-below name ws)
+place_in-below name (w ∷ ws) i e = below_at name w ws i (is_called name (winner_view w)) (holds name w ws i e) (place_in-below name ws)
 
 -- ---- in the place of a winner
 
@@ -69,7 +69,7 @@ there_at w ws i c d false h rest =
 pub put_there-with_candidate : (ws : List Winner) (i : ℕ) (c d : Winner) → place_in (name_of c) (seen ws) ≡ Some i → seen (put_there ws i c d) ≡ with_candidate (seen ws) (winner_view c)
 put_there-with_candidate [] i c d e = absurd cc
 put_there-with_candidate (w ∷ ws) i c d e =
-    there_at w ws i c d (has_name (name_of c) (winner_view w)) (holds (name_of c) w ws i e) (λ j e'. put_there-with_candidate ws j c d e')
+    there_at w ws i c d (is_called (name_of c) (winner_view w)) (holds (name_of c) w ws i e) (λ j e'. put_there-with_candidate ws j c d e')
 
 -- ---- after the winners
 
@@ -81,8 +81,8 @@ not_first true rest e = absurd cc
 not_first false None e = (refl, refl)
 not_first false (Some j) e = absurd cc
 
-absent : (name : List ℕ) (w : Winner) (ws : List Winner) → Absent name (w ∷ ws) → (has_name name (winner_view w) ≡ false) × Absent name ws
-absent name w ws e = not_first (has_name name (winner_view w)) (place_in name (seen ws)) e
+absent : (name : List ℕ) (w : Winner) (ws : List Winner) → Absent name (w ∷ ws) → (is_called name (winner_view w) ≡ false) × Absent name ws
+absent name w ws e = not_first (is_called name (winner_view w)) (place_in name (seen ws)) e
 
 pub last-with_candidate : (ws : List Winner) (c : Winner) → Absent (name_of c) ws → seen (ws ++ c ∷ []) ≡ with_candidate (seen ws) (winner_view c)
 last-with_candidate [] c e = refl
@@ -98,11 +98,11 @@ moved_at w ws i c name true h rest =
     let same : name_of c ≡ name_of w = same_text _ _ h.0 in
     rw h.1 (ap (λ n. cond (bytes_eq name n) (Some 0) (option_map (λ j. suc j) (place_in name (seen ws)))) same)
 moved_at w ws i c name false h rest =
-    rw h.1.2 (ap (λ o. cond (has_name name (winner_view w)) (Some 0) (option_map (λ j. suc j) o)) (rest h.1.0 h.1.1))
+    rw h.1.2 (ap (λ o. cond (is_called name (winner_view w)) (Some 0) (option_map (λ j. suc j) o)) (rest h.1.0 h.1.1))
 
 place_in-set : (ws : List Winner) (i : ℕ) (c : Winner) (name : List ℕ) → place_in (name_of c) (seen ws) ≡ Some i → place_in name (seen (slice_set ws i c)) ≡ place_in name (seen ws)
 place_in-set [] i c name e = absurd cc
-place_in-set (w ∷ ws) i c name e = moved_at w ws i c name (has_name (name_of c) (winner_view w)) (holds (name_of c) w ws i e) (λ j e'. place_in-set ws j c name e')
+place_in-set (w ∷ ws) i c name e = moved_at w ws i c name (is_called (name_of c) (winner_view w)) (holds (name_of c) w ws i e) (λ j e'. place_in-set ws j c name e')
 
 either_way : (b : Bool) (name : List ℕ) (xs ys : List Winner) → place_in name (seen xs) ≡ place_in name (seen ys) → place_in name (seen (cond b xs ys)) ≡ place_in name (seen ys)
 either_way true name xs ys e = e
@@ -135,7 +135,7 @@ pub place_in-append : (ws : List Winner) (c : Winner) (name : List ℕ) → Abse
 place_in-append [] c name e = last_first (name_of c) name (bytes_eq (name_of c) name) refl
 place_in-append (w ∷ ws) c name e =
     let a = absent (name_of c) w ws e in
-    last_later (bytes_eq (name_of c) name) (has_name name (winner_view w)) (length ws) (place_in name (seen ws)) _
+    last_later (bytes_eq (name_of c) name) (is_called name (winner_view w)) (length ws) (place_in name (seen ws)) _
     (λ same. apart (name_of c) name (name_of w) same a.0) (place_in-append ws c name a.1)
 
 -- ---- the candidates of levels, one level after another

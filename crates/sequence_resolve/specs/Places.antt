@@ -33,8 +33,8 @@ abbrev pub is_named : List ℕ → DevicePlace → Bool
 is_named name place = bytes_eq name place.device.name
 
 -- the devices of the pack that have the name
-abbrev pub named : List ℕ → Pack → List DevicePlace
-named name pack = filter (is_named name) (places_in pack.families)
+abbrev pub devices_named : List ℕ → Pack → List DevicePlace
+devices_named name pack = filter (is_named name) (places_in pack.families)
 
 -- the variant that is requested, which may be none; `None` where the device has no variant of the name
 abbrev pub requested_variant : Option (List ℕ) → Device → Option (Option Variant)

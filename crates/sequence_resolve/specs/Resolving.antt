@@ -6,7 +6,7 @@ use Rattle.sequence_resolve.specs.declared.entry.SeqSet.{SeqSet}
 use Rattle.sequence_resolve.specs.declared.fault.ResolveFault.{ResolveFault}
 use Rattle.sequence_resolve.specs.declared.fault.ResolveFault.TheVariants as faults
 use Rattle.sequence_resolve.specs.declared.place.DevicePlace as code
-use Rattle.sequence_resolve.specs.Places.{DevicePlace, named, requested_variant}
+use Rattle.sequence_resolve.specs.Places.{DevicePlace, devices_named, requested_variant}
 use Rattle.sequence_resolve.specs.Levels.{path_of, deepest}
 use Rattle.sequence_resolve.specs.Effective.{Candidate, candidates, AreWinners, entry_of}
 use Rattle.sequence_resolve.specs.Views.{place_view}
@@ -21,7 +21,7 @@ pub record IsSetAlong (pack : Pack) (place : DevicePlace) (variant : Option Vari
 -- the set of the one device of the name, along the path to it or to the variant that is requested
 pub record IsEffectiveSet (pack : Pack) (device : List ℕ) (variant_name pname : Option (List ℕ)) (set : SeqSet) : Type 0 where
   pub place : DevicePlace
-  pub only : named device pack ≡ place ∷ []
+  pub only : devices_named device pack ≡ place ∷ []
   pub variant : Option Variant
   pub requested : requested_variant variant_name place.device ≡ Some variant
   pub winners : List Candidate
@@ -32,9 +32,9 @@ pub record IsEffectiveSet (pack : Pack) (device : List ℕ) (variant_name pname 
 -- `NoDevice` where no device has the name, `AmbiguousDevice` where two or more have it, `NoVariant` where the
 -- one device has no variant of the requested name
 abbrev pub HasNone : Pack → List ℕ → Option (List ℕ) → ResolveFault → Type 0
-HasNone pack device variant_name faults.NoDevice = named device pack ≡ []
-HasNone pack device variant_name faults.AmbiguousDevice = 1 < length (named device pack)
-HasNone pack device variant_name faults.NoVariant = (place : DevicePlace) × (named device pack ≡ place ∷ []) × (requested_variant variant_name place.device ≡ None)
+HasNone pack device variant_name faults.NoDevice = devices_named device pack ≡ []
+HasNone pack device variant_name faults.AmbiguousDevice = 1 < length (devices_named device pack)
+HasNone pack device variant_name faults.NoVariant = (place : DevicePlace) × (devices_named device pack ≡ place ∷ []) × (requested_variant variant_name place.device ≡ None)
 HasNone pack device variant_name faults.OutOfMemory = ⊤
 
 -- the only one of the places, or why there is none

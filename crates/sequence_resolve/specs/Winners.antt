@@ -7,13 +7,13 @@ use Rattle.std.specs.declared.alloc.Global.{Global}
 use Rattle.sequence_resolve.specs.Effective.{Candidate}
 
 -- whether the candidate has the name
-abbrev pub has_name : List ℕ → Candidate → Bool
-has_name name c = bytes_eq name c.sequence.name
+abbrev pub is_called : List ℕ → Candidate → Bool
+is_called name c = bytes_eq name c.sequence.name
 
 -- in the place of the winner of its name unless that stands above it, and else at the end
 abbrev pub with_candidate : List Candidate → Candidate → List Candidate
 with_candidate [] c = c ∷ []
-with_candidate (w ∷ ws) c = if has_name c.sequence.name w then (if nat_le w.rank c.rank then c else w) ∷ ws else w ∷ with_candidate ws c
+with_candidate (w ∷ ws) c = if is_called c.sequence.name w then (if nat_le w.rank c.rank then c else w) ∷ ws else w ∷ with_candidate ws c
 
 -- with each of the candidates, in order
 abbrev pub with_all : List Candidate → List Candidate → List Candidate
@@ -23,7 +23,7 @@ with_all ws (c ∷ cs) = with_all (with_candidate ws c) cs
 -- the place of the first winner with the name
 abbrev pub place_in : List ℕ → List Candidate → Option ℕ
 place_in name [] = None
-place_in name (w ∷ ws) = if has_name name w then Some 0 else option_map (λ i. suc i) (place_in name ws)
+place_in name (w ∷ ws) = if is_called name w then Some 0 else option_map (λ i. suc i) (place_in name ws)
 
 -- the map knows the place of each name
 abbrev pub Knows : BTreeMap (String Global) ℕ → List Candidate → Type 0

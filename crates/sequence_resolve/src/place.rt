@@ -2,7 +2,7 @@
 ghost use Rattle.std.specs.Prelude.{◌≡◌, ◌++◌, OnOk, None, option_map, map, filter, find};
 ghost use Rattle.std.specs.Str.{bytes_eq};
 ghost use Rattle.std.specs.Option.{option_copied};
-ghost use Rattle.sequence_resolve.specs.Places.{places_of, places_in_subs, places_in, is_named, named};
+ghost use Rattle.sequence_resolve.specs.Places.{places_of, places_in_subs, places_in, is_named, devices_named};
 ghost use Rattle.sequence_resolve.specs.Views.{place_view};
 ghost use Rattle.sequence_resolve.specs.Resolving.{FindsOnly};
 
@@ -109,7 +109,7 @@ pub fn place_of_device<'a>(
     pack: &'a Pack,
     name: &str,
 ) -> Result<DevicePlace<'a>, ResolveFault>
-    ensures { FindsOnly (named name.now pack.now) result }
+    ensures { FindsOnly (devices_named name.now pack.now) result }
 {
     let mut places = Vec::new(alloc);
     if push_families(&mut places, pack.families.as_slice(), name).is_err() {

@@ -11,7 +11,7 @@ use Rattle.expr_grammar.specs.Lexeme.{Lexeme}
 use Rattle.expr_grammar.specs.Lexing.{AreTokensOf, Lexes}
 use Rattle.expr_grammar.specs.Grammar.{ReadsCode, ReadsExpr}
 use Rattle.expr_grammar.specs.Reading.{read, statements, whole}
-use Rattle.expr_grammar.specs.Refusal.{Answers, IsAccepted, IsUnexpectedFirst, IsDeepFirst, Accepts, Refuses, place_of}
+use Rattle.expr_grammar.specs.Refusal.{AnswersParse, IsAccepted, IsUnexpectedFirst, IsDeepFirst, Accepts, Refuses, place_of}
 use Rattle.expr_grammar.proofs.CompleteArgs.{reads_whole}
 use Rattle.expr_grammar.proofs.CompleteCode.{code_complete}
 use Rattle.expr_grammar.proofs.Sound.{whole_outcome, statements_outcome}
@@ -24,9 +24,9 @@ use Rattle.sequence_trees.specs.Answers.{AnswersText, GivesValue, ReportsPlace, 
 
 -- no other answer of a parser is one
 pub record IsExact {X : Type 0} (R : List Lexeme → X → Type 0) (span : Span) : Type 0 where
-  pub value : (ts : List Lexeme) (r : Result X ParseError) → Answers (λ x. x) R span ts r → (x : X) → IsAccepted R span ts x → Accepts (λ y. y) x r
-  pub unexpected : (ts : List Lexeme) (r : Result X ParseError) → Answers (λ x. x) R span ts r → (i : ℕ) → IsUnexpectedFirst R span ts i → Refuses (Unexpected (place_of ts i)) r
-  pub too_deep : (ts : List Lexeme) (r : Result X ParseError) → Answers (λ x. x) R span ts r → (i : ℕ) → IsDeepFirst R span ts i → Refuses (TooDeep (place_of ts i)) r
+  pub value : (ts : List Lexeme) (r : Result X ParseError) → AnswersParse (λ x. x) R span ts r → (x : X) → IsAccepted R span ts x → Accepts (λ y. y) x r
+  pub unexpected : (ts : List Lexeme) (r : Result X ParseError) → AnswersParse (λ x. x) R span ts r → (i : ℕ) → IsUnexpectedFirst R span ts i → Refuses (Unexpected (place_of ts i)) r
+  pub too_deep : (ts : List Lexeme) (r : Result X ParseError) → AnswersParse (λ x. x) R span ts r → (i : ℕ) → IsDeepFirst R span ts i → Refuses (TooDeep (place_of ts i)) r
 
 pub exact_code : IsExact ReadsCode spans.Statement
 exact_code = record {
@@ -101,7 +101,7 @@ module _ {X : Type 0} (R : List Lexeme → X → Type 0) (span : Span) (exact : 
     uncut (BadToken at) a = bad_token a.0 a.1 a.2
     uncut NoMemory a = tt
 
-    pub refused : (ts : List Lexeme) → AreTokensOf text ts → (e : ParseError) → Answers view R span ts (Err e) → AnswersText view R span text (Err (parse_fault e))
+    pub refused : (ts : List Lexeme) → AreTokensOf text ts → (e : ParseError) → AnswersParse view R span ts (Err e) → AnswersText view R span text (Err (parse_fault e))
     refused ts cut (Unexpected at) a = unexpected ts cut a.0 a.1 a.2
     refused ts cut (TooDeep at) a = too_deep ts cut a.0 a.1 a.2
     refused ts cut OutOfMemory a = tt

@@ -4,7 +4,7 @@ use Rattle.std.specs.Prelude.{bit_and}
 use Rattle.target_machine.proofs.ActionLists.{order_from}
 use Rattle.target_machine.proofs.Agreement.{attempt_agrees}
 use Rattle.target_machine.specs.Attempt.{Attempt, attempt, done}
-use Rattle.target_machine.specs.Laws.{Alike}
+use Rattle.target_machine.specs.Laws.{AnswerAlike}
 use Rattle.target_machine.specs.Lines.{pins_set, line_shifted, clock_set, delayed}
 use Rattle.target_machine.specs.Lists.{after, SparesRdbuff, SpareRdbuff}
 use Rattle.target_machine.specs.Plain.{Action, Makes, Polls, Commands, Polled, polled, looked, dp_read_of, dp_write_of, commanded, acted, then_acted, in_order, is_fault, issued}
@@ -41,12 +41,12 @@ polled_alike zero mask requested t u agree = record { outcome = refl; reads = re
 polled_alike (suc turns) mask requested t u agree =
     let x : Attempt = attempt t (dp_read_of ctrl_stat_address) in
     let y : Attempt = attempt u (dp_read_of ctrl_stat_address) in
-    let alike : Alike x y = attempt_agrees t u (dp_read_of ctrl_stat_address) agree refl in
+    let alike : AnswerAlike x y = attempt_agrees t u (dp_read_of ctrl_stat_address) agree refl in
     subst (λ (o : Outcome). PolledAlike (looked x.outcome x.next mask requested (polled turns mask requested x.next)) (looked o y.next mask requested (polled turns mask requested y.next))) alike.outcome
     (looked_alike x.outcome x.next y.next mask requested (polled turns mask requested x.next) (polled turns mask requested y.next) alike.next
     (polled_alike turns mask requested x.next y.next alike.next))
 
-commanded_alike : (t u : TargetState) (c : ProbeCall) → Agree t u → Alike (commanded t c) (commanded u c)
+commanded_alike : (t u : TargetState) (c : ProbeCall) → Agree t u → AnswerAlike (commanded t c) (commanded u c)
 commanded_alike t u (probe.Delay micros) agree = record { outcome = refl; next = record { same = ap (λ (s : TargetState). delayed s micros) agree.same } }
 commanded_alike t u (probe.Abort value) agree = attempt_agrees t u (dp_write_of abort_address value) agree refl
 commanded_alike t u (probe.Pins output select wait) agree = record {
@@ -57,32 +57,32 @@ commanded_alike t u (probe.Clock hertz) agree = record { outcome = refl; next = 
 commanded_alike t u (probe.Line count bits) agree = record { outcome = refl; next = record { same = ap (λ (s : TargetState). line_shifted s count bits) agree.same } }
 
 -- one action
-pub acted_alike : (t u : TargetState) (x : Action) → Agree t u → SparesRdbuff x → Alike (acted t x) (acted u x)
+pub acted_alike : (t u : TargetState) (x : Action) → Agree t u → SparesRdbuff x → AnswerAlike (acted t x) (acted u x)
 acted_alike t u (Makes a) agree spares = attempt_agrees t u a agree spares
 acted_alike t u (Polls mask requested turns) agree spares =
     let h = polled_alike turns mask requested t u agree in record { outcome = h.outcome; next = h.next }
 acted_alike t u (Commands c) agree spares = commanded_alike t u c agree
 
-then_alike : (m l : Attempt) (x : Action) → Alike m l → SparesRdbuff x → Alike (then_acted m x) (then_acted l x)
+then_alike : (m l : Attempt) (x : Action) → AnswerAlike m l → SparesRdbuff x → AnswerAlike (then_acted m x) (then_acted l x)
 then_alike m l x alike spares = by_fault (is_fault m.outcome) refl
   where
-    by_fault : (b : Bool) → is_fault m.outcome ≡ b → Alike (then_acted m x) (then_acted l x)
+    by_fault : (b : Bool) → is_fault m.outcome ≡ b → AnswerAlike (then_acted m x) (then_acted l x)
     by_fault true e =
         let em : then_acted m x ≡ m = ap (λ (b : Bool). cond b m (acted m.next x)) e in
         let el : then_acted l x ≡ l = ap (λ (b : Bool). cond b l (acted l.next x)) (ap is_fault (sym alike.outcome) ∙ e) in
-        subst (λ (y : Attempt). Alike y (then_acted l x)) (sym em) (subst (λ (y : Attempt). Alike m y) (sym el) alike)
+        subst (λ (y : Attempt). AnswerAlike y (then_acted l x)) (sym em) (subst (λ (y : Attempt). AnswerAlike m y) (sym el) alike)
     by_fault false e =
         let em : then_acted m x ≡ acted m.next x = ap (λ (b : Bool). cond b m (acted m.next x)) e in
         let el : then_acted l x ≡ acted l.next x = ap (λ (b : Bool). cond b l (acted l.next x)) (ap is_fault (sym alike.outcome) ∙ e) in
-        subst (λ (y : Attempt). Alike y (then_acted l x)) (sym em)
-        (subst (λ (y : Attempt). Alike (acted m.next x) y) (sym el) (acted_alike m.next l.next x alike.next spares))
+        subst (λ (y : Attempt). AnswerAlike y (then_acted l x)) (sym em)
+        (subst (λ (y : Attempt). AnswerAlike (acted m.next x) y) (sym el) (acted_alike m.next l.next x alike.next spares))
 
-order_alike : (xs : List Action) (m l : Attempt) → Alike m l → SpareRdbuff xs → Alike (order_from m xs) (order_from l xs)
+order_alike : (xs : List Action) (m l : Attempt) → AnswerAlike m l → SpareRdbuff xs → AnswerAlike (order_from m xs) (order_from l xs)
 order_alike [] m l alike spare = alike
 order_alike (x ∷ xs) m l alike spare = order_alike xs (then_acted m x) (then_acted l x) (then_alike m l x alike spare.0) spare.1
 
 -- actions in order
-pub in_order_alike : (xs : List Action) (t u : TargetState) → Agree t u → SpareRdbuff xs → Alike (in_order t xs) (in_order u xs)
+pub in_order_alike : (xs : List Action) (t u : TargetState) → Agree t u → SpareRdbuff xs → AnswerAlike (in_order t xs) (in_order u xs)
 in_order_alike xs t u agree spare = order_alike xs (done t) (done u) (record { outcome = refl; next = agree }) spare
 
 -- the same is issued

@@ -18,7 +18,7 @@ use Rattle.access_calls.specs.declared.stop.StopCause.{StopCause}
 use Rattle.access_calls.specs.declared.stop.StopCause.TheVariants.{Faulted, NoAnswer}
 use Rattle.function_calls.specs.Lines.{AppendsLines, AreWholeLines, empty, ended}
 use Rattle.sequels.specs.Meeting as meeting
-use Rattle.sequels.specs.Sequel.{Comes, Sequel, Ends, after, comes}
+use Rattle.sequels.specs.Sequel.{Comes, Sequel, Ends, followed_by, comes}
 use Rattle.sequels.specs.Laws.{rest_by}
 use Rattle.sequels.specs.declared.close.Close.{Close}
 use Rattle.sequels.proofs.LimitLemmas.{from_same}
@@ -63,7 +63,7 @@ whole_lines old new h = record { text = component_lines h.components; whole = ar
 -- ---- a scan, and how it closes
 
 -- what comes of a sequel whose end stands for another
-pub closed_comes : {X : Type 0} (u : World) (s : Sequel X) (f : X → Close) → comes u (after s (λ x. Ends (f x))) ≡ record { calls = (comes u s).calls; written = (comes u s).written; end = option_map f (comes u s).end }
+pub closed_comes : {X : Type 0} (u : World) (s : Sequel X) (f : X → Close) → comes u (followed_by s (λ x. Ends (f x))) ≡ record { calls = (comes u s).calls; written = (comes u s).written; end = option_map f (comes u s).end }
 closed_comes {X = X} u s f = after_comes u s (λ x. Ends (f x)) ∙ by_end (comes u s).end
   where
     by_end : (end : Option X) → rest_by u (comes u s).calls (comes u s).written end (λ x. Ends (f x)) ≡ record { calls = (comes u s).calls; written = (comes u s).written; end = option_map f end }

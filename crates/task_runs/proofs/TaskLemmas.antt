@@ -24,7 +24,7 @@ use Rattle.sequence_rules.proofs.LateLemmas.{grows_on}
 use Rattle.sequence_rules.proofs.Limits.{limit_cuts}
 use Rattle.sequence_rules.proofs.Made.{are_made}
 use Rattle.sequels.specs.Limits.{GoesOnFrom}
-use Rattle.sequels.specs.Sequel.{Comes, Sequel, Asks, Ends, comes, stopped_at, with_call}
+use Rattle.sequels.specs.Sequel.{Comes, Sequel, Asks, Ends, comes, stopped_at, call_first}
 use Rattle.sequels.specs.declared.close.Close.{Close}
 use Rattle.sequels.proofs.LimitLemmas.{from_on, from_same}
 use Rattle.followed_runs.specs.Followed.{followed, followed_at, joined_outcome, stopped_by}
@@ -132,7 +132,7 @@ module _ (w : World) (s : Sequel Close) (o : Outcome) where
       here : comes (world_after w o.calls) (Asks ask on) ≡ record { calls = ask ∷ []; written = []; end = None }
       here = one (stops_here (world_after w o.calls) ask) (ap (λ (a : Option ℕ). is_over a || is_faulted (done_now (world_after w o.calls) ask).end) none_left)
         where
-          one : (b : Bool) → b ≡ true → cond b (stopped_at ask) (with_call ask (comes (next_world (world_after w o.calls) ask) (on (end_result (done_now (world_after w o.calls) ask).end)))) ≡ record { calls = ask ∷ []; written = []; end = None }
+          one : (b : Bool) → b ≡ true → cond b (stopped_at ask) (call_first ask (comes (next_world (world_after w o.calls) ask) (on (end_result (done_now (world_after w o.calls) ask).end)))) ≡ record { calls = ask ∷ []; written = []; end = None }
           one true e = refl
           one false e = absurd cc
 

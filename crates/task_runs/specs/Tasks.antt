@@ -9,7 +9,7 @@ use Rattle.image_load.specs.LoadSequel.{load_sequel}
 use Rattle.image_load.specs.Pieces.{pieces}
 use Rattle.rom_scan.specs.Walk as walk
 use Rattle.rom_scan.specs.Walk.{Walked, scanned}
-use Rattle.sequels.specs.Sequel.{Sequel, Ends, after}
+use Rattle.sequels.specs.Sequel.{Sequel, Ends, followed_by}
 use Rattle.sequels.specs.declared.close.Close.{Close}
 use Rattle.sequels.specs.declared.close.Close.TheVariants as close
 use Rattle.sequence_rules.specs.Runs.{Program}
@@ -29,7 +29,7 @@ scan_close walk.Full = close.Full
 
 -- A scan by an access port that lists at most 1,024 components, and then how it closes.
 abbrev pub scanning : ℕ → Sequel Close
-scanning ap = after (scanned 1024 ap) (λ walked. Ends (scan_close walked))
+scanning ap = followed_by (scanned 1024 ap) (λ walked. Ends (scan_close walked))
 
 -- What follows, as a sequel.
 abbrev pub sequel_of : Followed → Option (Sequel Close)

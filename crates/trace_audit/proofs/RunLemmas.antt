@@ -2,7 +2,7 @@
 use Rattle.std.proofs.Common.{◌≡◌, ℕ, suc, ◌+◌, Bool, true, false, List, [], ◌∷◌, ◌++◌, length, slice_get, Option, Some, None, Result, Ok, Err, refl, sym, ap, subst, ◌∙◌}
 use Rattle.probe_core.specs.Log.{Entry}
 use Rattle.probe_core.specs.Probe.{ProbeState, refusal_of}
-use Rattle.probe_core.specs.Runs.{CanCome, IsRun, after}
+use Rattle.probe_core.specs.Runs.{CanCome, IsRun, after_entry}
 use Rattle.trace_audit.specs.declared.auditing.Audited.{Audited}
 use Rattle.trace_audit.specs.declared.auditing.AuditFault.{AuditFault}
 use Rattle.trace_audit.specs.declared.auditing.AuditFault.TheVariants as faults
@@ -20,15 +20,15 @@ use Rattle.trace_audit.specs.Audits.{Accepts, Audits, Comes, IsFault, IsFirstWro
 use Rattle.dap_base.proofs.Basics.{some_none}
 
 -- a run with a further entry
-pub run_push : (p q r : ProbeState) (es : List Entry) (e : Entry) → IsRun p es q → CanCome e.is_reply q e.bytes → r ≡ after e.is_reply q e.bytes → IsRun p (es ++ e ∷ []) r
+pub run_push : (p q r : ProbeState) (es : List Entry) (e : Entry) → IsRun p es q → CanCome e.is_reply q e.bytes → r ≡ after_entry e.is_reply q e.bytes → IsRun p (es ++ e ∷ []) r
 run_push p q r [] e run can is =
-    (subst (λ (s : ProbeState). CanCome e.is_reply s e.bytes) (sym run) can, ap (λ (s : ProbeState). after e.is_reply s e.bytes) run ∙ sym is)
-run_push p q r (x ∷ es) e run can is = (run.0, run_push (after x.is_reply p x.bytes) q r es e run.1 can is)
+    (subst (λ (s : ProbeState). CanCome e.is_reply s e.bytes) (sym run) can, ap (λ (s : ProbeState). after_entry e.is_reply s e.bytes) run ∙ sym is)
+run_push p q r (x ∷ es) e run can is = (run.0, run_push (after_entry x.is_reply p x.bytes) q r es e run.1 can is)
 
 -- a run leads to one probe
 pub one_end : (first p q : ProbeState) (es : List Entry) → IsRun first es p → IsRun first es q → p ≡ q
 one_end first p q [] run other = sym run ∙ other
-one_end first p q (e ∷ es) run other = one_end (after e.is_reply first e.bytes) p q es run.1 other.1
+one_end first p q (e ∷ es) run other = one_end (after_entry e.is_reply first e.bytes) p q es run.1 other.1
 
 nil_some : (xs : List (List ℕ)) (x : List ℕ) → xs ≡ [] → slice_get xs 0 ≡ Some x → ⊥
 nil_some [] x e at = absurd (some_none x (sym at))
@@ -61,7 +61,7 @@ one_wrong true p bytes wrongs.OtherReply wrongs.OtherReply a b = refl
 -- the entries before one that cannot come are no run with it
 wrong_run : (first last p : ProbeState) (before later : List Entry) (e : Entry) (wrong : Wrong) → IsRun first before p → IsWrong p e wrong → IsRun first (before ++ e ∷ later) last → ⊥
 wrong_run first last p [] later e wrong run is all = not_both e.is_reply first e.bytes wrong all.0 (subst (λ (s : ProbeState). IsWrong s e wrong) (sym run) is)
-wrong_run first last p (x ∷ before) later e wrong run is all = wrong_run (after x.is_reply first x.bytes) last p before later e wrong run.1 is all.1
+wrong_run first last p (x ∷ before) later e wrong run is all = wrong_run (after_entry x.is_reply first x.bytes) last p before later e wrong run.1 is all.1
 
 pub no_run : (first last : ProbeState) (es : List Entry) (fault : AuditFault) → IsFirstWrong first es fault → IsRun first es last → ⊥
 no_run first last es fault w run = wrong_run first last w.probe w.before w.later w.here w.wrong w.run w.is (subst (λ (l : List Entry). IsRun first l last) w.parts run)
@@ -90,8 +90,8 @@ same_wrong first p q (z ∷ a) [] c d x y v w e ra ia rb ib =
     absurd (not_both z.is_reply first z.bytes w ra.0 here)
 same_wrong first p q (z ∷ a) (k ∷ b) c d x y v w e ra ia rb ib =
     let same = cons_is z k (a ++ x ∷ c) (b ++ y ∷ d) e in
-    let other : IsRun (after z.is_reply first z.bytes) b q = subst (λ (z : Entry). IsRun (after z.is_reply first z.bytes) b q) (sym same.0) rb.1 in
-    let s = same_wrong (after z.is_reply first z.bytes) p q a b c d x y v w same.1 ra.1 ia other ib in
+    let other : IsRun (after_entry z.is_reply first z.bytes) b q = subst (λ (z : Entry). IsRun (after_entry z.is_reply first z.bytes) b q) (sym same.0) rb.1 in
+    let s = same_wrong (after_entry z.is_reply first z.bytes) p q a b c d x y v w same.1 ra.1 ia other ib in
     record { number = ap suc s.number; wrong = s.wrong }
 
 pub one_fault : (first : ProbeState) (es : List Entry) (x y : AuditFault) → IsFirstWrong first es x → IsFirstWrong first es y → x ≡ y
@@ -174,7 +174,7 @@ decide true p bytes = waiting_by p bytes p.waiting refl
 abbrev Judged : ProbeState → List Entry → Type 0
 Judged first es = ((last : ProbeState) × IsRun first es last) ⊎ ((fault : AuditFault) × IsFirstWrong first es fault)
 
-further : (first : ProbeState) (e : Entry) (es : List Entry) → CanCome e.is_reply first e.bytes → Judged (after e.is_reply first e.bytes) es → Judged first (e ∷ es)
+further : (first : ProbeState) (e : Entry) (es : List Entry) → CanCome e.is_reply first e.bytes → Judged (after_entry e.is_reply first e.bytes) es → Judged first (e ∷ es)
 further first e es c (inl r) = inl (r.0, (c, r.1))
 further first e es c (inr w) =
     let f = w.1 in
@@ -193,10 +193,10 @@ further first e es c (inr w) =
       },
     )
 
-judge_by : (first : ProbeState) (e : Entry) (es : List Entry) → Decided e.is_reply first e.bytes → Judged (after e.is_reply first e.bytes) es → Judged first (e ∷ es)
+judge_by : (first : ProbeState) (e : Entry) (es : List Entry) → Decided e.is_reply first e.bytes → Judged (after_entry e.is_reply first e.bytes) es → Judged first (e ∷ es)
 judge_by first e es (can c) rest = further first e es c rest
 judge_by first e es (cannot wrong w) rest = inr (fault_at 0 wrong, record { before = []; here = e; later = es; parts = refl; probe = first; run = refl; wrong = wrong; is = w; fault_is = refl })
 
 pub judge : (first : ProbeState) (es : List Entry) → ((last : ProbeState) × IsRun first es last) ⊎ ((fault : AuditFault) × IsFirstWrong first es fault)
 judge first [] = inl (first, refl)
-judge first (e ∷ es) = judge_by first e es (decide e.is_reply first e.bytes) (judge (after e.is_reply first e.bytes) es)
+judge first (e ∷ es) = judge_by first e es (decide e.is_reply first e.bytes) (judge (after_entry e.is_reply first e.bytes) es)

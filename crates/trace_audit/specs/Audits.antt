@@ -2,7 +2,7 @@
 use Rattle.std.specs.Prelude.{◌≡◌, ◌≢◌, ℕ, Bool, true, false, not, List, [], ◌∷◌, ◌++◌, length, map, count_by, slice_get, Some, Result, Ok, Err, ⊤}
 use Rattle.probe_core.specs.Log.{Entry, packet_entry, reply_entry}
 use Rattle.probe_core.specs.Probe.{ProbeState, refusal_of}
-use Rattle.probe_core.specs.Runs.{CanCome, IsRun, after}
+use Rattle.probe_core.specs.Runs.{CanCome, IsRun, after_entry}
 use Rattle.trace_audit.specs.declared.entry.Entry as trace
 use Rattle.trace_audit.specs.declared.auditing.Audited.{Audited}
 use Rattle.trace_audit.specs.declared.auditing.AuditFault.{AuditFault}
@@ -26,7 +26,7 @@ entries_of = map entry_of
 -- the entry can come next, and leads to this probe
 pub record Comes (p : ProbeState) (e : Entry) (q : ProbeState) : Type 0 where
   pub can : CanCome e.is_reply p e.bytes
-  pub next : q ≡ after e.is_reply p e.bytes
+  pub next : q ≡ after_entry e.is_reply p e.bytes
 
 -- the probe does not take the packet, for this reason
 abbrev pub IsWrongPacket : ProbeState → List ℕ → Wrong → Type 0

@@ -2,7 +2,7 @@
 ghost use Rattle.std.specs.Prelude.{◌≡◌, true, false};
 ghost use Rattle.target_machine.specs.Attempt.{attempt, gives_rdbuff, register};
 ghost use Rattle.target_machine.specs.Fresh.{HaveStoredCsw};
-ghost use Rattle.target_machine.specs.Laws.{Alike, ChangesNoAp, ChangesOneAp, Keeps, holds_memory};
+ghost use Rattle.target_machine.specs.Laws.{AnswerAlike, ChangesNoAp, ChangesOneAp, Keeps, holds_memory};
 ghost use Rattle.target_machine.specs.Plain.{is_fault};
 ghost use Rattle.target_machine.specs.Registers.{rdbuff_address};
 ghost use Rattle.target_machine.specs.State.{Agree, TargetState};
@@ -43,7 +43,7 @@ pub fn csw_keeps_stored_bits()
 
 /// An access that does not ask for RDBUFF answers the same on targets that agree, and leaves targets that agree.
 pub fn rdbuff_decides_nothing()
-    ensures { (t u : TargetState) (a : RegAccess) → Agree t u → gives_rdbuff a ≡ false → Alike (attempt t a) (attempt u a) }
+    ensures { (t u : TargetState) (a : RegAccess) → Agree t u → gives_rdbuff a ≡ false → AnswerAlike (attempt t a) (attempt u a) }
 {}
 
 /// A read of an AP that leaves STICKYERR clear left its value in RDBUFF. A read of RDBUFF changes nothing.

@@ -2,7 +2,7 @@
 ghost use Rattle.std.specs.Prelude.{◌≡◌, ℕ, List, [], ◌∷◌, ◌++◌, true, false};
 ghost use Rattle.std.specs.FinMap as map;
 ghost use Rattle.std.specs.Ordering.{nat_cmp};
-ghost use Rattle.target_machine.specs.Laws.{Alike};
+ghost use Rattle.target_machine.specs.Laws.{AnswerAlike};
 ghost use Rattle.target_machine.specs.Lists.{PassTo, SpareRdbuff, SparesAps, SparesRdbuff, after, with_ports};
 ghost use Rattle.target_machine.specs.Plain.{Action, acted, in_order, is_fault, issued};
 ghost use Rattle.target_machine.specs.State.{Agree, TargetState};
@@ -31,8 +31,8 @@ pub fn what_is_issued()
 
 /// Actions that do not ask for RDBUFF do the same on targets that agree, and leave targets that agree.
 pub fn lists_on_targets_that_agree()
-    ensures one { (t u : TargetState) (a : Action) → Agree t u → SparesRdbuff a → Alike (acted t a) (acted u a) }
-    ensures in_order { (t u : TargetState) (xs : List Action) → Agree t u → SpareRdbuff xs → Alike (in_order t xs) (in_order u xs) }
+    ensures one { (t u : TargetState) (a : Action) → Agree t u → SparesRdbuff a → AnswerAlike (acted t a) (acted u a) }
+    ensures in_order { (t u : TargetState) (xs : List Action) → Agree t u → SpareRdbuff xs → AnswerAlike (in_order t xs) (in_order u xs) }
     ensures issued { (t u : TargetState) (xs : List Action) → Agree t u → SpareRdbuff xs → issued t xs ≡ issued u xs }
     ensures after { (t u : TargetState) (xs : List Action) → Agree t u → SpareRdbuff xs → Agree (after t xs) (after u xs) }
 {}
