@@ -20,10 +20,7 @@ fn write_sequences<K: Sink>(
     ensures puts { PutsText (flat_map sequence_line entries.now) result TextError.Failed K.written K.faults sink.old sink.new }
 {
     for entry in entries {
-        match put_line(sequence_text(alloc, entry), sink) {
-            Ok(()) => {}
-            Err(error) => return Err(error),
-        }
+        put_line(sequence_text(alloc, entry), sink)?;
     }
     Ok(())
 }
@@ -37,10 +34,8 @@ fn write_sequences<K: Sink>(
 pub fn write_check<K: Sink>(alloc: Global, set: &SeqSet, sink: &mut K) -> Result<(), TextError>
     ensures puts { PutsText (check_text set.now) result TextError.Failed K.written K.faults sink.old sink.new }
 {
-    match put_line(head_text(alloc, set.entries.len() as u64), sink) {
-        Ok(()) => write_sequences(alloc, set.entries.as_slice(), sink),
-        Err(error) => Err(error),
-    }
+    put_line(head_text(alloc, set.entries.len() as u64), sink)?;
+    write_sequences(alloc, set.entries.as_slice(), sink)
 }
 
 /// Puts the line of a fault of a set by one `put`. It has what is wrong, the sequence, the numbers of the steps that lead to the step, its

@@ -23,7 +23,8 @@ use Rattle.job_text.specs.Answers.{Describes}
 use Rattle.job_text.specs.JobForm.{IsEntryOf}
 use Rattle.job_text.specs.Ranges.{AreEntryTexts}
 use Rattle.job_text.proofs.SettingLaws.{trace_entries}
-use Rattle.job_check.proofs.OneAnswer.{job_and_none, one_job, one_no_job}
+use Rattle.job_text.proofs.AnswerLaws.{one_job}
+use Rattle.job_check.proofs.OneAnswer.{job_and_none, one_no_job}
 use Rattle.job_check.proofs.SomeJob.{job_or_none}
 use Rattle.dapseq_tool.specs.Audit.{AsksOfAudit, HasEntries, IsAuditAnswer, IsAuditOf, IsWrongTrace, TraceIsAccepted, accepted, described, no_trace, not_described, wrong}
 use Rattle.dapseq_tool.specs.declared.asking.Answer.{Answer}

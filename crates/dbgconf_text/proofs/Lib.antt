@@ -5,6 +5,7 @@ pub mod Whole
 pub mod Items
 pub mod Turns
 pub mod OneRefusal
+pub mod OneFault
 pub mod OneConf
 pub mod SomeConf
 pub mod Statements

@@ -1,5 +1,5 @@
 //! Laws of names and values as a text, and of texts with their values replaced, as the contracts of functions that do nothing.
-ghost use Rattle.std.specs.Prelude.{◌≡◌, ℕ, List, Ok, Err, Some, length, ◌+◌, ◌*◌, ◌<◌, ◌≤◌, ◌^◌, ◌⊎◌};
+ghost use Rattle.std.specs.Prelude.{◌≡◌, ◌≢◌, ℕ, List, Ok, Err, Some, length, ◌+◌, ◌*◌, ◌<◌, ◌≤◌, ◌^◌, ◌⊎◌};
 ghost use Rattle.dap_base.specs.declared.text.Place.{Place};
 ghost use Rattle.dap_base.specs.Number.{number_value};
 ghost use Rattle.text_lines.specs.Hex.{hex};
@@ -10,8 +10,10 @@ ghost use Rattle.expr_grammar.specs.Refusal.{IsAccepted};
 ghost use Rattle.expr_grammar.specs.declared.limit.Span.TheVariants.{Statement};
 ghost use Rattle.expr_grammar.specs.Tree.{StmtTree};
 ghost use Rattle.expr_grammar.specs.Bare.{bare_code};
+ghost use Rattle.dbgconf_text.specs.declared.conf.ConfFault.{ConfFault};
+ghost use Rattle.dbgconf_text.specs.declared.conf.ConfFault.TheVariants as faults;
 ghost use Rattle.dbgconf_text.specs.declared.conf.ConfItem.{ConfItem};
-ghost use Rattle.dbgconf_text.specs.Conf.{IsConf, IsRepeatedFirst, IsUnexpectedFirst};
+ghost use Rattle.dbgconf_text.specs.Conf.{AnswersText, IsConf, IsRepeatedFirst, IsUnexpectedFirst};
 ghost use Rattle.dbgconf_text.specs.Cuts.{AreSmall, Setting, cuts, spliced, with_values};
 ghost use Rattle.dbgconf_text.specs.Replacing.{AreCode, Replaces, settings_of};
 ghost use Rattle.dbgconf_text.specs.There.{AreThere};
@@ -23,13 +25,15 @@ pub fn one_conf()
     ensures { (ts : List Lexeme) (x y : List ConfItem) → IsConf ts x → IsConf ts y → x ≡ y }
 {}
 
-/// Tokens that are refused are refused for one reason, at one place, and are not those of names and values.
+/// Tokens that are refused are refused for one reason, at one place, and are not those of names and values. So a text has one fault at most.
 pub fn one_refusal()
     ensures unexpected { (ts : List Lexeme) (i j : ℕ) → IsUnexpectedFirst ts i → IsUnexpectedFirst ts j → i ≡ j }
     ensures repeated { (ts : List Lexeme) (i j : ℕ) → IsRepeatedFirst ts i → IsRepeatedFirst ts j → i ≡ j }
     ensures either { (ts : List Lexeme) (i j : ℕ) → IsUnexpectedFirst ts i → IsRepeatedFirst ts j → ⊥ }
     ensures not_unexpected { (ts : List Lexeme) (conf : List ConfItem) (i : ℕ) → IsConf ts conf → IsUnexpectedFirst ts i → ⊥ }
     ensures not_repeated { (ts : List Lexeme) (conf : List ConfItem) (i : ℕ) → IsConf ts conf → IsRepeatedFirst ts i → ⊥ }
+    ensures text { (text : List ℕ) (x y : ConfFault) → AnswersText text (Err x) → AnswersText text (Err y)
+        → x ≢ faults.OutOfMemory → y ≢ faults.OutOfMemory → x ≡ y }
 {}
 
 /// Each list of tokens is that of names and values, or is refused.

@@ -1,5 +1,5 @@
 -- An access made at once is the call of its unit.
-use Rattle.std.proofs.Common.{◌≡◌, ◌∙◌, ℕ, ◌/◌, ◌%◌, Bool, true, false, cond, not, ◌&&◌, length, take, ◌+◌, List, [], ◌∷◌, ◌++◌, map, sym, subst, refl, ap}
+use Rattle.std.proofs.Common.{◌≡◌, ◌∙◌, ℕ, ◌/◌, ◌%◌, Bool, true, false, cond, not, ◌&&◌, length, take, List, [], ◌∷◌, ◌++◌, map, sym, subst, refl, ap}
 use Rattle.std.proofs.lemmas.List.{append-nil}
 use Rattle.target_machine.specs.Attempt.{Attempt, attempt, is_free}
 use Rattle.target_machine.specs.Plain.{Action, Makes, CallDone, CallEnd, Answered, Skipped, Faulted, Small, in_order, is_fault, given, issued, csw_actions, cfg_actions, transfer_actions, memory_actions, has_large, contains, needs_cfg, unit_actions, result_of, from_lanes, may_forgive, ended, commanded, forgives, call_done, select_of, ap_access_of, dp_read_of, dp_write_of, polled}

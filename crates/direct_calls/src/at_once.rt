@@ -43,10 +43,7 @@ fn access_at_once(
     ensures made { MadeAs (call_done target.old large.old.items forgive (calls.Access unit)) result target.new large.new.items }
     ensures refused { OnErr result (IsRefused (takes_memory large.old.items (calls.Access unit)) target.old target.new large.old.items large.new.items) }
 {
-    let made = match make_plain(target, unit, large) {
-        Ok(made) => made,
-        Err(refused) => return Err(refused),
-    };
+    let made = make_plain(target, unit, large)?;
     if is_skipped(made, forgive, unit) {
         attempt(target, access_dp(false, ABORT, CLEAR_ALL));
         return Ok(Made::Skipped);

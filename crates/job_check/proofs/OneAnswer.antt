@@ -1,7 +1,5 @@
 -- The bytes of a job and a selection have one answer at most.
 use Rattle.std.proofs.Common.{◌≡◌, ◌∙◌, ℕ, List, Option, Result, Ok, Err, ap, ap₂, sym, subst, refl}
-use Rattle.serde_json.specs.Data.{Data}
-use Rattle.json_form.specs.declared.fault.JobFault.{JobFault}
 use Rattle.device_tree.specs.declared.pack.Pack.{Pack}
 use Rattle.sequence_resolve.specs.declared.selection.Selection.{Selection}
 use Rattle.sequence_resolve.specs.declared.entry.SeqSet.{SeqSet}
@@ -12,10 +10,8 @@ use Rattle.sequence_resolve.proofs.OneSet.{one_set, set_or_refusal, one_refusal}
 use Rattle.seq_check.specs.Valid.{IsValid}
 use Rattle.seq_check.proofs.OneFault.{one_first_fault, valid_or_faulty}
 use Rattle.job_text.specs.declared.job.Job.{Job}
-use Rattle.job_text.specs.JobReading.{job_in}
-use Rattle.job_text.specs.Answers.{IsJsonText, Describes}
-use Rattle.job_text.proofs.JobLaws.{job_reads}
-use Rattle.job_text.proofs.AnswerLaws.{one_value}
+use Rattle.job_text.specs.Answers.{Describes}
+use Rattle.job_text.proofs.AnswerLaws.{job_or_fault, one_fault, one_job}
 use Rattle.job_check.specs.declared.answer.Refusal.{Refusal}
 use Rattle.job_check.specs.declared.answer.Refusal.TheVariants as refusals
 use Rattle.job_check.specs.declared.answer.ValidSet.{ValidSet}
@@ -113,31 +109,9 @@ one_none pack s (refusals.Check kind spot) b p q = absurd p
 
 -- ---- the job
 
-abbrev found : Job → Result Job JobFault
-found j = Ok j
-
-abbrev faulty : JobFault → Result Job JobFault
-faulty f = Err f
-
-same_job : (a b : Job) → found a ≡ found b → a ≡ b
-same_job a b e = cc
-
-same_fault : (a b : JobFault) → faulty a ≡ faulty b → a ≡ b
-same_fault a b e = cc
-
-no_fault : (j : Job) (f : JobFault) → found j ≡ faulty f → ⊥
-no_fault j f e = cc
-
--- a job that the bytes describe is what their value is read as
-reads_as : (bytes : List ℕ) (j : Job) (d : Data) → Describes bytes j → IsJsonText bytes d → job_in d ≡ found j
-reads_as bytes j d p text = ap job_in (one_value bytes d p.0 text p.1) ∙ job_reads.complete p.0 j p.2
-
-pub one_job : (bytes : List ℕ) (a b : Job) → Describes bytes a → Describes bytes b → a ≡ b
-one_job bytes a b p q = same_job a b (sym (reads_as bytes a p.0 p p.1) ∙ reads_as bytes b p.0 q p.1)
-
 pub job_and_none : (bytes : List ℕ) (j : Job) (r : Refusal) → Describes bytes j → NoJob bytes r → ⊥
 job_and_none bytes j refusals.BadJson is none = none is.0 is.1
-job_and_none bytes j (refusals.Job fault) is none = no_fault j fault (sym (reads_as bytes j none.0 is none.1) ∙ none.2)
+job_and_none bytes j (refusals.Job fault) is none = job_or_fault bytes j none.0 fault is none.1 none.2
 job_and_none bytes j (refusals.Dbgconf kind at) is none = none
 job_and_none bytes j (refusals.Image what line) is none = none
 job_and_none bytes j refusals.NoDevice is none = none
@@ -150,7 +124,7 @@ one_no_job bytes refusals.BadJson refusals.BadJson p q = refl
 one_no_job bytes refusals.BadJson (refusals.Job fault) p q = absurd (p q.0 q.1)
 one_no_job bytes (refusals.Job fault) refusals.BadJson p q = absurd (q p.0 p.1)
 one_no_job bytes (refusals.Job fault) (refusals.Job other) p q =
-    ap refusals.Job (same_fault fault other (sym p.2 ∙ ap job_in (one_value bytes p.0 q.0 p.1 q.1) ∙ q.2))
+    ap refusals.Job (one_fault bytes p.0 q.0 fault other p.1 q.1 p.2 q.2)
 one_no_job bytes a (refusals.Dbgconf kind at) p q = absurd q
 one_no_job bytes a (refusals.Image what line) p q = absurd q
 one_no_job bytes a refusals.NoDevice p q = absurd q

@@ -22,7 +22,8 @@ use Rattle.job_check.specs.declared.answer.Refusal.{Refusal}
 use Rattle.job_check.specs.declared.running.RunRefusal.{RunRefusal}
 use Rattle.job_check.specs.declared.running.RunRefusal.TheVariants as ends
 use Rattle.job_check.specs.declared.running.ValidRun.{ValidRun}
-use Rattle.job_check.proofs.OneAnswer.{job_and_none, one_job, one_no_job, one_none, one_not_valid, set_and_none, valid_and_not}
+use Rattle.job_text.proofs.AnswerLaws.{one_job}
+use Rattle.job_check.proofs.OneAnswer.{job_and_none, one_no_job, one_none, one_not_valid, set_and_none, valid_and_not}
 use Rattle.job_check.proofs.OneValues.{conf_and_none, one_conf, one_no_conf, one_no_values, one_with_values, same_entries, values_and_none}
 
 refused_as : (x y : RunRefusal) (r q : Refusal) → x ≡ ends.Refused r → y ≡ ends.Refused q → r ≡ q → x ≡ y

@@ -1,21 +1,16 @@
 -- A job has one list of starting values, or one fault of their text. A set has one set with these values, or one name that it does not declare.
-use Rattle.std.proofs.Common.{◌≡◌, ◌≢◌, ◌∙◌, ℕ, List, Option, Some, None, Result, Ok, Err, ap, refl, sym, subst}
+use Rattle.std.proofs.Common.{◌≡◌, ◌≢◌, ◌∙◌, ℕ, List, Option, Some, None, Ok, Err, ap, refl, sym}
 use Rattle.dap_base.specs.declared.text.Place.{Place}
-use Rattle.expr_grammar.specs.declared.token_list.TokenError.TheVariants as tokens
-use Rattle.expr_grammar.specs.Lexeme.{Lexeme}
-use Rattle.expr_grammar.specs.Lexing.{IsFirstBad, place_at}
-use Rattle.expr_grammar.specs.Refusal.{place_of}
-use Rattle.expr_grammar.proofs.OneDivision.{gives_bad, gives_tokens, not_both as no_bad}
 use Rattle.sequence_resolve.specs.declared.entry.SeqSet.{SeqSet}
 use Rattle.sequence_resolve.proofs.OneSet.{same_set}
 use Rattle.dbgconf_text.specs.declared.conf.ConfItem.{ConfItem}
 use Rattle.dbgconf_text.specs.declared.conf.ConfFault.{ConfFault}
 use Rattle.dbgconf_text.specs.declared.conf.ConfFault.TheVariants as conf
 use Rattle.dbgconf_text.specs.declared.replacing.ReplaceFault.TheVariants as replacing
-use Rattle.dbgconf_text.specs.Conf.{AnswersText, AnswersTokens, cut, bad, no_memory}
+use Rattle.dbgconf_text.specs.Conf.{AnswersText, cut}
 use Rattle.dbgconf_text.specs.Replacing.{Replaces}
 use Rattle.dbgconf_text.proofs.OneConf.{gives}
-use Rattle.dbgconf_text.proofs.OneRefusal.{one_repeated, one_unexpected, not_both}
+use Rattle.dbgconf_text.proofs.OneFault.{one_fault}
 use Rattle.dbgconf_text.proofs.OneReplacement.{one_place, one_text, text_or_place}
 use Rattle.job_check.specs.declared.answer.DbgconfKind.TheVariants as kinds
 use Rattle.job_check.specs.declared.answer.Refusal.{Refusal}
@@ -46,45 +41,6 @@ conf_and_none None items r p q = q
 conf_and_none (Some text) items r p q = conf_and_fault text items r p q
 
 -- ---- one fault
-
-abbrev faulty : ConfFault → Result (List ConfItem) ConfFault
-faulty f = Err f
-
-same_faulty : (a b : ConfFault) → faulty a ≡ faulty b → a ≡ b
-same_faulty a b e = cc
-
--- tokens have one fault
-of_tokens : (ts : List Lexeme) (a b : ConfFault) → AnswersTokens ts (Err a) → AnswersTokens ts (Err b) → a ≢ conf.OutOfMemory → b ≢ conf.OutOfMemory → a ≡ b
-of_tokens ts conf.OutOfMemory b p q x y = absurd (x refl)
-of_tokens ts (conf.BadToken at) b p q x y = absurd p
-of_tokens ts (conf.Unexpected at) conf.OutOfMemory p q x y = absurd (y refl)
-of_tokens ts (conf.Unexpected at) (conf.BadToken there) p q x y = absurd q
-of_tokens ts (conf.Unexpected at) (conf.Unexpected there) p q x y =
-    ap conf.Unexpected (p.2 ∙ ap (place_of ts) (one_unexpected ts p.0 q.0 p.1.unexpected q.1.unexpected) ∙ sym q.2)
-of_tokens ts (conf.Unexpected at) (conf.Repeated there) p q x y = absurd (not_both ts p.0 q.0 p.1 q.1)
-of_tokens ts (conf.Repeated at) conf.OutOfMemory p q x y = absurd (y refl)
-of_tokens ts (conf.Repeated at) (conf.BadToken there) p q x y = absurd q
-of_tokens ts (conf.Repeated at) (conf.Unexpected there) p q x y = absurd (not_both ts q.0 p.0 q.1 p.1)
-of_tokens ts (conf.Repeated at) (conf.Repeated there) p q x y = ap conf.Repeated (p.2 ∙ ap (place_of ts) (one_repeated ts p.0 q.0 p.1 q.1) ∙ sym q.2)
-
--- a text has one first bad token
-same_bad : (text : List ℕ) (n m : ℕ) → IsFirstBad text n → IsFirstBad text m → place_at text n ≡ place_at text m
-same_bad text n m first other = gives_bad text (Err (tokens.BadToken (place_at text n))) (n, first, refl) m other
-
-one_fault : (text : List ℕ) (a b : ConfFault) → AnswersText text (Err a) → AnswersText text (Err b) → a ≢ conf.OutOfMemory → b ≢ conf.OutOfMemory → a ≡ b
-one_fault text a b p q x y = elim p [
-  | cut ts are h ↦ elim q [
-    | cut us them k ↦ of_tokens ts a b h (subst (λ (l : List Lexeme). AnswersTokens l (Err b)) (gives_tokens text (Ok us) them ts are) k) x y
-    | bad n first e ↦ absurd (no_bad text ts n are first)
-    | no_memory e ↦ absurd (y (same_faulty b conf.OutOfMemory e))
-  ]
-  | bad n first e ↦ elim q [
-    | cut us them k ↦ absurd (no_bad text us n them first)
-    | bad m other f ↦ same_faulty a b (e ∙ ap (λ (at : Place). faulty (conf.BadToken at)) (same_bad text n m first other) ∙ sym f)
-    | no_memory f ↦ absurd (y (same_faulty b conf.OutOfMemory f))
-  ]
-  | no_memory e ↦ absurd (x (same_faulty a conf.OutOfMemory e))
-]
 
 -- the refusal of a fault
 refusal_of : ConfFault → Refusal

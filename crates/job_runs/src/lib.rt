@@ -3,7 +3,6 @@
 
 mod kept;
 pub mod laws;
-mod ranges;
 mod running;
 mod writing;
 

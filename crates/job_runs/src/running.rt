@@ -12,7 +12,6 @@ ghost use Rattle.job_runs.specs.Runs.{JobComesTo, MayRun, access_kind, config_of
 ghost use Rattle.task_runs.specs.Tasks.{ClosesAs, sequel_of};
 
 use crate::kept::Kept;
-use crate::ranges::numbers_fit;
 use access_calls::{Ended, Ending, NotBegun, OverBench};
 use dap_base::Sink;
 use job_check::ValidRun;
@@ -117,7 +116,6 @@ pub fn run_whole<B: Bench, K: Sink, A: OverBench<B>>(
     ensures cut { (report : Report) → result.ended.ending ≡ ends.Cut report → HasGotResponse (code_of_cause report.cause) (B.reported bench) (B.reported result.bench) }
     ensures bad { result.ended.ending ≡ ends.ReplyBad → HasBadReply (B.reported bench) (B.reported result.bench) result.sent result.got }
 {
-    numbers_fit(&run_of.job.bench.target);
     match A::begin(
         alloc,
         bench,

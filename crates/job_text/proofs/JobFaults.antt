@@ -11,7 +11,7 @@ use Rattle.device_tree.specs.declared.pack.Pack.{Pack}
 use Rattle.device_tree.specs.PackReading.{pack_in}
 use Rattle.target_machine.specs.declared.unit.Settings.{Settings}
 use Rattle.probe_core.specs.declared.job.BenchJob.{BenchJob}
-use Rattle.job_text.specs.declared.job.Job.{Job}
+use Rattle.job_text.specs.declared.reading.JobParts.{JobParts}
 use Rattle.job_text.specs.Keys.{job_keys}
 use Rattle.job_text.specs.RunReading.{run_in, default_settings}
 use Rattle.job_text.specs.TargetReading.{bench_in}
@@ -31,7 +31,7 @@ gives_fault : {A : Type 0} (fault : JobFault) (r read : Result A JobFault) → I
 gives_fault fault (Ok x) read is h = absurd is
 gives_fault fault (Err f) read is h = subst (λ (g : JobFault). Fails g read) (sym is) h
 
-pub own_fails : (d : Data) (r : Result Job JobFault) (known : Unit {0}) (pack : Pack) (settings : Settings) (bench : BenchJob) (fault : JobFault) → only_keys job_keys d ≡ Ok known
+pub own_fails : (d : Data) (r : Result JobParts JobFault) (known : Unit {0}) (pack : Pack) (settings : Settings) (bench : BenchJob) (fault : JobFault) → only_keys job_keys d ≡ Ok known
     → required (codes "pack") pack_in d ≡ Ok pack → or_else (codes "run") run_in default_settings d ≡ Ok settings → required (codes "bench") bench_in d ≡ Ok bench
     → Fails fault (optional_in bench.target.memory d) → IsErrAnd r (λ f. f ≡ fault) → Gives r (job_in d)
 unfolding job_in

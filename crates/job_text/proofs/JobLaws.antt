@@ -12,12 +12,12 @@ use Rattle.device_tree.proofs.PackLaws.{pack_reads}
 use Rattle.target_machine.specs.declared.job.RegionJob.{RegionJob}
 use Rattle.trace_audit.specs.Texts.{is_entry_text}
 use Rattle.trace_audit.proofs.TextLemmas.{entry_of_test, test_of_entry}
-use Rattle.job_text.specs.declared.job.Job.{Job}
+use Rattle.job_text.specs.declared.reading.JobParts.{JobParts}
 use Rattle.job_text.specs.declared.reading.Optional.{Optional}
 use Rattle.job_text.specs.Tests.{are_words_in}
 use Rattle.job_text.specs.RunReading.{default_settings}
 use Rattle.job_text.specs.JobReading.{watch_item_in, watch_in, image_job_in, image_in, dbgconf_in, entry_text_in, trace_in, optional_in, job_in}
-use Rattle.job_text.specs.JobForm.{IsWatchItem, IsImageJob, IsEntryOf, IsJob}
+use Rattle.job_text.specs.JobForm.{AreParts, IsWatchItem, IsImageJob, IsEntryOf}
 use Rattle.job_text.proofs.RunLaws.{run_reads}
 use Rattle.job_text.proofs.TargetLaws.{aligned_reads, bench_reads}
 
@@ -106,10 +106,10 @@ optional_law regions = record {
   complete = λ d x p. rw ((watch_law regions).complete d x.watch p.watch, image_reads.complete d x.image p.image, dbgconf_reads.complete d x.dbgconf p.dbgconf, trace_reads.complete d x.trace p.trace) refl;
 }
 
-optional_of : Job → Optional
+optional_of : JobParts → Optional
 optional_of x = record { watch = x.watch; image = x.image; dbgconf = x.dbgconf; trace = x.trace }
 
-pub job_reads : Reads job_in IsJob
+pub job_reads : Reads job_in AreParts
 unfolding job_in optional_of
 job_reads =
     let pack = required_reads (codes "pack") _ _ pack_reads in
@@ -123,7 +123,7 @@ job_reads =
           let b = bind_ok _ _ x r.2 in
           let o = bind_ok _ _ x b.2 in
           let own = (optional_law b.0.target.memory).sound d o.0 o.1 in
-          subst (IsJob d) (ok_is _ x o.2) (record {
+          subst (AreParts d) (ok_is _ x o.2) (record {
             known = only_keys_sound _ d a.0 a.1;
             pack = pack.sound d p.0 p.1;
             settings = run.sound d r.0 r.1;

@@ -13,6 +13,7 @@ use Rattle.target_machine.specs.declared.job.RegionJob.{RegionJob}
 use Rattle.target_machine.specs.declared.job.WordJob.{WordJob}
 use Rattle.target_machine.specs.declared.job.ScriptJob.{ScriptJob}
 use Rattle.target_machine.specs.declared.job.TargetJob.{TargetJob}
+use Rattle.target_machine.specs.InRange.{IsJobInRange}
 use Rattle.target_machine.specs.Ranges.{IsRegion, AreApart, IsWordIn, IsScriptIn, IsTargetJob}
 use Rattle.probe_core.specs.declared.job.BenchJob.{BenchJob}
 use Rattle.probe_core.specs.Ranges.{IsBenchJob}
@@ -144,7 +145,7 @@ scripts_hold regions words d scripts has =
     (record { few = omega arith; inside = λ k e lt. absurd (omega arith); differ = λ i j e lt below. absurd (omega arith); no_words = λ k e lt. absurd (omega arith) })
     has
 
--- ---- the target and the bench
+-- ---- the target
 
 aps_differ : (before : List ApJob) (x : ApJob) → repeats_by same_ap before x ≡ false → All (λ other. other.ap ≢ x.ap) before
 aps_differ before x e k d lt = is_other _ _ (none_at (λ other. same_ap other x) before e k d lt)
@@ -177,6 +178,46 @@ target_ranges d x is =
       resets = reset.inside;
       resets_differ = reset.differ;
     }
+
+-- ---- the numbers of the target
+
+word_fits : (v : Data) (n : ℕ) → IsWord v n → n < 2 ^ 32
+word_fits v n is = omega (arith, is.2)
+
+port_fits : (d : Data) (x : ApJob) → IsAp d x → (x.idr < 2 ^ 32) × (x.base < 2 ^ 32)
+port_fits d x is = (
+  or_default (codes "idr") IsWord 0x24770011 d x.idr (λ n. n < 2 ^ 32) word_fits (omega arith) is.idr,
+  or_default (codes "base") IsWord 0xE00FF003 d x.base (λ n. n < 2 ^ 32) word_fits (omega arith) is.base,
+)
+
+words_fit : (key : List ℕ) (limit : ℕ) (regions : List RegionJob) (d : Data) (words : List WordJob)
+    → HasOr key (IsListOf (Some limit) (Alone (IsWordJob regions)) (repeats_by same_word)) [] d words → All (λ word. word.value < 2 ^ 32) words
+words_fit key limit regions d words has =
+    or_default key _ [] d words (All (λ word. word.value < 2 ^ 32))
+    (λ v ws is. list_holds (Some limit) (Alone (IsWordJob regions)) (repeats_by same_word) (λ word. word.value < 2 ^ 32) v ws (λ before d' x h fresh. word_fits h.value.0 x.value h.value.2) is)
+    (λ k e lt. absurd (omega arith)) has
+
+values_fit : (regions : List RegionJob) (d : Data) (x : ScriptJob) → IsScriptJob regions d x → All (λ n. n < 2 ^ 32) x.values
+values_fit regions d x is = list_holds (Some 4096) (Alone IsWord) never (λ n. n < 2 ^ 32) is.values.0 x.values (λ before d' n h fresh. word_fits d' n h) is.values.2.0
+
+scripts_fit : (regions : List RegionJob) (words : List WordJob) (d : Data) (scripts : List ScriptJob)
+    → HasOr (codes "scripts") (IsListOf (Some 1024) (Alone (IsScriptJob regions)) (repeats_script words)) [] d scripts → All (λ script. All (λ n. n < 2 ^ 32) script.values) scripts
+scripts_fit regions words d scripts has =
+    or_default (codes "scripts") _ [] d scripts (All (λ script. All (λ n. n < 2 ^ 32) script.values))
+    (λ v ss is. list_holds (Some 1024) (Alone (IsScriptJob regions)) (repeats_script words) (λ script. All (λ n. n < 2 ^ 32) script.values) v ss (λ before d' x h fresh. values_fit regions d' x h) is)
+    (λ k e lt. absurd (omega arith)) has
+
+pub target_in_range : (d : Data) (x : TargetJob) → IsTarget d x → IsJobInRange x
+target_in_range d x is = record {
+  dpidr = or_default (codes "dpidr") (Such has_bit_0 IsWord) 0x2BA01477 d x.dpidr (λ n. n < 2 ^ 32) (λ v n h. word_fits v n h.0) (omega arith) is.dpidr;
+  pins = or_default (codes "pins") (Such lacks_bits_4_and_6 (IsNumber 0 255)) 0xA0 d x.pins (λ n. n < 2 ^ 8) (λ v n h. omega (arith, h.0.2)) (omega arith) is.pins;
+  aps = list_holds (Some 16) (Alone IsAp) (repeats_by same_ap) (λ a. (a.idr < 2 ^ 32) × (a.base < 2 ^ 32)) is.aps.0 x.aps (λ before d' a h fresh. port_fits d' a h) is.aps.2;
+  words = words_fit (codes "words") 65536 x.memory d x.words is.words;
+  scripts = scripts_fit x.memory x.words d x.scripts is.scripts;
+  reset = words_fit (codes "reset") 1024 x.memory d x.reset is.reset;
+}
+
+-- ---- the bench
 
 record StallsHold (stalls : List ℕ) : Type 0 where
   few : length stalls ≤ 65536

@@ -1,9 +1,9 @@
 -- The settings and the watched words of a job that a value stands for are in their ranges.
-use Rattle.std.proofs.Common.{◌≡◌, ℕ, ◌≤◌, codes, List, [], ◌∷◌, map, length, Option, Some, None, inl, inr, refl, ap, sym, subst, ◌∙◌, arith}
+use Rattle.std.proofs.Common.{◌≡◌, ℕ, ◌≤◌, codes, List, [], ◌∷◌, map, Option, Some, None, inl, inr, refl, ap, subst, ◌∙◌, arith}
 use Rattle.std.specs.List.{All}
 use Rattle.serde_json.specs.Data.{Data}
 use Rattle.json_form.specs.Reading.{never}
-use Rattle.json_form.specs.Form.{IsNumber, HasOr, MayHave, IsListOf, Alone}
+use Rattle.json_form.specs.Form.{IsNumber, MayHave, IsListOf, Alone}
 use Rattle.json_form.proofs.ItemLaws.{list_holds, list_length}
 use Rattle.trace_audit.specs.Texts.{IsEntry}
 use Rattle.trace_audit.proofs.TextLemmas.{is_equal}
@@ -12,7 +12,7 @@ use Rattle.target_machine.specs.declared.unit.Settings.{Settings}
 use Rattle.target_machine.specs.declared.unit.Variable.{Variable}
 use Rattle.job_text.specs.declared.job.Job.{Job}
 use Rattle.job_text.specs.declared.job.WatchItem.{WatchItem}
-use Rattle.job_text.specs.RunReading.{with_value, zeros, default_settings}
+use Rattle.job_text.specs.RunReading.{zeros, default_settings}
 use Rattle.function_table.specs.Variables.{predefined}
 use Rattle.job_text.specs.RunForm.{HasValues, AreVariables, IsRun}
 use Rattle.job_text.specs.JobForm.{IsWatchItem, IsEntryOf, IsJob}

@@ -24,7 +24,7 @@ use Rattle.job_text.specs.RunReading.{variable_in, values_after, variables_in, r
 use Rattle.job_text.specs.TargetReading.{ap_in, region_in, word_in, values_in, script_in, power_reads_in, port_in, aps_in, regions_in, words_in, listed_in, reset_in, scripts_in, target_in, packet_size_in, packet_count_in, limits_in, bench_in}
 use Rattle.job_text.specs.JobReading.{watch_item_in, watch_in, image_job_in, image_in, dbgconf_in, entry_text_in, trace_in, optional_in, job_in}
 use Rattle.job_text.specs.Answers.{IsJsonText, Describes, IsRefused}
-use Rattle.job_text.proofs.JobLaws.{job_reads}
+use Rattle.job_text.proofs.AnswerLaws.{job_or_first_fault}
 
 -- ---- how sequences are run
 
@@ -206,13 +206,15 @@ module _ (bytes : List ℕ) where
   abbrev pub JobOrNone : Type 0
   JobOrNone = ((job : Job) × Describes bytes job) ⊎ ((refusal : JobRefusal) × IsRefused bytes refusal × (refusal ≢ refusals.OutOfMemory))
 
-  by_reading : (d : Data) → IsJsonText bytes d → (r : Result Job JobFault) → job_in d ≡ r → IsDecided r → JobOrNone
-  by_reading d text (Ok job) is decided = inl (job, (d, text, job_reads.sound d job is))
-  by_reading d text (Err fault) is decided = inr (refusals.Fault fault, (d, text, is, of_value fault decided), λ e. absurd cc)
+  by_reading : (d : Data) → IsJsonText bytes d → JobOrNone
+  by_reading d text = elim (job_or_first_fault d (job_decided d)) [
+    | inl found ↦ inl (found.0, (d, text, found.1))
+    | inr none ↦ inr (refusals.Fault none.0, (d, text, none.1, of_value none.0 none.2), λ e. absurd cc)
+  ]
 
   by_value : IsUtf8 bytes → (o : Option Data) → read bytes ≡ o → JobOrNone
   by_value utf8 None none = inr (refusals.BadJson, (λ d text. (let e = text.1 in absurd cc)), λ e. absurd cc)
-  by_value utf8 (Some d) is = by_reading d (utf8, is) (job_in d) refl (job_decided d)
+  by_value utf8 (Some d) is = by_reading d (utf8, is)
 
   by_bytes : (b : Bool) → is_utf8 bytes ≡ b → JobOrNone
   by_bytes true is = by_value (IsUtf8-from_is_utf8 bytes is) (read bytes) refl

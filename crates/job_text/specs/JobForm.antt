@@ -8,6 +8,7 @@ use Rattle.target_machine.specs.declared.job.RegionJob.{RegionJob}
 use Rattle.trace_audit.specs.Texts.{IsEntry}
 use Rattle.job_text.specs.declared.job.ImageJob.{ImageJob}
 use Rattle.job_text.specs.declared.job.Job.{Job}
+use Rattle.job_text.specs.declared.reading.JobParts.{JobParts}
 use Rattle.job_text.specs.declared.job.WatchItem.{WatchItem}
 use Rattle.job_text.specs.Tests.{is_aligned, are_words_in}
 use Rattle.job_text.specs.RunReading.{default_settings}
@@ -30,13 +31,21 @@ pub record IsImageJob (d : Data) (x : ImageJob) : Type 0 where
   pub ap : HasOr (codes "ap") (IsNumber 0 255) 0 d x.ap
   pub hex : Has (codes "hex") IsText d x.hex
 
--- the value stands for the job: each key of docs/JOB.md has its value, or its default where it is absent
-pub record IsJob (d : Data) (job : Job) : Type 0 where
+-- the members of the job
+abbrev pub parts_of : Job → JobParts
+parts_of job = record { pack = job.pack; settings = job.settings; bench = job.bench; watch = job.watch; image = job.image; dbgconf = job.dbgconf; trace = job.trace }
+
+-- the value stands for the members of a job: each key of docs/JOB.md has its value, or its default where it is absent
+pub record AreParts (d : Data) (x : JobParts) : Type 0 where
   pub known : HasOnly (codes "pack" ∷ codes "run" ∷ codes "bench" ∷ codes "watch" ∷ codes "image" ∷ codes "dbgconf" ∷ codes "trace" ∷ []) d
-  pub pack : Has (codes "pack") IsPack d job.pack
-  pub settings : HasOr (codes "run") IsRun default_settings d job.settings
-  pub bench : Has (codes "bench") IsBench d job.bench
-  pub watch : HasOr (codes "watch") (IsListOf (Some 1024) (Alone (IsWatchItem job.bench.target.memory)) never) [] d job.watch
-  pub image : MayHave (codes "image") IsImageJob d job.image
-  pub dbgconf : MayHave (codes "dbgconf") IsText d job.dbgconf
-  pub trace : MayHave (codes "trace") (IsListOf (Some 65536) (Alone IsEntryOf) never) d job.trace
+  pub pack : Has (codes "pack") IsPack d x.pack
+  pub settings : HasOr (codes "run") IsRun default_settings d x.settings
+  pub bench : Has (codes "bench") IsBench d x.bench
+  pub watch : HasOr (codes "watch") (IsListOf (Some 1024) (Alone (IsWatchItem x.bench.target.memory)) never) [] d x.watch
+  pub image : MayHave (codes "image") IsImageJob d x.image
+  pub dbgconf : MayHave (codes "dbgconf") IsText d x.dbgconf
+  pub trace : MayHave (codes "trace") (IsListOf (Some 65536) (Alone IsEntryOf) never) d x.trace
+
+-- the value stands for the job
+abbrev pub IsJob : Data → Job → Type 0
+IsJob d job = AreParts d (parts_of job)

@@ -9,7 +9,7 @@ use Rattle.device_tree.specs.PackReading.{pack_in}
 use Rattle.target_machine.specs.declared.job.RegionJob.{RegionJob}
 use Rattle.trace_audit.specs.Texts.{is_entry_text}
 use Rattle.job_text.specs.declared.job.ImageJob.{ImageJob}
-use Rattle.job_text.specs.declared.job.Job.{Job}
+use Rattle.job_text.specs.declared.reading.JobParts.{JobParts}
 use Rattle.job_text.specs.declared.job.WatchItem.{WatchItem}
 use Rattle.job_text.specs.declared.reading.Optional.{Optional}
 use Rattle.job_text.specs.Keys.{watch_keys, image_keys, job_keys}
@@ -64,8 +64,8 @@ optional_in regions d = do
   trace ← trace_in d
   Ok (record { watch = watch; image = image; dbgconf = dbgconf; trace = trace })
 
--- a job: its keys, then the values of `pack`, `run`, `bench`, `watch`, `image`, `dbgconf` and `trace`, in this order
-unfoldable pub job_in : Data → Result Job JobFault
+-- the members of a job: its keys, then the values of `pack`, `run`, `bench`, `watch`, `image`, `dbgconf` and `trace`, in this order
+unfoldable pub job_in : Data → Result JobParts JobFault
 job_in d = do
   known ← only_keys job_keys d
   pack ← required (codes "pack") pack_in d

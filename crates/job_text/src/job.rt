@@ -1,4 +1,6 @@
 //! A job, and why a text is none.
+ghost use Rattle.target_machine.specs.InRange.{IsJobInRange};
+
 use dap_base::{ItemList, NameText};
 use device_tree::{JobFault, Pack};
 use probe_core::BenchJob;
@@ -39,6 +41,8 @@ pub struct Job {
     pub dbgconf: Option<NameText>,
     /// The entries of a kept trace, at most 65,536, where the job has one.
     pub trace: Option<TraceTexts>,
+    // Each number of the target fits its register or word.
+    pub ghost in_range: { IsJobInRange bench.target },
 }
 
 /// Why bytes are no job.

@@ -1,12 +1,14 @@
 //! The whole job.
-ghost use Rattle.std.specs.Prelude.{IfOk, IfErr};
+ghost use Rattle.std.specs.Prelude.{◌≡◌, IfOk, IfErr};
 ghost use Rattle.serde_json.specs.View.{view};
 ghost use Rattle.json_form.specs.Faults.{Gives};
 ghost use Rattle.json_form.specs.Reading.{only_keys};
+ghost use Rattle.target_machine.specs.InRange.{IsJobInRange};
 ghost use Rattle.probe_core.specs.Ranges.{IsBenchJob};
 ghost use Rattle.job_text.specs.Keys.{job_keys};
 ghost use Rattle.job_text.specs.JobReading.{dbgconf_in, job_in, optional_in, watch_in};
 ghost use Rattle.job_text.specs.Answers.{AnswersJob, Describes, IsRefused, IsAnswer};
+ghost use Rattle.job_text.specs.JobForm.{parts_of};
 ghost use Rattle.job_text.specs.Ranges.{AreSettings, AreWatched, AreEntryTexts};
 ghost use Rattle.job_text.specs.declared.job.Job.{Job};
 
@@ -17,11 +19,12 @@ use crate::run::settings_of;
 use crate::trace::trace_of;
 use crate::watch::WatchReader;
 use dap_base::{ItemList, NameText};
-use device_tree::{JobFault, PackReader};
+use device_tree::{JobFault, Pack, PackReader};
 use json_form::{Each, ListOf, Text, member_or, only_keys_of, optional_of, required_of};
+use probe_core::BenchJob;
 use serde_json::Value;
 use std::alloc::Global;
-use target_machine::RegionJobs;
+use target_machine::{RegionJobs, Settings};
 use trace_audit::TraceTexts;
 
 const WATCH_LIMIT: usize = 1024;
@@ -82,8 +85,20 @@ fn only_job_keys(alloc: Global, job: &Value) -> Result<(), JobFault>
     only_keys_of(alloc, job, &JOB_KEYS)
 }
 
+// The members of a job, before its type says that their numbers fit.
+#[derive(Drop)]
+struct JobParts {
+    pack: Pack,
+    settings: Settings,
+    bench: BenchJob,
+    watch: Watch,
+    image: Option<ImageJob>,
+    dbgconf: Option<NameText>,
+    trace: Option<TraceTexts>,
+}
+
 #[tactic(auto, unfolding(crate::specs::JobReading::job_in))]
-fn job_in_value(alloc: Global, value: &Value) -> Result<Job, JobFault>
+fn job_in_value(alloc: Global, value: &Value) -> Result<JobParts, JobFault>
     ensures { Gives result (job_in (view value.now)) }
 {
     only_job_keys(alloc, value)?;
@@ -91,7 +106,7 @@ fn job_in_value(alloc: Global, value: &Value) -> Result<Job, JobFault>
     let settings = settings_of(alloc, value)?;
     let bench = required_of(alloc, value, "bench", &BenchReader)?;
     let own = optional_in_value(alloc, value, &bench.target.memory)?;
-    Ok(Job {
+    Ok(JobParts {
         pack,
         settings,
         bench,
@@ -100,6 +115,22 @@ fn job_in_value(alloc: Global, value: &Value) -> Result<Job, JobFault>
         dbgconf: own.dbgconf,
         trace: own.trace,
     })
+}
+
+// The job with these members, whose numbers fit their registers and words.
+fn job_with(parts: JobParts) -> Job
+    requires { IsJobInRange parts.bench.target }
+    ensures { parts_of result ≡ parts }
+{
+    Job {
+        pack: parts.pack,
+        settings: parts.settings,
+        bench: parts.bench,
+        watch: parts.watch,
+        image: parts.image,
+        dbgconf: parts.dbgconf,
+        trace: parts.trace,
+    }
 }
 
 fn answer_of(alloc: Global, bytes: &[u8]) -> Result<Job, JobRefusal>
@@ -115,7 +146,7 @@ fn answer_of(alloc: Global, bytes: &[u8]) -> Result<Job, JobRefusal>
         }
     };
     match job_in_value(alloc, &value) {
-        Ok(job) => Ok(job),
+        Ok(parts) => Ok(job_with(parts)),
         Err(JobFault::OutOfMemory) => Err(JobRefusal::OutOfMemory),
         Err(fault) => Err(JobRefusal::Fault(fault)),
     }

@@ -113,10 +113,7 @@ impl<F: Flights> Sender<F> {
         ensures pending { OnOk result (self.new.log.confirmed < length self.new.log.entries) }
     {
         if !self.flights.room(access) {
-            match self.send() {
-                Ok(()) => {}
-                Err(stop) => return Err(stop),
-            }
+            self.send()?;
         }
         self.flights.push(access);
         self.log.issue(unit, part);

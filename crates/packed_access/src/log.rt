@@ -36,14 +36,8 @@ fn take_room(
     ensures call { OnOk result ((length asks.new.all < asks.new.room) × (length places.new.all < places.new.room)) }
     ensures room { OnOk result (length entries.new.all + most_entries ≤ entries.new.room) }
 {
-    match asks.reserve(1) {
-        Ok(()) => {}
-        Err(OutOfMemory) => return Err(OutOfMemory),
-    }
-    match places.reserve(1) {
-        Ok(()) => {}
-        Err(OutOfMemory) => return Err(OutOfMemory),
-    }
+    asks.reserve(1)?;
+    places.reserve(1)?;
     entries.reserve(MOST_ENTRIES)
 }
 
@@ -177,10 +171,7 @@ impl CallLog {
         ensures longer { self.old.room ≤ self.new.room }
         ensures sound { IsSoundState self.new }
     {
-        match take_room(&mut self.asks, &mut self.places, &mut self.entries) {
-            Ok(()) => {}
-            Err(OutOfMemory) => return Err(OutOfMemory),
-        }
+        take_room(&mut self.asks, &mut self.places, &mut self.entries)?;
         self.room = self.room.max(self.entries.len() + MOST_ENTRIES);
         if self.results.push(0).is_err() {
             return Err(OutOfMemory);

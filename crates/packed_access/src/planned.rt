@@ -120,10 +120,7 @@ impl<F: Flights> Sender<F> {
         let accesses = list_accesses(&plan);
         let last = accesses.len() - 1;
         let number = self.log.count();
-        match self.issue_all(number, Part::Leads, &accesses[..last]) {
-            Ok(()) => {}
-            Err(stop) => return Err(stop),
-        }
+        self.issue_all(number, Part::Leads, &accesses[..last])?;
         self.issue(number, Part::Ends, accesses[last])
     }
 

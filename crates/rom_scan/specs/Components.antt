@@ -56,7 +56,8 @@ unknown_at address depth = record { address = address; depth = depth; known = No
 -- what is read of a component that is known
 abbrev pub identified : ℕ → ℕ → ℕ → List ℕ → Sequel Component
 identified ap address depth cidr =
-    followed_by (words_sequel ap 1 (address + 0xFD0) []) (λ fourth. followed_by (words_sequel ap 4 (address + 0xFE0) []) (λ first. Ends (known_as address depth cidr fourth first)))
+    followed_by (words_sequel ap 1 (address + 0xFD0) [])
+    (λ fourth. followed_by (words_sequel ap 4 (address + 0xFE0) []) (λ first. Ends (known_as address depth cidr fourth first)))
 
 -- what is read after the first four words
 abbrev pub by_words : ℕ → ℕ → ℕ → List ℕ → Sequel Component

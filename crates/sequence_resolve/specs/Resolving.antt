@@ -34,7 +34,8 @@ pub record IsEffectiveSet (pack : Pack) (device : List ℕ) (variant_name pname 
 abbrev pub HasNone : Pack → List ℕ → Option (List ℕ) → ResolveFault → Type 0
 HasNone pack device variant_name faults.NoDevice = devices_named device pack ≡ []
 HasNone pack device variant_name faults.AmbiguousDevice = 1 < length (devices_named device pack)
-HasNone pack device variant_name faults.NoVariant = (place : DevicePlace) × (devices_named device pack ≡ place ∷ []) × (requested_variant variant_name place.device ≡ None)
+HasNone pack device variant_name faults.NoVariant =
+    (place : DevicePlace) × (devices_named device pack ≡ place ∷ []) × (requested_variant variant_name place.device ≡ None)
 HasNone pack device variant_name faults.OutOfMemory = ⊤
 
 -- the only one of the places, or why there is none

@@ -1,4 +1,5 @@
 use Rattle.dbgconf_text.proofs.OneConf as conf
+use Rattle.dbgconf_text.proofs.OneFault.{one_fault}
 use Rattle.dbgconf_text.proofs.OneRefusal.{one_unexpected, one_repeated, not_both}
 use Rattle.dbgconf_text.proofs.laws.one_refusal.Goals as goal
 
@@ -16,3 +17,6 @@ returns-clause-not_unexpected c = λ ts made i is u. conf.not_unexpected ts i ma
 
 pub returns-clause-not_repeated : goal.returns-clause-not_repeated
 returns-clause-not_repeated c = λ ts made i is r. conf.not_repeated ts i made r.repeated is
+
+pub returns-clause-text : goal.returns-clause-text
+returns-clause-text c = one_fault

@@ -18,7 +18,7 @@ returns-in-Ok-clause-run g c = λ is.
     let job = c.args.run_of.now.job.bench in
     let config : Config = config_of c.args.run_of.now.job.settings in
     let first : BenchState = opened_bench (config_of c.args.run_of.now.job.settings) (fresh c.args.run_of.now.job.bench) in
-    let may : MayBegin (fresh c.args.run_of.now.job.bench) = loaded_may_begin c.args.run_of.now.job.bench c.requires.may.job c.numbers_fit.ensures in
+    let may : MayBegin (fresh c.args.run_of.now.job.bench) = loaded_may_begin c.args.run_of.now.job.bench c.requires.may.job c.args.run_of.now.job.in_range in
     let there = still_seen (λ m n. MayBegin m → g.A.Access.begun c.in-Ok.access (opened_bench c.config_of.result m)) (fresh job) _ _ is c.in-Ok.ensures.begun in
     let begun : g.A.Access.begun c.in-Ok.access first = subst (λ (k : Config). g.A.Access.begun c.in-Ok.access (opened_bench k (fresh c.args.run_of.now.job.bench))) c.config_of.ensures (there.2 may) in
     let a = g.A.Access.reported c.run_task-task.new.access in
@@ -39,7 +39,7 @@ returns-in-Ok-clause-run g c = λ is.
 pub returns-in-Err-clause-run : goal.returns-in-Err-clause-run
 returns-in-Err-clause-run g c = λ is.
     let old = g.K.Sink.written c.args.sink.now in
-    let may : MayBegin (fresh c.args.run_of.now.job.bench) = loaded_may_begin c.args.run_of.now.job.bench c.requires.may.job c.numbers_fit.ensures in
+    let may : MayBegin (fresh c.args.run_of.now.job.bench) = loaded_may_begin c.args.run_of.now.job.bench c.requires.may.job c.args.run_of.now.job.in_range in
     let refused = subst (λ (k : Config). IsNotBegun k (seen g.B.Bench.reported g.B.Bench.state c.args.bench) (seen g.B.Bench.reported g.B.Bench.state c.in-Err.refused.bench) c.in-Err.refused.stop
     (take c.in-Err.refused.sent_length c.in-Err.refused.sent) (take c.in-Err.refused.got_length c.in-Err.refused.got)) c.config_of.ensures c.in-Err.ensures.refused in
     let r = not_begun (access_kind g.A.Access.journal g.A.Access.cost g.A.Access.is_sparing) (config_of c.args.run_of.now.job.settings) c.args.run_of.now.job.bench (task_with c.args.run_of.now c.args.sequence.now (sequel_of c.args.followed.now)) old c.in-Err.refused.stop
@@ -55,7 +55,7 @@ pub returns-in-Ok-clause-close : goal.returns-in-Ok-clause-close
 returns-in-Ok-clause-close g c = λ is done.
     let job = c.args.run_of.now.job.bench in
     let first : BenchState = opened_bench (config_of c.args.run_of.now.job.settings) (fresh c.args.run_of.now.job.bench) in
-    let may : MayBegin (fresh c.args.run_of.now.job.bench) = loaded_may_begin c.args.run_of.now.job.bench c.requires.may.job c.numbers_fit.ensures in
+    let may : MayBegin (fresh c.args.run_of.now.job.bench) = loaded_may_begin c.args.run_of.now.job.bench c.requires.may.job c.args.run_of.now.job.in_range in
     let there = still_seen (λ m n. MayBegin m → g.A.Access.begun c.in-Ok.access (opened_bench c.config_of.result m)) (fresh job) _ _ is c.in-Ok.ensures.begun in
     let begun : g.A.Access.begun c.in-Ok.access first = subst (λ (k : Config). g.A.Access.begun c.in-Ok.access (opened_bench k (fresh c.args.run_of.now.job.bench))) c.config_of.ensures (there.2 may) in
     closes_so (task_with c.args.run_of.now c.args.sequence.now (sequel_of c.args.followed.now)) first (g.A.Access.reported c.run_task-task.new.access) (g.K.Sink.written c.args.sink.now) c.run_task-task.result.close
