@@ -54,11 +54,7 @@ pub fn fly_alone<B: Bench>(
     let count = put_requests(accesses, requests);
     let size = write_one(is_block, accesses, &requests[..count], bytes);
     packets.push(&bytes[..size]);
-    match exchange(packets.get(0), bytes, bench) {
-        Err(Failed) => Err(Failed),
-        Ok(len) => {
-            replies.push(&bytes[..len]);
-            Ok(read_reply(packets.get(0), 0, &requests[..count], replies.get(0), slots))
-        }
-    }
+    let len = exchange(packets.get(0), bytes, bench)?;
+    replies.push(&bytes[..len]);
+    Ok(read_reply(packets.get(0), 0, &requests[..count], replies.get(0), slots))
 }

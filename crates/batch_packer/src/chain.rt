@@ -250,19 +250,7 @@ pub fn fly_chain<B: Bench>(
     ensures keeps { CallsOver B.reported B.state B.identity result bench.old bench.new }
 {
     put_packets(packet_size, accesses, packets, requests, bytes);
-    match send_all(packets, bench) {
-        Err(Failed) => Err(Failed),
-        Ok(()) => match receive_all(packets.len(), replies, bytes, bench) {
-            Err(Failed) => Err(Failed),
-            Ok(()) => Ok(read_packets(
-                packet_size,
-                accesses,
-                packets,
-                replies,
-                requests,
-                slots,
-                at,
-            )),
-        },
-    }
+    send_all(packets, bench)?;
+    receive_all(packets.len(), replies, bytes, bench)?;
+    Ok(read_packets(packet_size, accesses, packets, replies, requests, slots, at))
 }

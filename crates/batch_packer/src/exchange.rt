@@ -21,8 +21,6 @@ pub fn exchange<B: Bench>(packet: &[u8], out: &mut [u8], bench: &mut B) -> Resul
     ensures failed { OnErr result (StepsWhere IsIdle (MayHaveRun packet.now) (B.state bench.old) (B.state bench.new)) }
     ensures keeps { CallsOver B.reported B.state B.identity result bench.old bench.new }
 {
-    match bench.send(packet) {
-        Ok(()) => bench.receive(out),
-        Err(Failed) => Err(Failed),
-    }
+    bench.send(packet)?;
+    bench.receive(out)
 }

@@ -22,10 +22,7 @@ pub fn send_all<B: Bench>(packets: &PacketList, bench: &mut B) -> Result<(), Fai
     ensures keeps { CallsOver B.reported B.state B.identity result bench.old bench.new }
 {
     for i in 0..packets.len() {
-        match bench.send(packets.get(i)) {
-            Ok(()) => {}
-            Err(Failed) => return Err(Failed),
-        }
+        bench.send(packets.get(i))?;
     }
     Ok(())
 }
@@ -53,10 +50,8 @@ pub fn receive_all<B: Bench>(
     ensures cause { HasCause (B.reported bench.old).faults (B.reported bench.new).faults result }
 {
     for _ in 0..count {
-        match bench.receive(out) {
-            Ok(len) => replies.push(&out[..len]),
-            Err(Failed) => return Err(Failed),
-        }
+        let len = bench.receive(out)?;
+        replies.push(&out[..len]);
     }
     Ok(())
 }

@@ -111,10 +111,8 @@ impl<B: Bench> FlightsOver<B> for Alone<B> {
         config: Config,
         limits: Limits,
     ) -> Result<Alone<B>, NotBegun<B>> {
-        match Wire::begin(alloc, bench, config, limits) {
-            Ok(wire) => Ok(Alone { wire }),
-            Err(refusal) => Err(refusal),
-        }
+        let wire = Wire::begin(alloc, bench, config, limits)?;
+        Ok(Alone { wire })
     }
 
     fn into_bench(self) -> B {

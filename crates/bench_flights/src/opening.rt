@@ -165,26 +165,16 @@ impl<B: Bench> Wire<B> {
         ensures keeps { KeepsWire B.reported B.state B.identity result self.old.bench self.new.bench self.new.flight }
     {
         let Config { idle, retry } = config;
-        let size = match self.exchange(&Command::Info(PACKET_SIZE)) {
-            Ok(size) => size,
-            Err(end) => return Err(end),
-        };
-        let count = match self.exchange(&Command::Info(PACKET_COUNT)) {
-            Ok(count) => count,
-            Err(end) => return Err(end),
-        };
+        let size = self.exchange(&Command::Info(PACKET_SIZE))?;
+        let count = self.exchange(&Command::Info(PACKET_COUNT))?;
         let settings = Command::Configure {
             idle,
             retry,
             matches: 0,
         };
-        match self.exchange(&settings) {
-            Ok(_) => {
-                self.flight.limit_to(reduce_limits(limits, size, count));
-                Ok(())
-            }
-            Err(end) => Err(end),
-        }
+        self.exchange(&settings)?;
+        self.flight.limit_to(reduce_limits(limits, size, count));
+        Ok(())
     }
 }
 

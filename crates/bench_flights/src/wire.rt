@@ -149,10 +149,7 @@ impl<B: Bench> Wire<B> {
     {
         let mut left = micros;
         while left > 0xFFFF {
-            match self.command_once(ProbeCall::Delay(0xFFFF)) {
-                Ok(_) => {}
-                Err(end) => return Err(end),
-            }
+            self.command_once(ProbeCall::Delay(0xFFFF))?;
             left -= 0xFFFF;
         }
         self.command_once(ProbeCall::Delay(left))
@@ -270,10 +267,8 @@ impl<B: Bench> Flights for Wire<B> {
                 idle: config.idle,
                 retry: config.retry,
             };
-            match self.poll_portion(again, ask) {
-                Ok(true) => return Ok(true),
-                Ok(false) => {}
-                Err(end) => return Err(end),
+            if self.poll_portion(again, ask)? {
+                return Ok(true);
             }
             left -= now;
         }
@@ -287,16 +282,12 @@ impl<B: Bench> Flights for Wire<B> {
         turns: u32,
     ) -> Result<Polled, FlightEnd> {
         for turn in 0..turns {
-            match self.read_once() {
-                Err(end) => return Err(end),
-                Ok(value) => {
-                    if value & mask == requested {
-                        return Ok(Polled {
-                            matched: true,
-                            reads: turn + 1,
-                        });
-                    }
-                }
+            let value = self.read_once()?;
+            if value & mask == requested {
+                return Ok(Polled {
+                    matched: true,
+                    reads: turn + 1,
+                });
             }
         }
         Ok(Polled {

@@ -43,10 +43,9 @@ fn ask<A: Access>(unit: Unit, access: &mut A) -> Result<Slot, Stop>
     ensures asks { AsksCalls (unit_ask unit false ∷ []) result (A.reported access.old).asks.calls (A.reported access.new).asks.calls }
     ensures ends { EndsPart A.begun A.reported A.identity result access.old access.new }
 {
-    match access.ask(unit, false) {
-        Ok(Asked::Slot(slot)) => Ok(slot),
-        Ok(Asked::Small) => unreachable!(),
-        Err(stop) => Err(stop),
+    match access.ask(unit, false)? {
+        Asked::Slot(slot) => Ok(slot),
+        Asked::Small => unreachable!(),
     }
 }
 
@@ -62,13 +61,9 @@ fn ask_all<A: Access>(read: bool, ap: u8, pieces: &[Piece], access: &mut A) -> R
 {
     let mut first = 0;
     for i in 0..pieces.len() {
-        match ask(unit_of(read, ap, pieces[i]), access) {
-            Ok(slot) => {
-                if i == 0 {
-                    first = slot.index;
-                }
-            }
-            Err(stop) => return Err(stop),
+        let slot = ask(unit_of(read, ap, pieces[i]), access)?;
+        if i == 0 {
+            first = slot.index;
         }
     }
     Ok(first)
@@ -112,10 +107,8 @@ fn ask_both<A: Access>(ap: u8, pieces: &[Piece], access: &mut A) -> Result<u32, 
     ensures asks { AsksCalls (load_calls ap pieces.now) result (A.reported access.old).asks.calls (A.reported access.new).asks.calls }
     ensures ends { EndsPart A.begun A.reported A.identity result access.old access.new }
 {
-    match ask_all(false, ap, pieces, access) {
-        Ok(_) => ask_all(true, ap, pieces, access),
-        Err(stop) => Err(stop),
-    }
+    ask_all(false, ap, pieces, access)?;
+    ask_all(true, ap, pieces, access)
 }
 
 // Writes pieces in order, reads them back in the same order, and finishes.
@@ -189,11 +182,9 @@ pub fn load<A: Access>(
         Ok(pieces) => pieces,
         Err(_) => return Err(LoadEnd::Stop(Stop::OutOfMemory)),
     };
-    match load_pieces(ap, &pieces, access) {
-        Ok(()) => Ok(Loaded {
-            bytes: bytes as u32,
-            writes: pieces.len() as u32,
-        }),
-        Err(end) => Err(end),
-    }
+    load_pieces(ap, &pieces, access)?;
+    Ok(Loaded {
+        bytes: bytes as u32,
+        writes: pieces.len() as u32,
+    })
 }

@@ -75,13 +75,9 @@ fn write_report<K: Sink, B: Bench>(
     ensures ends { EndsShowing K.written K.faults result (B.reported ran.old.bench) (B.reported ran.new.bench) sink.old sink.new }
 {
     let (sent, got) = (ran.sent.as_slice(), ran.got.as_slice());
-    match report_text(alloc, &ran.ended, sent, got, job, &mut ran.bench, sink) {
-        Ok(()) => {
-            let is_shown = shows_trace(is_traced, ran.ended.ending);
-            write_trace(alloc, is_shown, &mut ran.bench, sink)
-        }
-        Err(end) => Err(end),
-    }
+    report_text(alloc, &ran.ended, sent, got, job, &mut ran.bench, sink)?;
+    let is_shown = shows_trace(is_traced, ran.ended.ending);
+    write_trace(alloc, is_shown, &mut ran.bench, sink)
 }
 
 /// Writes what comes after a run: its report, and after it the trace, where it is requested and the
@@ -144,10 +140,8 @@ fn write_loaded<K: Sink, B: Bench>(
     ensures bench { NamesFault TextEnd.BenchFault (B.reported ran.old.bench).faults (B.reported ran.new.bench).faults result }
     ensures sink { NamesFault TextEnd.WriteFault (K.faults sink.old) (K.faults sink.new) result }
 {
-    match loaded_text(alloc, bytes, writes, sink) {
-        Ok(()) => write_run(alloc, job, is_traced, ran, sink),
-        Err(end) => Err(end),
-    }
+    loaded_text(alloc, bytes, writes, sink)?;
+    write_run(alloc, job, is_traced, ran, sink)
 }
 
 /// Writes what comes after a run with what followed it, as `write_run` does. Where an image was loaded its line comes before the report. Where a byte of it

@@ -11,7 +11,7 @@ use Rattle.job_text.specs.declared.job.Job.{Job}
 use Rattle.job_text.specs.declared.job.JobRefusal.{JobRefusal}
 use Rattle.job_text.specs.declared.job.JobRefusal.TheVariants as refusals
 use Rattle.job_text.specs.declared.reading.JobParts.{JobParts}
-use Rattle.job_text.specs.JobForm.{AreParts, IsJob, parts_of}
+use Rattle.job_text.specs.JobForm.{AreParts, IsJob, members_of}
 use Rattle.job_text.specs.JobReading.{job_in}
 use Rattle.job_text.specs.Answers.{IsJsonText, Describes, IsRefused, AnswersJob, IsAnswer}
 use Rattle.job_text.proofs.JobLaws.{job_reads}
@@ -24,7 +24,7 @@ pub one_value : (bytes : List ℕ) (d e : Data) → IsJsonText bytes d → IsJso
 one_value bytes d e here there = (let same : Some d ≡ Some e = sym here.1 ∙ there.1 in cc)
 
 pub found_in : (bytes : List ℕ) (r : Result Job JobRefusal) → AnswersJob bytes r → IfOk r (Describes bytes)
-found_in bytes (Ok job) given = (given.0, given.1, job_reads.sound given.0 (parts_of job) given.2)
+found_in bytes (Ok job) given = (given.0, given.1, job_reads.sound given.0 (members_of job) given.2)
 found_in bytes (Err refusal) given = tt
 
 pub refused_in : (bytes : List ℕ) (r : Result Job JobRefusal) → AnswersJob bytes r → IfErr r (IsRefused bytes)
@@ -50,9 +50,9 @@ same_of_parts : (x y : JobParts) → x ≡ y → (p : IsJobInRange x.bench.targe
 same_of_parts x y e p = subst (λ (z : JobParts). (q : IsJobInRange z.bench.target) → job_of_parts x p ≡ job_of_parts z q) e (λ q. ap (job_of_parts x) (in_range_prop x p q))
 
 -- jobs with the same members are the same
-same_job : (a b : Job) → parts_of a ≡ parts_of b → a ≡ b
+same_job : (a b : Job) → members_of a ≡ members_of b → a ≡ b
 unfolding job_of_parts
-same_job a b e = same_of_parts (parts_of a) (parts_of b) e a.in_range b.in_range
+same_job a b e = same_of_parts (members_of a) (members_of b) e a.in_range b.in_range
 
 no_fault : (x : JobParts) (fault : JobFault) → job_ok x ≡ job_err fault → ⊥
 no_fault x fault e = cc
@@ -74,16 +74,16 @@ unfolding job_of_parts
 job_with d x is = (job_of_parts x (parts_in_range d x is), is)
 
 -- a job that the bytes describe is what their value is read as
-reads_as : (bytes : List ℕ) (job : Job) (d : Data) → Describes bytes job → IsJsonText bytes d → job_in d ≡ job_ok (parts_of job)
-reads_as bytes job d says text = ap job_in (one_value bytes d says.0 text says.1) ∙ job_reads.complete says.0 (parts_of job) says.2
+reads_as : (bytes : List ℕ) (job : Job) (d : Data) → Describes bytes job → IsJsonText bytes d → job_in d ≡ job_ok (members_of job)
+reads_as bytes job d says text = ap job_in (one_value bytes d says.0 text says.1) ∙ job_reads.complete says.0 (members_of job) says.2
 
 -- the bytes describe one job at most
 pub one_job : (bytes : List ℕ) (a b : Job) → Describes bytes a → Describes bytes b → a ≡ b
-one_job bytes a b says too = same_job a b (same_parts (parts_of a) (parts_of b) (sym (reads_as bytes a says.0 says says.1) ∙ reads_as bytes b says.0 too says.1))
+one_job bytes a b says too = same_job a b (same_parts (members_of a) (members_of b) (sym (reads_as bytes a says.0 says says.1) ∙ reads_as bytes b says.0 too says.1))
 
 -- what the bytes describe has no fault
 pub job_or_fault : (bytes : List ℕ) (job : Job) (d : Data) (fault : JobFault) → Describes bytes job → IsJsonText bytes d → job_in d ≡ Err fault → ⊥
-job_or_fault bytes job d fault says text is = no_fault (parts_of job) fault (sym (reads_as bytes job d says text) ∙ is)
+job_or_fault bytes job d fault says text is = no_fault (members_of job) fault (sym (reads_as bytes job d says text) ∙ is)
 
 -- the value of the bytes has one first fault at most
 pub one_fault : (bytes : List ℕ) (d e : Data) (a b : JobFault) → IsJsonText bytes d → IsJsonText bytes e → job_in d ≡ Err a → job_in e ≡ Err b → a ≡ b
@@ -104,17 +104,17 @@ only_in bytes (Err (refusals.Fault fault)) given job says = job_or_fault bytes j
 only_in bytes (Err refusals.OutOfMemory) given job says = tt
 
 pub ranges_in : (bytes : List ℕ) (r : Result Job JobRefusal) → AnswersJob bytes r → IfOk r (λ job. IsBenchJob job.bench)
-ranges_in bytes (Ok job) given = (let says = job_reads.sound given.0 (parts_of job) given.2 in bench_ranges says.bench.0 job.bench says.bench.2)
+ranges_in bytes (Ok job) given = (let says = job_reads.sound given.0 (members_of job) given.2 in bench_ranges says.bench.0 job.bench says.bench.2)
 ranges_in bytes (Err refusal) given = tt
 
 pub settings_in : (bytes : List ℕ) (r : Result Job JobRefusal) → AnswersJob bytes r → IfOk r (λ job. AreSettings job.settings)
-settings_in bytes (Ok job) given = settings_in_range given.0 job (job_reads.sound given.0 (parts_of job) given.2)
+settings_in bytes (Ok job) given = settings_in_range given.0 job (job_reads.sound given.0 (members_of job) given.2)
 settings_in bytes (Err refusal) given = tt
 
 pub watch_in : (bytes : List ℕ) (r : Result Job JobRefusal) → AnswersJob bytes r → IfOk r (λ job. AreWatched job.bench.target.memory job.watch)
-watch_in bytes (Ok job) given = watch_in_range given.0 job (job_reads.sound given.0 (parts_of job) given.2)
+watch_in bytes (Ok job) given = watch_in_range given.0 job (job_reads.sound given.0 (members_of job) given.2)
 watch_in bytes (Err refusal) given = tt
 
 pub trace_in : (bytes : List ℕ) (r : Result Job JobRefusal) → AnswersJob bytes r → IfOk r (λ job. AreEntryTexts job.trace)
-trace_in bytes (Ok job) given = trace_entries given.0 job (job_reads.sound given.0 (parts_of job) given.2)
+trace_in bytes (Ok job) given = trace_entries given.0 job (job_reads.sound given.0 (members_of job) given.2)
 trace_in bytes (Err refusal) given = tt

@@ -7,7 +7,7 @@ use Rattle.job_text.specs.declared.job.Job.{Job}
 use Rattle.job_text.specs.declared.job.JobRefusal.{JobRefusal}
 use Rattle.job_text.specs.declared.job.JobRefusal.TheVariants as refusals
 use Rattle.job_text.specs.JobReading.{job_in}
-use Rattle.job_text.specs.JobForm.{IsJob, parts_of}
+use Rattle.job_text.specs.JobForm.{IsJob, members_of}
 
 -- the bytes are the JSON text of the value
 abbrev pub IsJsonText : List ℕ → Data → Type 0
@@ -25,7 +25,7 @@ IsRefused bytes refusals.OutOfMemory = ⊤
 
 -- it is what reading gives, unless memory ran out
 abbrev pub AnswersJob : List ℕ → Result Job JobRefusal → Type 0
-AnswersJob bytes (Ok job) = (d : Data) × IsJsonText bytes d × (job_in d ≡ Ok (parts_of job))
+AnswersJob bytes (Ok job) = (d : Data) × IsJsonText bytes d × (job_in d ≡ Ok (members_of job))
 AnswersJob bytes (Err refusal) = IsRefused bytes refusal
 
 -- the answer, unless memory ran out

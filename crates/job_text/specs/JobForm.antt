@@ -32,8 +32,8 @@ pub record IsImageJob (d : Data) (x : ImageJob) : Type 0 where
   pub hex : Has (codes "hex") IsText d x.hex
 
 -- the members of the job
-abbrev pub parts_of : Job → JobParts
-parts_of job = record { pack = job.pack; settings = job.settings; bench = job.bench; watch = job.watch; image = job.image; dbgconf = job.dbgconf; trace = job.trace }
+abbrev pub members_of : Job → JobParts
+members_of job = record { pack = job.pack; settings = job.settings; bench = job.bench; watch = job.watch; image = job.image; dbgconf = job.dbgconf; trace = job.trace }
 
 -- the value stands for the members of a job: each key of docs/JOB.md has its value, or its default where it is absent
 pub record AreParts (d : Data) (x : JobParts) : Type 0 where
@@ -48,4 +48,4 @@ pub record AreParts (d : Data) (x : JobParts) : Type 0 where
 
 -- the value stands for the job
 abbrev pub IsJob : Data → Job → Type 0
-IsJob d job = AreParts d (parts_of job)
+IsJob d job = AreParts d (members_of job)

@@ -8,7 +8,7 @@ ghost use Rattle.probe_core.specs.Ranges.{IsBenchJob};
 ghost use Rattle.job_text.specs.Keys.{job_keys};
 ghost use Rattle.job_text.specs.JobReading.{dbgconf_in, job_in, optional_in, watch_in};
 ghost use Rattle.job_text.specs.Answers.{AnswersJob, Describes, IsRefused, IsAnswer};
-ghost use Rattle.job_text.specs.JobForm.{parts_of};
+ghost use Rattle.job_text.specs.JobForm.{members_of};
 ghost use Rattle.job_text.specs.Ranges.{AreSettings, AreWatched, AreEntryTexts};
 ghost use Rattle.job_text.specs.declared.job.Job.{Job};
 
@@ -120,7 +120,7 @@ fn job_in_value(alloc: Global, value: &Value) -> Result<JobParts, JobFault>
 // The job with these members, whose numbers fit their registers and words.
 fn job_with(parts: JobParts) -> Job
     requires { IsJobInRange parts.bench.target }
-    ensures { parts_of result ≡ parts }
+    ensures { members_of result ≡ parts }
 {
     Job {
         pack: parts.pack,

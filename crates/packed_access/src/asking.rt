@@ -46,22 +46,15 @@ impl<F: Flights> Sender<F> {
         ensures pending { IfOk result (λ small. small ≡ false → self.new.log.confirmed < length self.new.log.entries) }
     {
         if !self.managed.needs_cfg(unit) {
-            return match self.issue_by_csw(unit) {
-                Ok(()) => Ok(false),
-                Err(stop) => Err(stop),
-            };
+            self.issue_by_csw(unit)?;
+            return Ok(false);
         }
-        let large = match self.read_cfg(unit) {
-            Ok(large) => large,
-            Err(stop) => return Err(stop),
-        };
+        let large = self.read_cfg(unit)?;
         if !large {
             return Ok(true);
         }
-        match self.issue_by_csw(unit) {
-            Ok(()) => Ok(false),
-            Err(stop) => Err(stop),
-        }
+        self.issue_by_csw(unit)?;
+        Ok(false)
     }
 
     // Issues the last call's unit, which forgives nothing and is no poll, with a settling before it where that is
@@ -87,10 +80,8 @@ impl<F: Flights> Sender<F> {
         if before == 0 || !self.managed.needs_settle(unit) {
             return self.issue_by_cfg(unit);
         }
-        match self.settle(before) {
-            Ok(()) => self.issue_by_cfg(unit),
-            Err(stop) => Err(stop),
-        }
+        self.settle(before)?;
+        self.issue_by_cfg(unit)
     }
 
     // Asks a unit that forgives nothing and is no poll. Answers whether it ended because its access port has no large

@@ -105,10 +105,10 @@ impl<F: Flights> Sender<F> {
         ensures asks { AsksWhole result (⟦<Self as Seen>⟧.view self.old) (⟦<Self as Seen>⟧.view self.new) }
     {
         match *unit {
-            Unit::Poll { mask, value, turns } => match self.ask_poll(config, mask, value, turns) {
-                Ok(()) => Ok(false),
-                Err(stop) => Err(stop),
-            },
+            Unit::Poll { mask, value, turns } => {
+                self.ask_poll(config, mask, value, turns)?;
+                Ok(false)
+            }
             _ => {
                 if makes_alone::<F>(unit, forgive) {
                     self.ask_alone(unit, forgive)
@@ -202,24 +202,18 @@ impl<F: Flights> Access for PackedAccess<F> {
         if let Some(stop) = self.sender.log.end() {
             return Err(stop);
         }
-        match self.sender.send() {
-            Ok(()) => Ok(self.sender.log.use_slot(slot)),
-            Err(stop) => Err(stop),
-        }
+        self.sender.send()?;
+        Ok(self.sender.log.use_slot(slot))
     }
 
     fn flush(&mut self) -> Result<(), Stop> {
         if let Some(stop) = self.sender.log.end() {
             return Err(stop);
         }
-        match self.sender.send() {
-            Ok(()) => {
-                let count = self.sender.log.count();
-                self.sender.log.need(1, count);
-                Ok(())
-            }
-            Err(stop) => Err(stop),
-        }
+        self.sender.send()?;
+        let count = self.sender.log.count();
+        self.sender.log.need(1, count);
+        Ok(())
     }
 
     fn finish(&mut self) -> Result<(), Stop> {

@@ -138,10 +138,7 @@ impl<F: Flights> Sender<F> {
         ensures pending { OnOk result (0 < length accesses.now → self.new.log.confirmed < length self.new.log.entries) }
     {
         for access in accesses {
-            match self.issue(unit, part, *access) {
-                Ok(()) => {}
-                Err(stop) => return Err(stop),
-            }
+            self.issue(unit, part, *access)?;
         }
         Ok(())
     }
@@ -163,15 +160,10 @@ impl<F: Flights> Sender<F> {
         ensures came { OnOk result (self.new.log.known ≡ self.new.log.whole) }
         ensures empty { OnOk result (F.accesses self.new.flights ≡ []) }
     {
-        match self.issue_all(unit, Part::Leads, accesses) {
-            Ok(()) => {}
-            Err(stop) => return Err(stop),
-        }
+        self.issue_all(unit, Part::Leads, accesses)?;
         let place = self.log.count_pending() - 1;
-        match self.send() {
-            Ok(()) => Ok(self.flights.value(place)),
-            Err(stop) => Err(stop),
-        }
+        self.send()?;
+        Ok(self.flights.value(place))
     }
 
     // Settles the unsettled access port, where there is one, as entries of this unit.

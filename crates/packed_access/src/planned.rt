@@ -63,13 +63,9 @@ impl<F: Flights> Sender<F> {
     {
         let plan = self.managed.cfg_plan(unit);
         let number = self.log.count();
-        match self.read_by(number, list_accesses(&plan)) {
-            Err(stop) => Err(stop),
-            Ok(cfg) => {
-                self.log.need(1, number - 1);
-                Ok(self.managed.learn_cfg(port_of(unit), cfg))
-            }
-        }
+        let cfg = self.read_by(number, list_accesses(&plan))?;
+        self.log.need(1, number - 1);
+        Ok(self.managed.learn_cfg(port_of(unit), cfg))
     }
 
     // Reads CSW of the unit's access port, which is not known.
@@ -93,14 +89,10 @@ impl<F: Flights> Sender<F> {
     {
         let plan = self.managed.first_plan(unit);
         let number = self.log.count();
-        match self.read_by(number, list_accesses(&plan)) {
-            Err(stop) => Err(stop),
-            Ok(csw) => {
-                self.log.need(1, number - 1);
-                self.managed.learn(port_of(unit), csw);
-                Ok(())
-            }
-        }
+        let csw = self.read_by(number, list_accesses(&plan))?;
+        self.log.need(1, number - 1);
+        self.managed.learn(port_of(unit), csw);
+        Ok(())
     }
 
     // Issues the plan of the last call's unit, which is no poll.
@@ -142,10 +134,8 @@ impl<F: Flights> Sender<F> {
         if !self.managed.needs_csw(unit) {
             return self.issue_unit(unit);
         }
-        match self.read_csw(unit) {
-            Ok(()) => self.issue_unit(unit),
-            Err(stop) => Err(stop),
-        }
+        self.read_csw(unit)?;
+        self.issue_unit(unit)
     }
 
     // Asks a poll.
@@ -164,17 +154,10 @@ impl<F: Flights> Sender<F> {
         ensures step { SenderSteps result (⟦<Self as Seen>⟧.view self.old) (⟦<Self as Seen>⟧.view self.new) }
         ensures asks { AsksWhole result (⟦<Self as Seen>⟧.view self.old) (⟦<Self as Seen>⟧.view self.new) }
     {
-        match self.send() {
-            Ok(()) => {}
-            Err(stop) => return Err(stop),
-        }
-        match self.poll_last(config, mask, requested, turns) {
-            Ok(points) => {
-                let count = self.log.count();
-                self.log.need(count_points::<F>(points), count);
-                Ok(())
-            }
-            Err(stop) => Err(stop),
-        }
+        self.send()?;
+        let points = self.poll_last(config, mask, requested, turns)?;
+        let count = self.log.count();
+        self.log.need(count_points::<F>(points), count);
+        Ok(())
     }
 }

@@ -59,21 +59,17 @@ fn make_poll<F: Flights>(
     ensures keeps { KeepsFlights F.reported F.state F.identity F.accesses F.ended F.limits F.packet F.reply result flights.old flights.new }
 {
     if zero {
-        match flights.poll(config, mask, requested, turns) {
-            Ok(matched) => Ok(MadePoll {
-                matched,
-                points: 1 + (turns as u64 + 0xFFFF) / 0x1_0000,
-            }),
-            Err(end) => Err(end),
-        }
+        let matched = flights.poll(config, mask, requested, turns)?;
+        Ok(MadePoll {
+            matched,
+            points: 1 + (turns as u64 + 0xFFFF) / 0x1_0000,
+        })
     } else {
-        match flights.poll_by_reads(mask, requested, turns) {
-            Ok(polled) => Ok(MadePoll {
-                matched: polled.matched,
-                points: 1 + polled.reads as u64,
-            }),
-            Err(end) => Err(end),
-        }
+        let polled = flights.poll_by_reads(mask, requested, turns)?;
+        Ok(MadePoll {
+            matched: polled.matched,
+            points: 1 + polled.reads as u64,
+        })
     }
 }
 

@@ -65,10 +65,8 @@ pub fn audit_text<K: Sink>(
     requires { IsShownJob job.now }
     ensures puts { PutsLines (audited_lines audited.now job.now) result K.written K.faults sink.old sink.new }
 {
-    match put_line(audit_ok_text(alloc, audited), sink) {
-        Ok(()) => target_text(alloc, audited.probe.target(), job, sink),
-        Err(end) => Err(end),
-    }
+    put_line(audit_ok_text(alloc, audited), sink)?;
+    target_text(alloc, audited.probe.target(), job, sink)
 }
 
 // Why a probe does not take a packet.

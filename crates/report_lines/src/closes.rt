@@ -93,10 +93,8 @@ pub fn differs_text<K: Sink, B: Bench>(
         B.reported B.state B.identity K.written K.faults bench.old bench.new sink.old sink.new }
     ensures front { PutsFirst (differs_line address wanted found) (K.written sink.old) (K.written sink.new) result }
 {
-    match put_line(differs_line(alloc, address, wanted, found), sink) {
-        Ok(()) => target_lines(alloc, job, bench, sink),
-        Err(end) => Err(end),
-    }
+    put_line(differs_line(alloc, address, wanted, found), sink)?;
+    target_lines(alloc, job, bench, sink)
 }
 
 /// Puts the text of a scan that met more components than are listed, each line by one `put`: `end full`, and then the target of the
@@ -115,8 +113,6 @@ pub fn full_text<K: Sink, B: Bench>(
         B.reported B.state B.identity K.written K.faults bench.old bench.new sink.old sink.new }
     ensures front { PutsFirst full_line (K.written sink.old) (K.written sink.new) result }
 {
-    match put(b"end full\n", sink) {
-        Ok(()) => target_lines(alloc, job, bench, sink),
-        Err(end) => Err(end),
-    }
+    put(b"end full\n", sink)?;
+    target_lines(alloc, job, bench, sink)
 }

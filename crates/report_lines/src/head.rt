@@ -46,10 +46,7 @@ fn write_variables<K: Sink>(
     ensures puts { PutsLines (variable_lines variables.now) result K.written K.faults sink.old sink.new }
 {
     for variable in variables {
-        match write_variable(alloc, variable, sink) {
-            Ok(()) => {}
-            Err(end) => return Err(end),
-        }
+        write_variable(alloc, variable, sink)?;
     }
     Ok(())
 }
@@ -58,10 +55,8 @@ fn write_variables<K: Sink>(
 fn write_values<K: Sink>(alloc: Global, ended: &Ended, sink: &mut K) -> Result<(), TextEnd>
     ensures puts { PutsLines (values_part ended.now) result K.written K.faults sink.old sink.new }
 {
-    match write_skipped(alloc, ended.skipped, sink) {
-        Ok(()) => write_variables(alloc, ended.variables.as_slice(), sink),
-        Err(end) => Err(end),
-    }
+    write_skipped(alloc, ended.skipped, sink)?;
+    write_variables(alloc, ended.variables.as_slice(), sink)
 }
 
 // Puts the units, those that were skipped, and the variables.
@@ -69,20 +64,16 @@ fn write_counts<K: Sink>(alloc: Global, ended: &Ended, sink: &mut K) -> Result<(
     ensures puts { PutsLines (count_lines ended.now) result K.written K.faults sink.old sink.new }
 {
     let line = units_text(alloc, ended.units as u64);
-    match put_line(line, sink) {
-        Ok(()) => write_values(alloc, ended, sink),
-        Err(end) => Err(end),
-    }
+    put_line(line, sink)?;
+    write_values(alloc, ended, sink)
 }
 
 // Puts the lines of a run that came to its end.
 fn write_done<K: Sink>(alloc: Global, ended: &Ended, sink: &mut K) -> Result<(), TextEnd>
     ensures puts { PutsLines (done_line ++ count_lines ended.now) result K.written K.faults sink.old sink.new }
 {
-    match put(b"end done\n", sink) {
-        Ok(()) => write_counts(alloc, ended, sink),
-        Err(end) => Err(end),
-    }
+    put(b"end done\n", sink)?;
+    write_counts(alloc, ended, sink)
 }
 
 // Puts the lines of a run that was halted.
@@ -95,10 +86,8 @@ fn write_halted<K: Sink>(
     ensures puts { PutsLines (halted_line cause ++ count_lines ended.now) result K.written K.faults sink.old sink.new }
 {
     let line = halted_text(alloc, cause);
-    match put_line(line, sink) {
-        Ok(()) => write_counts(alloc, ended, sink),
-        Err(end) => Err(end),
-    }
+    put_line(line, sink)?;
+    write_counts(alloc, ended, sink)
 }
 
 // Puts how far a run came that was stopped.
@@ -111,10 +100,8 @@ fn write_attempted<K: Sink>(
     ensures puts { PutsLines (attempted_part report.now skipped) result K.written K.faults sink.old sink.new }
 {
     let line = attempted_text(alloc, report);
-    match put_line(line, sink) {
-        Ok(()) => write_skipped(alloc, skipped, sink),
-        Err(end) => Err(end),
-    }
+    put_line(line, sink)?;
+    write_skipped(alloc, skipped, sink)
 }
 
 // Puts the lines of a run that the target or the probe stopped.
@@ -127,10 +114,8 @@ fn write_cut<K: Sink>(
     ensures puts { PutsLines (stop_line report.now ++ attempted_part report.now skipped) result K.written K.faults sink.old sink.new }
 {
     let line = stop_line_text(alloc, report);
-    match put_line(line, sink) {
-        Ok(()) => write_attempted(alloc, report, skipped, sink),
-        Err(end) => Err(end),
-    }
+    put_line(line, sink)?;
+    write_attempted(alloc, report, skipped, sink)
 }
 
 /// Puts the lines of a report before those of the target.

@@ -81,8 +81,6 @@ pub fn report_text<K: Sink, B: Bench>(
     ensures front { PutsFirst (ending_lines ended.now.ending ended.now sent.now got.now) (K.written sink.old) (K.written sink.new) result }
     ensures unasked { shows_target ended.now.ending ≡ false → IfErr result (λ e. e ≢ TextEnd.BenchFault) }
 {
-    match write_ending(alloc, ended, sent, got, sink) {
-        Ok(()) => write_shown(alloc, shows_target(ended.ending), job, bench, sink),
-        Err(end) => Err(end),
-    }
+    write_ending(alloc, ended, sent, got, sink)?;
+    write_shown(alloc, shows_target(ended.ending), job, bench, sink)
 }

@@ -85,10 +85,7 @@ fn write_ports<K: Sink, S: ShowsTarget>(
     ensures puts { PutsTarget (λ t. port_lines t aps.now) result S.known K.written K.faults shower.old shower.new sink.old sink.new }
 {
     for number in 0..256u32 {
-        match write_port(alloc, aps, number as u8, shower, sink) {
-            Ok(()) => {}
-            Err(end) => return Err(end),
-        }
+        write_port(alloc, aps, number as u8, shower, sink)?;
     }
     Ok(())
 }
@@ -105,10 +102,7 @@ fn write_words<K: Sink, S: ShowsTarget>(
 {
     for number in 0..item.words {
         let ask = ImageAsk::Word(item.address + 4 * number as u64);
-        match write_part(alloc, ask, shower, sink) {
-            Ok(()) => {}
-            Err(end) => return Err(end),
-        }
+        write_part(alloc, ask, shower, sink)?;
     }
     Ok(())
 }
@@ -124,10 +118,7 @@ fn write_watch<K: Sink, S: ShowsTarget>(
     ensures puts { PutsTarget (λ t. watch_lines t watch.now) result S.known K.written K.faults shower.old shower.new sink.old sink.new }
 {
     for item in watch {
-        match write_words(alloc, *item, shower, sink) {
-            Ok(()) => {}
-            Err(end) => return Err(end),
-        }
+        write_words(alloc, *item, shower, sink)?;
     }
     Ok(())
 }
@@ -142,10 +133,8 @@ fn write_outside<K: Sink, S: ShowsTarget>(
     requires { All IsLow watch.now }
     ensures puts { PutsTarget (λ t. outside_lines t watch.now) result S.known K.written K.faults shower.old shower.new sink.old sink.new }
 {
-    match write_part(alloc, ImageAsk::Lines, shower, sink) {
-        Ok(()) => write_watch(alloc, watch, shower, sink),
-        Err(end) => Err(end),
-    }
+    write_part(alloc, ImageAsk::Lines, shower, sink)?;
+    write_watch(alloc, watch, shower, sink)
 }
 
 // Puts the lines of the access ports and what follows them.
@@ -159,10 +148,8 @@ fn write_ports_on<K: Sink, S: ShowsTarget>(
     requires { All IsLow watch.now }
     ensures puts { PutsTarget (λ t. ports_on t aps.now watch.now) result S.known K.written K.faults shower.old shower.new sink.old sink.new }
 {
-    match write_ports(alloc, aps, shower, sink) {
-        Ok(()) => write_outside(alloc, watch, shower, sink),
-        Err(end) => Err(end),
-    }
+    write_ports(alloc, aps, shower, sink)?;
+    write_outside(alloc, watch, shower, sink)
 }
 
 /// Puts the lines of a target: the debug port, the access ports of the job in rising order, the lines
@@ -177,8 +164,6 @@ pub fn write_target<K: Sink, S: ShowsTarget>(
     requires { All IsLow watch.now }
     ensures puts { PutsTarget (λ t. target_lines t aps.now watch.now) result S.known K.written K.faults shower.old shower.new sink.old sink.new }
 {
-    match write_part(alloc, ImageAsk::Dp, shower, sink) {
-        Ok(()) => write_ports_on(alloc, aps, watch, shower, sink),
-        Err(end) => Err(end),
-    }
+    write_part(alloc, ImageAsk::Dp, shower, sink)?;
+    write_ports_on(alloc, aps, watch, shower, sink)
 }

@@ -59,10 +59,8 @@ fn write_line<K: Sink>(
     ensures ends { EndsPutting K.written K.faults result sink.old sink.new }
 {
     let line = entry_text(alloc, is_reply, bytes);
-    match put_line(line, sink) {
-        Ok(()) => Ok(Seen::Kept),
-        Err(end) => Err(end),
-    }
+    put_line(line, sink)?;
+    Ok(Seen::Kept)
 }
 
 // Puts the line of the packet or reply of a number, where it is kept.
@@ -102,11 +100,10 @@ fn write_next<K: Sink, B: Bench>(
     ensures keeps { KeepsBench B.reported B.state B.identity bench.old bench.new }
     ensures ends { EndsShowing K.written K.faults result (B.reported bench.old) (B.reported bench.new) sink.old sink.new }
 {
-    match write_entry(alloc, index, bench, sink) {
-        Ok(Seen::Kept) => Ok(Some(kept + 1)),
-        Ok(Seen::NotKept) => Ok(Some(kept)),
-        Ok(Seen::Past) => Ok(None),
-        Err(end) => Err(end),
+    match write_entry(alloc, index, bench, sink)? {
+        Seen::Kept => Ok(Some(kept + 1)),
+        Seen::NotKept => Ok(Some(kept)),
+        Seen::Past => Ok(None),
     }
 }
 
@@ -123,10 +120,9 @@ fn write_entries<K: Sink, B: Bench>(
 {
     let mut kept = 0;
     for index in 0..u32::MAX {
-        match write_next(alloc, index, kept, bench, sink) {
-            Ok(Some(next)) => kept = next,
-            Ok(None) => return Ok((kept, index)),
-            Err(end) => return Err(end),
+        match write_next(alloc, index, kept, bench, sink)? {
+            Some(next) => kept = next,
+            None => return Ok((kept, index)),
         }
     }
     Ok((kept, u32::MAX))
@@ -146,8 +142,6 @@ pub fn trace_text<K: Sink, B: Bench>(
 ) -> Result<(), TextEnd>
     ensures puts { PutsShown (λ m. trace m.log) result B.reported B.state B.identity K.written K.faults bench.old bench.new sink.old sink.new }
 {
-    match write_entries(alloc, bench, sink) {
-        Ok((kept, count)) => put_line(kept_text(alloc, kept, count), sink),
-        Err(end) => Err(end),
-    }
+    let (kept, count) = write_entries(alloc, bench, sink)?;
+    put_line(kept_text(alloc, kept, count), sink)
 }

@@ -49,15 +49,11 @@ pub(crate) fn ask_now<A: Access>(unit: Unit, access: &mut A) -> Result<u32, Stop
     ensures count { OnOk result (length (A.reported access.new).asks.calls ≡ length (A.reported access.old).asks.calls + 1) }
     ensures ends { EndsAsking A.begun A.reported A.identity result access.old access.new }
 {
-    let slot = match access.ask(unit, true) {
-        Ok(Asked::Slot(slot)) => slot,
-        Ok(Asked::Small) => unreachable!(),
-        Err(stop) => return Err(stop),
+    let slot = match access.ask(unit, true)? {
+        Asked::Slot(slot) => slot,
+        Asked::Small => unreachable!(),
     };
-    match access.flush() {
-        Ok(()) => {}
-        Err(stop) => return Err(stop),
-    }
+    access.flush()?;
     match access.value(slot) {
         Ok(value) => Ok(value as u32),
         Err(_) => unreachable!(),
@@ -83,10 +79,8 @@ pub(crate) fn read_words<A: Access>(
 {
     let mut read = ArrayVec::<u32, 4>::new();
     for i in 0..count {
-        match ask_now(word_unit(ap, address + 4 * i as u32), access) {
-            Ok(word) => read.push(word),
-            Err(stop) => return Err(stop),
-        }
+        let word = ask_now(word_unit(ap, address + 4 * i as u32), access)?;
+        read.push(word);
     }
     Ok(read)
 }

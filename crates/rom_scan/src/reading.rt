@@ -73,10 +73,7 @@ pub(crate) fn read_component<A: Access>(
     ensures count { IfOk result (λ c. length (A.reported access.new).asks.calls ≡ length (A.reported access.old).asks.calls + words_read_of c.known) }
     ensures ends { EndsAsking A.begun A.reported A.identity result access.old access.new }
 {
-    let cidr = match read_words(ap, address + 0xFF0, 4, access) {
-        Ok(words) => words,
-        Err(stop) => return Err(stop),
-    };
+    let cidr = read_words(ap, address + 0xFF0, 4, access)?;
     if !is_known(cidr.as_slice()) {
         return Ok(Component {
             address,
@@ -84,14 +81,8 @@ pub(crate) fn read_component<A: Access>(
             known: None,
         });
     }
-    let fourth = match read_words(ap, address + 0xFD0, 1, access) {
-        Ok(words) => words,
-        Err(stop) => return Err(stop),
-    };
-    let first = match read_words(ap, address + 0xFE0, 4, access) {
-        Ok(words) => words,
-        Err(stop) => return Err(stop),
-    };
+    let fourth = read_words(ap, address + 0xFD0, 1, access)?;
+    let first = read_words(ap, address + 0xFE0, 4, access)?;
     Ok(known_as(
         address,
         depth,

@@ -51,10 +51,7 @@ fn list_from<A: Access, K: Sink>(
 {
     let mut tables = OpenTables::new();
     let mut listed = ItemList::new(alloc);
-    let words = match arrive(alloc, ap, address, &mut tables, &mut listed, access, sink) {
-        Ok(words) => words,
-        Err(end) => return Err(end),
-    };
+    let words = arrive(alloc, ap, address, &mut tables, &mut listed, access, sink)?;
     match walk(alloc, ap, &mut tables, &mut listed, access, sink, units) {
         Ok(more) => Ok(words + more),
         Err(end) => {

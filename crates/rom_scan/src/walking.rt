@@ -146,10 +146,8 @@ fn step<A: Access, K: Sink>(
     if is_listed(address, listed.as_slice()) {
         return Ok(1);
     }
-    match arrive(alloc, ap, address, tables, listed, access, sink) {
-        Ok(words) => Ok(1 + words),
-        Err(end) => Err(end),
-    }
+    let words = arrive(alloc, ap, address, tables, listed, access, sink)?;
+    Ok(1 + words)
 }
 
 // All that is left of open tables. Answers how many units were asked; at `Full` their number is added to `units`.

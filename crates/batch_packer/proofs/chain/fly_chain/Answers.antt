@@ -1,4 +1,5 @@
 use Rattle.std.proofs.Common.{length, ap, ◌∙◌, arith, rules}
+use Rattle.std.proofs.lemmas.Result.{err_from_is_err_and}
 use Rattle.target_machine.specs.declared.access.RegAccess.{RegAccess}
 use Rattle.flight_forms.proofs.PartLists.{all_parts, parts_have, parts_taken}
 use Rattle.target_machine.specs.InRange.{IsWord}
@@ -15,20 +16,21 @@ send_all-requires-clause-chain g c =
     chain_is_queue limits (parts_of c.args.packet_size c.args.accesses.now) c.put_packets.new.packets.items c.put_packets.ensures.items
     (chain_fits_more c.args.packet_size limits.packet_size (parts_of c.args.packet_size c.args.accesses.now) chain.smaller chain.fits) chain.parts
 
-pub returns-in-Err-clause-failed : goal.returns-in-Err-clause-failed
-returns-in-Err-clause-failed g c =
+pub returns-in_err-send_all-clause-failed : goal.returns-in_err-send_all-clause-failed
+returns-in_err-send_all-clause-failed g c =
     let limits = (g.B.Bench.reported c.args.bench.now).limits in
     let chain = c.requires.chain in
     let in_range = c.requires.bench.limits in
-    send_failed limits c.args.accesses.now (parts_of c.args.packet_size c.args.accesses.now) c.put_packets.new.packets.items (g.B.Bench.state c.args.bench.now) (g.B.Bench.state c.send_all.new.bench)
+    let p = err_from_is_err_and c.from_residual.result c.from_residual.ensures.1 in
+    rw p.1 (send_failed limits c.args.accesses.now (parts_of c.args.packet_size c.args.accesses.now) c.put_packets.new.packets.items (g.B.Bench.state c.args.bench.now) (g.B.Bench.state c.send_all.new.bench)
     in_range.size_high (parts_some c.args.packet_size c.args.accesses.now chain.some) (all_parts c.args.packet_size c.args.accesses.now) (parts_taken c.args.packet_size c.args.accesses.now c.requires.accesses.taken)
-    (chain_fits_more c.args.packet_size limits.packet_size (parts_of c.args.packet_size c.args.accesses.now) chain.smaller chain.fits) c.put_packets.ensures.items c.in-Err.ensures.failed
+    (chain_fits_more c.args.packet_size limits.packet_size (parts_of c.args.packet_size c.args.accesses.now) chain.smaller chain.fits) c.put_packets.ensures.items c.in_err-send_all.ensures.failed)
 
 pub receive_all-requires-clause-waits : goal.receive_all-requires-clause-waits
 receive_all-requires-clause-waits g c =
     let chain = c.requires.chain in
     let waits = chain_waits (g.B.Bench.reported c.args.bench.now) (g.B.Bench.reported c.send_all.new.bench) (parts_of c.args.packet_size c.args.accesses.now) c.put_packets.new.packets.items
-    c.requires.bench.is_open (parts_some c.args.packet_size c.args.accesses.now chain.some) c.put_packets.ensures.items c.in-Ok.ensures.reported in
+    c.requires.bench.is_open (parts_some c.args.packet_size c.args.accesses.now chain.some) c.put_packets.ensures.items c.in_ok-send_all.ensures.reported in
     let w = waits.waits in let n = c.len.ensures in omega arith
 
 pub receive_all-requires-clause-size : goal.receive_all-requires-clause-size
@@ -36,22 +38,23 @@ receive_all-requires-clause-size g c =
     let chain = c.requires.chain in
     let in_range = c.requires.bench.limits in
     let waits = chain_waits (g.B.Bench.reported c.args.bench.now) (g.B.Bench.reported c.send_all.new.bench) (parts_of c.args.packet_size c.args.accesses.now) c.put_packets.new.packets.items
-    c.requires.bench.is_open (parts_some c.args.packet_size c.args.accesses.now chain.some) c.put_packets.ensures.items c.in-Ok.ensures.reported in
+    c.requires.bench.is_open (parts_some c.args.packet_size c.args.accesses.now chain.some) c.put_packets.ensures.items c.in_ok-send_all.ensures.reported in
     let h = in_range.size_high in let e = ap (λ l. l.packet_size) waits.limits in omega arith
 
 pub receive_all-requires-clause-many : goal.receive_all-requires-clause-many
 receive_all-requires-clause-many g c =
     let n = c.len.ensures in let e = ap length c.put_packets.ensures.items in let k = packet_count (parts_of c.args.packet_size c.args.accesses.now) in let r = c.requires.room in let m = r.for_replies.enough in omega arith
 
-pub returns-in-Err-receive_all-clause-failed : goal.returns-in-Err-receive_all-clause-failed
-returns-in-Err-receive_all-clause-failed g c =
+pub returns-in_err-receive_all-clause-failed : goal.returns-in_err-receive_all-clause-failed
+returns-in_err-receive_all-clause-failed g c =
     let limits = (g.B.Bench.reported c.args.bench.now).limits in
     let chain = c.requires.chain in
     let in_range = c.requires.bench.limits in
-    receive_failed limits c.args.accesses.now (parts_of c.args.packet_size c.args.accesses.now) c.put_packets.new.packets.items c.receive_all.new.replies.items
+    let p = err_from_is_err_and c.from_residual-in_err-receive_all.result c.from_residual-in_err-receive_all.ensures.1 in
+    rw p.1 (receive_failed limits c.args.accesses.now (parts_of c.args.packet_size c.args.accesses.now) c.put_packets.new.packets.items c.receive_all.new.replies.items
     (g.B.Bench.state c.args.bench.now) (g.B.Bench.state c.send_all.new.bench) (g.B.Bench.state c.receive_all.new.bench)
     in_range.size_high (parts_some c.args.packet_size c.args.accesses.now chain.some) (all_parts c.args.packet_size c.args.accesses.now) (parts_taken c.args.packet_size c.args.accesses.now c.requires.accesses.taken)
-    (chain_fits_more c.args.packet_size limits.packet_size (parts_of c.args.packet_size c.args.accesses.now) chain.smaller chain.fits) c.put_packets.ensures.items c.in-Ok.ensures.state c.receive_all.ensures.state
+    (chain_fits_more c.args.packet_size limits.packet_size (parts_of c.args.packet_size c.args.accesses.now) chain.smaller chain.fits) c.put_packets.ensures.items c.in_ok-send_all.ensures.state c.receive_all.ensures.state)
 
 pub read_packets-requires-clause-fits : goal.read_packets-requires-clause-fits
 read_packets-requires-clause-fits g c =
@@ -69,8 +72,8 @@ pub read_packets-requires-clause-room : goal.read_packets-requires-clause-room
 read_packets-requires-clause-room g c =
     let e = ap length c.put_packets.ensures.items in let k = packet_count (parts_of c.args.packet_size c.args.accesses.now) in let r = c.requires.room in let v = r.for_values in omega arith
 
-pub returns-in-Ok-receive_all-clause-flown : goal.returns-in-Ok-receive_all-clause-flown
-returns-in-Ok-receive_all-clause-flown g c =
+pub returns-clause-flown : goal.returns-clause-flown
+returns-clause-flown g c =
     let limits = (g.B.Bench.reported c.args.bench.now).limits in
     let chain = c.requires.chain in
     let in_range = c.requires.bench.limits in
@@ -79,17 +82,17 @@ returns-in-Ok-receive_all-clause-flown g c =
     in_range.size_high (parts_some c.args.packet_size c.args.accesses.now chain.some) (all_parts c.args.packet_size c.args.accesses.now) c.requires.accesses.words (parts_taken c.args.packet_size c.args.accesses.now c.requires.accesses.taken)
     (parts_have (λ (a : RegAccess). IsWord a.value) c.args.packet_size c.args.accesses.now c.requires.accesses.words)
     (chain_fits_more c.args.packet_size limits.packet_size (parts_of c.args.packet_size c.args.accesses.now) chain.smaller chain.fits) c.put_packets.ensures.items
-    (c.in-Ok-receive_all.ensures.count ∙ c.len.ensures) c.read_packets.ensures.seen c.in-Ok.ensures.state c.receive_all.ensures.state
+    (c.in_ok-receive_all.ensures.count ∙ c.len.ensures) c.read_packets.ensures.seen c.in_ok-send_all.ensures.state c.receive_all.ensures.state
 
-pub returns-in-Ok-receive_all-clause-exchanged : goal.returns-in-Ok-receive_all-clause-exchanged
-returns-in-Ok-receive_all-clause-exchanged g c =
+pub returns-clause-exchanged : goal.returns-clause-exchanged
+returns-clause-exchanged g c =
     let chain = c.requires.chain in
     let done = chain_done (g.B.Bench.reported c.args.bench.now) (g.B.Bench.reported c.send_all.new.bench) (g.B.Bench.reported c.receive_all.new.bench) (parts_of c.args.packet_size c.args.accesses.now)
-    c.put_packets.new.packets.items c.receive_all.new.replies.items c.requires.bench.is_open (parts_some c.args.packet_size c.args.accesses.now chain.some) c.put_packets.ensures.items c.in-Ok.ensures.reported
-    c.in-Ok-receive_all.ensures.reported (c.in-Ok-receive_all.ensures.count ∙ c.len.ensures) in
+    c.put_packets.new.packets.items c.receive_all.new.replies.items c.requires.bench.is_open (parts_some c.args.packet_size c.args.accesses.now chain.some) c.put_packets.ensures.items c.in_ok-send_all.ensures.reported
+    c.in_ok-receive_all.ensures.reported (c.in_ok-receive_all.ensures.count ∙ c.len.ensures) in
     record {
       last = done.last;
-      replied = c.in-Ok-receive_all.ensures.count ∙ c.len.ensures;
+      replied = c.in_ok-receive_all.ensures.count ∙ c.len.ensures;
       exchanges = done.exchanges;
       is_open = done.is_open;
     }
@@ -97,15 +100,15 @@ returns-in-Ok-receive_all-clause-exchanged g c =
 pub read_packets-requires-clause-taken : goal.read_packets-requires-clause-taken
 read_packets-requires-clause-taken g c = parts_taken c.args.packet_size c.args.accesses.now c.requires.accesses.taken
 
-pub returns-in-Err-receive_all-clause-keeps : goal.returns-in-Err-receive_all-clause-keeps
-returns-in-Err-receive_all-clause-keeps g c = record {
+pub returns-in_err-receive_all-clause-keeps : goal.returns-in_err-receive_all-clause-keeps
+returns-in_err-receive_all-clause-keeps g c = record {
   on = goes_on_after (g.B.Bench.reported) (g.B.Bench.state) (g.B.Bench.identity) c.args.bench.now c.send_all.new.bench c.receive_all.new.bench c.send_all.ensures.keeps.on c.receive_all.ensures.keeps
       c.receive_all.ensures.runs c.receive_all.ensures.identity;
   cause = search rules;
 }
 
-pub returns-in-Ok-receive_all-clause-keeps : goal.returns-in-Ok-receive_all-clause-keeps
-returns-in-Ok-receive_all-clause-keeps g c = record {
+pub returns-clause-keeps : goal.returns-clause-keeps
+returns-clause-keeps g c = record {
   on = goes_on_after (g.B.Bench.reported) (g.B.Bench.state) (g.B.Bench.identity) c.args.bench.now c.send_all.new.bench c.receive_all.new.bench c.send_all.ensures.keeps.on c.receive_all.ensures.keeps
       c.receive_all.ensures.runs c.receive_all.ensures.identity;
   cause = search rules;

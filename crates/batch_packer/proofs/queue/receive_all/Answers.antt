@@ -6,11 +6,11 @@ use Rattle.probe_core.proofs.StateSteps.{runs_then}
 use Rattle.batch_packer.proofs.QueueLemmas.{handed_next, one_fewer, one_longer, received_next}
 use Rattle.batch_packer.proofs.queue.receive_all.Goals as goal
 
-pub returns-in-Err-clause-keeps : goal.returns-in-Err-clause-keeps
-returns-in-Err-clause-keeps g c =
+pub returns-in_err-len-clause-keeps : goal.returns-in_err-len-clause-keeps
+returns-in_err-len-clause-keeps g c =
     let inv = c.loop.invariant in
     stays_then (g.B.Bench.reported c.args.bench.now) (g.B.Bench.reported c.loop.bench) (g.B.Bench.reported c.receive.new.self) inv.stays
-    (stays_failed (g.B.Bench.reported c.loop.bench) (g.B.Bench.reported c.receive.new.self) (g.B.Bench.state c.loop.bench) (g.B.Bench.state c.receive.new.self) c.in-Err.ensures.failed)
+    (stays_failed (g.B.Bench.reported c.loop.bench) (g.B.Bench.reported c.receive.new.self) (g.B.Bench.state c.loop.bench) (g.B.Bench.state c.receive.new.self) c.in_err-len.ensures.failed)
 
 pub loop-preserved : goal.loop-preserved
 loop-preserved g c =
@@ -18,17 +18,17 @@ loop-preserved g c =
     let t : Reported = g.B.Bench.reported c.args.bench.now in
     let u : Reported = g.B.Bench.reported c.loop.bench in
     let v : Reported = g.B.Bench.reported c.receive.new.self in
-    let reply : List ℕ = take c.in-Ok.len c.receive.new.out in
+    let reply : List ℕ = take c.in_ok-len.len c.receive.new.out in
     let old : List (List ℕ) = c.loop.replies.items in
     let new : List (List ℕ) = c.push.new.self.items in
     let is : new ≡ old ++ reply ∷ [] = ap (λ (p : Packets). p.items) c.push.ensures in
-    let reported = c.in-Ok.ensures.reported in
+    let reported = c.in_ok-len.ensures.reported in
     let below : c.loop.counter < t.waiting = omega (arith, c.loop-test.true, c.requires.waits) in
     record {
       reported = received_next old new reply t u v is inv.reported reported;
-      state = handed_next old new reply (g.B.Bench.state c.args.bench.now) (g.B.Bench.state c.loop.bench) (g.B.Bench.state c.receive.new.self) is inv.state c.in-Ok.ensures.state;
+      state = handed_next old new reply (g.B.Bench.state c.args.bench.now) (g.B.Bench.state c.loop.bench) (g.B.Bench.state c.receive.new.self) is inv.state c.in_ok-len.ensures.state;
       runs = runs_then (g.B.Bench.state c.args.bench.now) (g.B.Bench.state c.loop.bench) (g.B.Bench.state c.receive.new.self) inv.runs c.receive.ensures.runs;
-      identity = c.in-Ok.ensures.identity ∙ inv.identity;
+      identity = c.in_ok-len.ensures.identity ∙ inv.identity;
       faults = ap (λ (x : Reported). x.faults) reported ∙ inv.faults;
       limits = ap (λ (x : Reported). x.limits) reported ∙ inv.limits;
       stays = stays_then t u v inv.stays (stays_received reply u v reported);

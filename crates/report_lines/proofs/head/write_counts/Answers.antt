@@ -1,10 +1,13 @@
+use Rattle.std.proofs.lemmas.Result.{err_from_is_err_and}
 use Rattle.report_lines.specs.Lines.{units_line}
 use Rattle.report_lines.specs.Endings.{values_part}
 use Rattle.report_lines.proofs.FrameLemmas.{lines_after, lines_first}
 use Rattle.report_lines.proofs.head.write_counts.Goals as goal
 
-pub returns-in-Ok : goal.returns-in-Ok
-returns-in-Ok g c = record { puts = lines_after _ _ _ _ _ _ (units_line c.args.ended.now.units) (values_part c.args.ended.now) (c.in-Ok.ensures.puts _ c.units_text-line.ensures) c.write_values.ensures.puts }
+pub returns : goal.returns
+returns g c = record { puts = lines_after _ _ _ _ _ _ (units_line c.args.ended.now.units) (values_part c.args.ended.now) (c.in_ok-put_line.ensures.puts _ c.units_text-line.ensures) c.write_values.ensures.puts }
 
-pub returns-in-Err : goal.returns-in-Err
-returns-in-Err g c = record { puts = lines_first _ _ _ _ _ (units_line c.args.ended.now.units) (values_part c.args.ended.now) (c.in-Err.ensures.puts _ c.units_text-line.ensures) }
+pub returns-in_err-put_line : goal.returns-in_err-put_line
+returns-in_err-put_line g c =
+    let passed = err_from_is_err_and c.from_residual.result c.from_residual.ensures.1 in
+    rw (passed.1, passed.2) (record { puts = lines_first _ _ _ _ _ (units_line c.args.ended.now.units) (values_part c.args.ended.now) (c.in_err-put_line.ensures.puts _ c.units_text-line.ensures) })

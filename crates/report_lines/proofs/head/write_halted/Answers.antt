@@ -1,9 +1,12 @@
+use Rattle.std.proofs.lemmas.Result.{err_from_is_err_and}
 use Rattle.report_lines.specs.Endings.{count_lines, halted_line}
 use Rattle.report_lines.proofs.FrameLemmas.{lines_after, lines_first}
 use Rattle.report_lines.proofs.head.write_halted.Goals as goal
 
-pub returns-in-Ok : goal.returns-in-Ok
-returns-in-Ok g c = record { puts = lines_after _ _ _ _ _ _ (halted_line c.args.cause) (count_lines c.args.ended.now) (c.in-Ok.ensures.puts _ c.halted_text-line.ensures) c.write_counts.ensures.puts }
+pub returns : goal.returns
+returns g c = record { puts = lines_after _ _ _ _ _ _ (halted_line c.args.cause) (count_lines c.args.ended.now) (c.in_ok-put_line.ensures.puts _ c.halted_text-line.ensures) c.write_counts.ensures.puts }
 
-pub returns-in-Err : goal.returns-in-Err
-returns-in-Err g c = record { puts = lines_first _ _ _ _ _ (halted_line c.args.cause) (count_lines c.args.ended.now) (c.in-Err.ensures.puts _ c.halted_text-line.ensures) }
+pub returns-in_err-put_line : goal.returns-in_err-put_line
+returns-in_err-put_line g c =
+    let passed = err_from_is_err_and c.from_residual.result c.from_residual.ensures.1 in
+    rw (passed.1, passed.2) (record { puts = lines_first _ _ _ _ _ (halted_line c.args.cause) (count_lines c.args.ended.now) (c.in_err-put_line.ensures.puts _ c.halted_text-line.ensures) })

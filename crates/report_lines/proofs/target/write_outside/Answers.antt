@@ -1,17 +1,20 @@
+use Rattle.std.proofs.lemmas.Result.{err_from_is_err_and}
 use Rattle.target_machine.specs.declared.image.ImageAsk.TheVariants as ask
 use Rattle.report_lines.specs.Target.{shown_line, watch_lines}
 use Rattle.report_lines.proofs.RowLemmas.{part_first, parts_after, put_same}
 use Rattle.report_lines.proofs.FrameLemmas.{views_on}
 use Rattle.report_lines.proofs.target.write_outside.Goals as goal
 
-pub returns-in-Ok : goal.returns-in-Ok
-returns-in-Ok g c = record {
+pub returns : goal.returns
+returns g c = record {
   puts = record {
-    text = parts_after _ _ _ _ _ (λ t. shown_line t ask.Lines) (λ t. watch_lines t c.args.watch.now) c.in-Ok.ensures.puts.text
-        (put_same _ _ _ _ _ (λ t. watch_lines t c.args.watch.now) c.in-Ok.ensures.puts.shows.keeps.target c.write_watch.ensures.puts.text);
-    shows = views_on g.S.ShowsTarget.known g.K.Sink.written g.K.Sink.faults tt c.write_watch.result _ _ _ _ _ _ c.in-Ok.ensures.puts.shows c.write_watch.ensures.puts.shows;
+    text = parts_after _ _ _ _ _ (λ t. shown_line t ask.Lines) (λ t. watch_lines t c.args.watch.now) c.in_ok-write_part.ensures.puts.text
+        (put_same _ _ _ _ _ (λ t. watch_lines t c.args.watch.now) c.in_ok-write_part.ensures.puts.shows.keeps.target c.write_watch.ensures.puts.text);
+    shows = views_on g.S.ShowsTarget.known g.K.Sink.written g.K.Sink.faults tt c.write_watch.result _ _ _ _ _ _ c.in_ok-write_part.ensures.puts.shows c.write_watch.ensures.puts.shows;
   };
 }
 
-pub returns-in-Err : goal.returns-in-Err
-returns-in-Err g c = record { puts = record { text = part_first _ _ _ (λ t. shown_line t ask.Lines) (λ t. watch_lines t c.args.watch.now) c.in-Err.ensures.puts.text; shows = c.in-Err.ensures.puts.shows } }
+pub returns-in_err-write_part : goal.returns-in_err-write_part
+returns-in_err-write_part g c =
+    let passed = err_from_is_err_and c.from_residual.result c.from_residual.ensures.1 in
+    rw (passed.1, passed.2) (record { puts = record { text = part_first _ _ _ (λ t. shown_line t ask.Lines) (λ t. watch_lines t c.args.watch.now) c.in_err-write_part.ensures.puts.text; shows = c.in_err-write_part.ensures.puts.shows } })

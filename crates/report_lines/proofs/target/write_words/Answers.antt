@@ -1,4 +1,5 @@
 use Rattle.std.proofs.Common.{Err, Ok, ◌+◌, ◌*◌, arith}
+use Rattle.std.proofs.lemmas.Result.{err_from_is_err_and}
 use Rattle.target_machine.specs.declared.image.ImageAsk.TheVariants as ask
 use Rattle.report_lines.specs.Target.{shown_line}
 use Rattle.report_lines.proofs.FrameLemmas.{views_on}
@@ -8,15 +9,17 @@ use Rattle.report_lines.proofs.target.write_words.Goals as goal
 pub loop-number-preserved : goal.loop-number-preserved
 loop-number-preserved g c = record {
   text = below_more (g.S.ShowsTarget.known c.args.shower.now).target _ _ _ (λ t i. shown_line t (ask.Word (c.args.item.address + 4 * i))) c.loop-number.number c.loop-number.invariant.text
-      (wrote_same _ _ (λ t. shown_line t (ask.Word (c.args.item.address + 4 * c.loop-number.number))) _ _ c.loop-number.invariant.shows.keeps.target c.in-Ok.ensures.puts.text);
-  shows = views_on g.S.ShowsTarget.known g.K.Sink.written g.K.Sink.faults tt (Ok tt) _ _ _ _ _ _ c.loop-number.invariant.shows c.in-Ok.ensures.puts.shows;
+      (wrote_same _ _ (λ t. shown_line t (ask.Word (c.args.item.address + 4 * c.loop-number.number))) _ _ c.loop-number.invariant.shows.keeps.target c.in_ok-write_part.ensures.puts.text);
+  shows = views_on g.S.ShowsTarget.known g.K.Sink.written g.K.Sink.faults tt (Ok tt) _ _ _ _ _ _ c.loop-number.invariant.shows c.in_ok-write_part.ensures.puts.shows;
 }
 
-pub returns-in-Err : goal.returns-in-Err
-returns-in-Err g c = record {
-  puts = record {
-    text = below_cut (g.S.ShowsTarget.known c.args.shower.now).target _ _ _ (λ t i. shown_line t (ask.Word (c.args.item.address + 4 * i))) c.loop-number.number c.args.item.words (omega arith) c.loop-number.invariant.text
-        (began_same _ _ (λ t. shown_line t (ask.Word (c.args.item.address + 4 * c.loop-number.number))) _ _ c.loop-number.invariant.shows.keeps.target c.in-Err.ensures.puts.text);
-    shows = views_on g.S.ShowsTarget.known g.K.Sink.written g.K.Sink.faults tt (Err c.in-Err.end) _ _ _ _ _ _ c.loop-number.invariant.shows c.in-Err.ensures.puts.shows;
-  };
-}
+pub returns-in_err-write_part : goal.returns-in_err-write_part
+returns-in_err-write_part g c =
+    let passed = err_from_is_err_and c.from_residual.result c.from_residual.ensures.1 in
+    rw (passed.1, passed.2) (record {
+      puts = record {
+        text = below_cut (g.S.ShowsTarget.known c.args.shower.now).target _ _ _ (λ t i. shown_line t (ask.Word (c.args.item.address + 4 * i))) c.loop-number.number c.args.item.words (omega arith) c.loop-number.invariant.text
+            (began_same _ _ (λ t. shown_line t (ask.Word (c.args.item.address + 4 * c.loop-number.number))) _ _ c.loop-number.invariant.shows.keeps.target c.in_err-write_part.ensures.puts.text);
+        shows = views_on g.S.ShowsTarget.known g.K.Sink.written g.K.Sink.faults tt (Err _) _ _ _ _ _ _ c.loop-number.invariant.shows c.in_err-write_part.ensures.puts.shows;
+      };
+    })

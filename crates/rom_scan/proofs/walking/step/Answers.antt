@@ -1,4 +1,5 @@
 use Rattle.std.proofs.Common.{rules, ◌∙◌, ◌+◌, ◌∷◌, true, Ok, Err, refl, sym}
+use Rattle.std.proofs.lemmas.Result.{err_from_is_err_and}
 use Rattle.access_calls.specs.Reported.{world_from}
 use Rattle.target_calls.specs.Asks.{unit_ask}
 use Rattle.sequels.proofs.MeetingLemmas.{whole_after}
@@ -28,35 +29,37 @@ returns-then-is_listed-clause-gives g c = λ m answered b l whole.
     (g.A.Access.reported c.ask_now.new.access).asks.calls c.in-Ok.entry (c.in-Ok.ensures.gives m answered (g.K.Sink.written c.args.sink.now) b l whole) c.push.new.self c.push.ensures c.if-entry-eq0.false c.if-entry-eq0-2.false
     (rw (← c.named_by-address.ensures.named) (rw (← c.as_slice.ensures) (sym c.is_listed.ensures ∙ c.if-is_listed.true)))
 
-pub returns-in-Ok-arrive-clause-gives : goal.returns-in-Ok-arrive-clause-gives
-returns-in-Ok-arrive-clause-gives g c = λ m answered b l whole.
+pub returns-clause-gives : goal.returns-clause-gives
+returns-clause-gives g c = λ m answered b l whole.
     let w = world_from m answered in
     let old = (g.A.Access.reported c.args.access.now).asks.calls in
     let mid = (g.A.Access.reported c.ask_now.new.access).asks.calls in
     let before = g.K.Sink.written c.args.sink.now in
-    let l2 = c.in-Ok-arrive.ensures.ends.ends.keeps.goes.left answered l in
+    let l2 = c.in_ok-words.ensures.ends.ends.keeps.goes.left answered l in
     let r = step_visits w c.args.ap c.args.table c.args.tables.now c.args.listed.now old before (unit_ask c.word_unit.result true) c.requires.some c.word_unit.ensures.asks
     mid c.in-Ok.entry (c.in-Ok.ensures.gives m answered before b l2 whole) c.push.new.self c.named_by-address.result c.push.ensures c.named_by-address.ensures.named c.if-entry-eq0.false c.if-entry-eq0-2.false
     (rw (← c.named_by-address.ensures.named) (rw (← c.as_slice.ensures) (sym c.is_listed.ensures ∙ c.if-is_listed.false))) in
-    walks_on w (g.A.Access.reported c.arrive.new.access).lines c.args.ap (unwound 1024 c.args.ap (c.args.table ∷ c.args.tables.now) c.args.listed.now) (walk_from_component 1024 c.args.ap c.push.new.self c.named_by-address.result c.args.listed.now) (Ok c.in-Ok-arrive.words)
+    walks_on w (g.A.Access.reported c.arrive.new.access).lines c.args.ap (unwound 1024 c.args.ap (c.args.table ∷ c.args.tables.now) c.args.listed.now) (walk_from_component 1024 c.args.ap c.push.new.self c.named_by-address.result c.args.listed.now) (Ok c.in_ok-words.words)
     c.arrive.new.tables c.arrive.new.listed old mid (g.A.Access.reported c.arrive.new.access).asks.calls before before (g.K.Sink.written c.arrive.new.sink) whole r
-    (c.in-Ok-arrive.ensures.gives m answered (c.in-Ok.ensures.ends.keeps.on m b) l
+    (c.in_ok-words.ensures.gives m answered (c.in-Ok.ensures.ends.keeps.on m b) l
     (whole_after w (unwound 1024 c.args.ap (c.args.table ∷ c.args.tables.now) c.args.listed.now) (walk_from_component 1024 c.args.ap c.push.new.self c.named_by-address.result c.args.listed.now) old mid before before whole r))
 
-pub returns-in-Err-arrive-clause-gives : goal.returns-in-Err-arrive-clause-gives
-returns-in-Err-arrive-clause-gives g c = λ m answered b l whole.
+pub returns-in_err-words-clause-gives : goal.returns-in_err-words-clause-gives
+returns-in_err-words-clause-gives g c =
+    let passed = err_from_is_err_and c.from_residual.result c.from_residual.ensures.1 in
+    rw (passed.1, passed.2) (λ m answered b l whole.
     let w = world_from m answered in
     let old = (g.A.Access.reported c.args.access.now).asks.calls in
     let mid = (g.A.Access.reported c.ask_now.new.access).asks.calls in
     let before = g.K.Sink.written c.args.sink.now in
-    let l2 = c.in-Err-arrive.ensures.ends.ends.keeps.goes.left answered l in
+    let l2 = c.in_err-words.ensures.ends.ends.keeps.goes.left answered l in
     let r = step_visits w c.args.ap c.args.table c.args.tables.now c.args.listed.now old before (unit_ask c.word_unit.result true) c.requires.some c.word_unit.ensures.asks
     mid c.in-Ok.entry (c.in-Ok.ensures.gives m answered before b l2 whole) c.push.new.self c.named_by-address.result c.push.ensures c.named_by-address.ensures.named c.if-entry-eq0.false c.if-entry-eq0-2.false
     (rw (← c.named_by-address.ensures.named) (rw (← c.as_slice.ensures) (sym c.is_listed.ensures ∙ c.if-is_listed.false))) in
-    walks_on w (g.A.Access.reported c.arrive.new.access).lines c.args.ap (unwound 1024 c.args.ap (c.args.table ∷ c.args.tables.now) c.args.listed.now) (walk_from_component 1024 c.args.ap c.push.new.self c.named_by-address.result c.args.listed.now) (Err c.in-Err-arrive.end)
+    walks_on w (g.A.Access.reported c.arrive.new.access).lines c.args.ap (unwound 1024 c.args.ap (c.args.table ∷ c.args.tables.now) c.args.listed.now) (walk_from_component 1024 c.args.ap c.push.new.self c.named_by-address.result c.args.listed.now) (Err c.in_err-words.field-0.0)
     c.arrive.new.tables c.arrive.new.listed old mid (g.A.Access.reported c.arrive.new.access).asks.calls before before (g.K.Sink.written c.arrive.new.sink) whole r
-    (c.in-Err-arrive.ensures.gives m answered (c.in-Ok.ensures.ends.keeps.on m b) l
-    (whole_after w (unwound 1024 c.args.ap (c.args.table ∷ c.args.tables.now) c.args.listed.now) (walk_from_component 1024 c.args.ap c.push.new.self c.named_by-address.result c.args.listed.now) old mid before before whole r))
+    (c.in_err-words.ensures.gives m answered (c.in-Ok.ensures.ends.keeps.on m b) l
+    (whole_after w (unwound 1024 c.args.ap (c.args.table ∷ c.args.tables.now) c.args.listed.now) (walk_from_component 1024 c.args.ap c.push.new.self c.named_by-address.result c.args.listed.now) old mid before before whole r)))
 
 pub returns-in-Err-clause-ends : goal.returns-in-Err-clause-ends
 returns-in-Err-clause-ends g c = record {
@@ -82,17 +85,19 @@ returns-then-is_listed-clause-ends g c = record {
   ends = ends_asked g.A.Access.begun g.A.Access.reported g.A.Access.identity g.K.Sink.written g.K.Sink.faults c.in-Ok.entry 1 _ _ _ c.in-Ok.ensures.ends;
 }
 
-pub returns-in-Ok-arrive-clause-ends : goal.returns-in-Ok-arrive-clause-ends
-returns-in-Ok-arrive-clause-ends g c = record {
+pub returns-clause-ends : goal.returns-clause-ends
+returns-clause-ends g c = record {
   counts = search rules;
   ends =
-      ends_on g.A.Access.begun g.A.Access.reported g.A.Access.identity g.K.Sink.written g.K.Sink.faults 1 (Ok (1 + c.in-Ok-arrive.words)) _ _ _ _ _ _ (ends_asked g.A.Access.begun g.A.Access.reported g.A.Access.identity g.K.Sink.written g.K.Sink.faults c.in-Ok.entry 1 _ _ _ c.in-Ok.ensures.ends)
-      (ends_as g.A.Access.begun g.A.Access.reported g.A.Access.identity g.K.Sink.written g.K.Sink.faults _ _ _ _ _ _ c.in-Ok-arrive.ensures.ends.ends);
+      ends_on g.A.Access.begun g.A.Access.reported g.A.Access.identity g.K.Sink.written g.K.Sink.faults 1 (Ok (1 + c.in_ok-words.words)) _ _ _ _ _ _ (ends_asked g.A.Access.begun g.A.Access.reported g.A.Access.identity g.K.Sink.written g.K.Sink.faults c.in-Ok.entry 1 _ _ _ c.in-Ok.ensures.ends)
+      (ends_as g.A.Access.begun g.A.Access.reported g.A.Access.identity g.K.Sink.written g.K.Sink.faults _ _ _ _ _ _ c.in_ok-words.ensures.ends.ends);
 }
 
-pub returns-in-Err-arrive-clause-ends : goal.returns-in-Err-arrive-clause-ends
-returns-in-Err-arrive-clause-ends g c = record {
-  counts = search rules;
-  ends =
-      ends_on g.A.Access.begun g.A.Access.reported g.A.Access.identity g.K.Sink.written g.K.Sink.faults 1 (Err c.in-Err-arrive.end) _ _ _ _ _ _ (ends_asked g.A.Access.begun g.A.Access.reported g.A.Access.identity g.K.Sink.written g.K.Sink.faults c.in-Ok.entry 1 _ _ _ c.in-Ok.ensures.ends) c.in-Err-arrive.ensures.ends.ends;
-}
+pub returns-in_err-words-clause-ends : goal.returns-in_err-words-clause-ends
+returns-in_err-words-clause-ends g c =
+    let passed = err_from_is_err_and c.from_residual.result c.from_residual.ensures.1 in
+    rw (passed.1, passed.2) (record {
+      counts = search rules;
+      ends =
+          ends_on g.A.Access.begun g.A.Access.reported g.A.Access.identity g.K.Sink.written g.K.Sink.faults 1 (Err c.in_err-words.field-0.0) _ _ _ _ _ _ (ends_asked g.A.Access.begun g.A.Access.reported g.A.Access.identity g.K.Sink.written g.K.Sink.faults c.in-Ok.entry 1 _ _ _ c.in-Ok.ensures.ends) c.in_err-words.ensures.ends.ends;
+    })

@@ -1,4 +1,5 @@
 use Rattle.std.proofs.Common.{rules, inr, ◌+◌, refl, arith}
+use Rattle.std.proofs.lemmas.Result.{err_from_is_err_and}
 use Rattle.bench_flights.proofs.DelayLemmas.{delay_begins, delay_left, delay_lefts, delay_mades, delay_next, goes_self, goes_then}
 use Rattle.target_machine.specs.InRange.{IsInRange}
 use Rattle.probe_core.specs.Probe.{target_of}
@@ -27,20 +28,21 @@ loop-left-preserved g c =
       count = i.count + 1;
       is = (let e = i.is in let b = c.loop-left-test.true in omega (arith, e, b));
       some = λ no. (let b = c.loop-left-test.true in omega (arith, b));
-      usable = c.in-Ok.ensures.keeps.on.ended;
+      usable = c.in_ok-command_once.ensures.keeps.on.ended;
       empty = c.command_once.ensures.keeps.on.empty;
-      on = delay_next _ _ _ i.count c.in-Ok.field-0 i.on c.in-Ok.ensures.done;
-      packets = delay_few _ _ _ i.count i.on i.packets c.in-Ok.ensures.packets;
+      on = delay_next _ _ _ i.count c.in_ok-command_once.field-0 i.on c.in_ok-command_once.ensures.done;
+      packets = delay_few _ _ _ i.count i.on i.packets c.in_ok-command_once.ensures.packets;
       limits = search rules;
       goes = goes_then _ _ _ _ _ _ i.goes c.command_once.ensures.keeps.on.goes;
       faults = search rules;
       identity = search rules;
     }
 
-pub returns-in-Err-clause-left : goal.returns-in-Err-clause-left
-returns-in-Err-clause-left g c =
+pub returns-in_err-command_once-clause-left : goal.returns-in_err-command_once-clause-left
+returns-in_err-command_once-clause-left g c =
     let i = c.loop-left.invariant in
-    delay_left _ _ _ i.count 65535 c.args.micros c.in-Err.end (omega arith) (λ no. omega arith) (inr (refl, (let e = i.is in let b = c.loop-left-test.true in omega (arith, e, b)))) i.on c.in-Err.ensures.left
+    let p = err_from_is_err_and c.from_residual.result c.from_residual.ensures.1 in
+    rw (p.1, p.2) (delay_left _ _ _ i.count 65535 c.args.micros c.in_err-command_once.field-0.0 (omega arith) (λ no. omega arith) (inr (refl, (let e = i.is in let b = c.loop-left-test.true in omega (arith, e, b)))) i.on c.in_err-command_once.ensures.left)
 
 pub returns-clause-done : goal.returns-clause-done
 returns-clause-done g c =

@@ -1,4 +1,5 @@
 use Rattle.std.proofs.Common.{rules, ◌≡◌, ℕ, ◌+◌, subst, arith}
+use Rattle.std.proofs.lemmas.Result.{err_from_is_err_and}
 use Rattle.probe_core.specs.Bench.{StepsTo}
 use Rattle.batch_packer.specs.Flying.{CanFly}
 use Rattle.bench_flights.specs.Wires.{HasLooked}
@@ -24,10 +25,10 @@ pub loop-turn-preserved : goal.loop-turn-preserved
 loop-turn-preserved g c =
     let i = c.loop-turn.invariant in
     record {
-      usable = c.in-Ok.ensures.keeps.on.ended;
+      usable = c.in_ok-value.ensures.keeps.on.ended;
       empty = c.read_once.ensures.keeps.on.empty;
-      on = turn_next _ _ _ c.args.mask c.args.requested c.loop-turn.turn c.in-Ok.value (test_unmet _ _ c.if-value-mask.false) i.on c.in-Ok.ensures.done;
-      packets = reads_next _ _ _ c.args.mask c.args.requested c.loop-turn.turn i.on i.packets c.in-Ok.ensures.packets;
+      on = turn_next _ _ _ c.args.mask c.args.requested c.loop-turn.turn c.in_ok-value.value (test_unmet _ _ c.if-value-mask.false) i.on c.in_ok-value.ensures.done;
+      packets = reads_next _ _ _ c.args.mask c.args.requested c.loop-turn.turn i.on i.packets c.in_ok-value.ensures.packets;
       limits = search rules;
       goes = goes_then _ _ _ _ _ _ i.goes c.read_once.ensures.keeps.on.goes;
       faults = search rules;
@@ -37,16 +38,17 @@ loop-turn-preserved g c =
 pub returns-then-value-mask-clause-done : goal.returns-then-value-mask-clause-done
 returns-then-value-mask-clause-done g c =
     (turns_met _ _ c.args.mask c.args.requested (c.loop-turn.turn + 1) c.args.turns (let t = c.loop-turn-test.true in omega (arith, t))
-    (turn_met _ _ _ c.args.mask c.args.requested c.loop-turn.turn c.in-Ok.value (test_met _ _ c.if-value-mask.true) c.loop-turn.invariant.on c.in-Ok.ensures.done)).0
+    (turn_met _ _ _ c.args.mask c.args.requested c.loop-turn.turn c.in_ok-value.value (test_met _ _ c.if-value-mask.true) c.loop-turn.invariant.on c.in_ok-value.ensures.done)).0
 
 pub returns-then-value-mask-clause-reads : goal.returns-then-value-mask-clause-reads
 returns-then-value-mask-clause-reads g c =
     (turns_met _ _ c.args.mask c.args.requested (c.loop-turn.turn + 1) c.args.turns (let t = c.loop-turn-test.true in omega (arith, t))
-    (turn_met _ _ _ c.args.mask c.args.requested c.loop-turn.turn c.in-Ok.value (test_met _ _ c.if-value-mask.true) c.loop-turn.invariant.on c.in-Ok.ensures.done)).1
+    (turn_met _ _ _ c.args.mask c.args.requested c.loop-turn.turn c.in_ok-value.value (test_met _ _ c.if-value-mask.true) c.loop-turn.invariant.on c.in_ok-value.ensures.done)).1
 
-pub returns-in-Err-clause-left : goal.returns-in-Err-clause-left
-returns-in-Err-clause-left g c =
-    turn_left _ _ _ c.args.mask c.args.requested c.loop-turn.turn c.args.turns c.in-Err.end c.loop-turn-test.true c.loop-turn.invariant.on c.in-Err.ensures.left
+pub returns-in_err-value-clause-left : goal.returns-in_err-value-clause-left
+returns-in_err-value-clause-left g c =
+    let p = err_from_is_err_and c.from_residual.result c.from_residual.ensures.1 in
+    rw (p.1, p.2) (turn_left _ _ _ c.args.mask c.args.requested c.loop-turn.turn c.args.turns c.in_err-value.field-0.0 c.loop-turn-test.true c.loop-turn.invariant.on c.in_err-value.ensures.left)
 
 pub returns-clause-done : goal.returns-clause-done
 returns-clause-done g c =
@@ -61,7 +63,7 @@ returns-clause-reads g c =
     (subst (λ (n : ℕ). StepsTo (λ m o. CanFly m → HasLooked c.args.mask c.args.requested n 0 m o) (g.B.Bench.state c.args.self.now.bench) (g.B.Bench.state c.loop-turn.self.bench)) all c.loop-turn.invariant.on)).1
 
 pub returns-then-value-mask-clause-packets : goal.returns-then-value-mask-clause-packets
-returns-then-value-mask-clause-packets g c = reads_next _ _ _ c.args.mask c.args.requested c.loop-turn.turn c.loop-turn.invariant.on c.loop-turn.invariant.packets c.in-Ok.ensures.packets
+returns-then-value-mask-clause-packets g c = reads_next _ _ _ c.args.mask c.args.requested c.loop-turn.turn c.loop-turn.invariant.on c.loop-turn.invariant.packets c.in_ok-value.ensures.packets
 
 pub returns-clause-packets : goal.returns-clause-packets
 returns-clause-packets g c =

@@ -1,4 +1,5 @@
 use Rattle.std.proofs.Common.{rules, ◌≡◌, ◌∙◌, ◌<◌, ◌≤◌, inl, inr, [], List, length, None, arith, refl, sym, ap}
+use Rattle.std.proofs.lemmas.Result.{err_from_is_err_and}
 use Rattle.std.specs.Prelude.{slice_index}
 use Rattle.target_calls.specs.World.{results}
 use Rattle.target_calls.specs.declared.calls.Ask.{Ask}
@@ -42,8 +43,8 @@ returns-then-is_known-clause-ends g c = record {
   };
 }
 
-pub returns-in-Ok-clause-ends : goal.returns-in-Ok-clause-ends
-returns-in-Ok-clause-ends g c = record {
+pub returns-clause-ends : goal.returns-clause-ends
+returns-clause-ends g c = record {
   no_end = search rules;
   memory = search rules;
   end = search rules;
@@ -52,16 +53,16 @@ returns-in-Ok-clause-ends g c = record {
     on = λ m h.
         let old = c.args.self.now.sender in
         let none : old.log.end ≡ None = search rules in
-        let there = c.in-Ok.ensures.gives.on m [] (begun_issued g.F.Flights.planner _ _ old.log _ _ _ _ m h.sparing.begun none) in
+        let there = c.in_ok-send.ensures.gives.on m [] (begun_issued g.F.Flights.planner _ _ old.log _ _ _ _ m h.sparing.begun none) in
         let not : old.log.known ≤ c.args.slot.index = is_past c.args.slot.index old.log.known c.is_known.result c.is_known.ensures c.if-is_known.false in
         record {
           sparing = record {
-            begun = begun_needs g.F.Flights.planner _ _ c.send.new.self.log c.use_slot-in-Ok.new.self _ _ _ _ _ _ m
-                (begun_flushed g.F.Flights.planner _ _ _ _ old.log c.send.new.self.log _ _ _ _ _ _ _ _ _ m h.sparing.begun none (c.args.self.now.whole none) there c.in-Ok.ensures.log c.send.ensures.empty c.send.ensures.exchanges.managed)
-                refl refl (used_new c.send.new.self.log _ c.args.slot c.use_slot-in-Ok.ensures.answer.so);
-            paid = λ open_. paid_sent g.F.Flights.planner _ _ _ _ _ _ old.log c.send.new.self.log c.use_slot-in-Ok.new.self _ c.args.slot m (h.sparing.paid none) (λ points s. c.in-Ok.ensures.gives.spare m [] points (begun_issued g.F.Flights.planner _ _ old.log _ _ _ _ m h.sparing.begun none) s)
-                c.in-Ok.ensures.log (c.args.self.now.whole none) old.sound.fence_within not c.use_slot-in-Ok.ensures.answer.so;
-            needed = λ open_. needed_used g.F.Flights.planner (target_of m.probe) (asks_of old.log) c.send.new.self.log c.use_slot-in-Ok.new.self c.args.slot (h.sparing.needed none) (ap (λ (l : LogState). l.calls) c.in-Ok.ensures.log) (ap (λ (l : LogState). l.needs) c.in-Ok.ensures.log) c.use_slot-in-Ok.ensures.answer.so;
+            begun = begun_needs g.F.Flights.planner _ _ c.send.new.self.log c.use_slot-2.new.self _ _ _ _ _ _ m
+                (begun_flushed g.F.Flights.planner _ _ _ _ old.log c.send.new.self.log _ _ _ _ _ _ _ _ _ m h.sparing.begun none (c.args.self.now.whole none) there c.in_ok-send.ensures.log c.send.ensures.empty c.send.ensures.exchanges.managed)
+                refl refl (used_new c.send.new.self.log _ c.args.slot c.use_slot-2.ensures.answer.so);
+            paid = λ open_. paid_sent g.F.Flights.planner _ _ _ _ _ _ old.log c.send.new.self.log c.use_slot-2.new.self _ c.args.slot m (h.sparing.paid none) (λ points s. c.in_ok-send.ensures.gives.spare m [] points (begun_issued g.F.Flights.planner _ _ old.log _ _ _ _ m h.sparing.begun none) s)
+                c.in_ok-send.ensures.log (c.args.self.now.whole none) old.sound.fence_within not c.use_slot-2.ensures.answer.so;
+            needed = λ open_. needed_used g.F.Flights.planner (target_of m.probe) (asks_of old.log) c.send.new.self.log c.use_slot-2.new.self c.args.slot (h.sparing.needed none) (ap (λ (l : LogState). l.calls) c.in_ok-send.ensures.log) (ap (λ (l : LogState). l.needs) c.in_ok-send.ensures.log) c.use_slot-2.ensures.answer.so;
           };
           set = h.set;
         };
@@ -70,39 +71,42 @@ returns-in-Ok-clause-ends g c = record {
   };
 }
 
-pub returns-in-Ok-clause-value : goal.returns-in-Ok-clause-value
-returns-in-Ok-clause-value g c = λ m answered h left.
+pub returns-clause-value : goal.returns-clause-value
+returns-clause-value g c = λ m answered h left.
     let old = c.args.self.now.sender in
     let mid = c.send.new.self in
     let none : old.log.end ≡ None = search rules in
-    let there = c.in-Ok.ensures.gives.on m [] (begun_issued g.F.Flights.planner _ _ old.log _ _ _ _ m h.sparing.begun none) in
-    let begun = begun_flushed g.F.Flights.planner _ (g.F.Flights.reported mid.flights) _ _ old.log mid.log _ _ [] [] _ _ _ _ _ m h.sparing.begun none (c.args.self.now.whole none) there c.in-Ok.ensures.log c.send.ensures.empty c.send.ensures.exchanges.managed in
-    let calls : mid.log.calls ≡ old.log.calls = ap (λ (l : LogState). l.calls) c.in-Ok.ensures.log in
-    let known : mid.log.known ≡ old.log.whole = ap (λ (l : LogState). l.known) c.in-Ok.ensures.log in
+    let there = c.in_ok-send.ensures.gives.on m [] (begun_issued g.F.Flights.planner _ _ old.log _ _ _ _ m h.sparing.begun none) in
+    let begun = begun_flushed g.F.Flights.planner _ (g.F.Flights.reported mid.flights) _ _ old.log mid.log _ _ [] [] _ _ _ _ _ m h.sparing.begun none (c.args.self.now.whole none) there c.in_ok-send.ensures.log c.send.ensures.empty c.send.ensures.exchanges.managed in
+    let calls : mid.log.calls ≡ old.log.calls = ap (λ (l : LogState). l.calls) c.in_ok-send.ensures.log in
+    let known : mid.log.known ≡ old.log.whole = ap (λ (l : LogState). l.known) c.in_ok-send.ensures.log in
     let whole : old.log.whole ≡ length old.log.calls = c.args.self.now.whole none in
     let counts : length mid.log.calls ≡ length old.log.calls = ap length calls in
     let within : mid.log.known ≤ length mid.log.results = (let s = mid.sound in let k = s.known_within in let l = s.results_long in omega (arith, k, l)) in
-    c.use_slot-in-Ok.ensures.value
-    ∙ known_result g.F.Flights.planner _ _ mid.log [] [] _ _ m answered c.args.slot.index begun (left_needs _ _ mid.log c.use_slot-in-Ok.new.self [] [] _ _ answered (used_new mid.log _ c.args.slot c.use_slot-in-Ok.ensures.answer.so) left) within (inr (omega (arith, known, whole, counts)))
+    c.use_slot-2.ensures.value
+    ∙ known_result g.F.Flights.planner _ _ mid.log [] [] _ _ m answered c.args.slot.index begun (left_needs _ _ mid.log c.use_slot-2.new.self [] [] _ _ answered (used_new mid.log _ c.args.slot c.use_slot-2.ensures.answer.so) left) within (inr (omega (arith, known, whole, counts)))
     ∙ ap (λ (l : List Ask). slice_index (results (world_from m answered) l) c.args.slot.index) calls
 
-pub returns-in-Err-clause-stops : goal.returns-in-Err-clause-stops
-returns-in-Err-clause-stops g c = λ m answered h left none.
-    let old = c.args.self.now.sender in
-    stops_flushed g.F.Flights.planner _ _ old.log _ _ _ _ m answered _ c.in-Err.stop h.sparing.begun none c.in-Err.ensures.some (c.in-Err.ensures.gives.stops m [] answered (begun_issued g.F.Flights.planner _ _ old.log _ _ _ _ m h.sparing.begun none) left)
+pub returns-in_err-send-clause-stops : goal.returns-in_err-send-clause-stops
+returns-in_err-send-clause-stops g c = λ m answered h left none.
+    let p = err_from_is_err_and c.from_residual.result c.from_residual.ensures.1 in
+    rw (p.1, p.2) (let old = c.args.self.now.sender in
+    stops_flushed g.F.Flights.planner _ _ old.log _ _ _ _ m answered _ c.in_err-send.field-0.0 h.sparing.begun none c.in_err-send.ensures.some (c.in_err-send.ensures.gives.stops m [] answered (begun_issued g.F.Flights.planner _ _ old.log _ _ _ _ m h.sparing.begun none) left))
 
-pub returns-in-Err-clause-ends : goal.returns-in-Err-clause-ends
-returns-in-Err-clause-ends g c = record {
-  no_end = search rules;
-  memory = search rules;
-  end = search rules;
-  ended = search rules;
-  keeps = record {
-    on = λ m h.
-        let old = c.args.self.now.sender in
-        let none : old.log.end ≡ None = search rules in
-        record { sparing = sparing_ended g.F.Flights.planner _ _ _ c.send.new.self.log _ _ _ _ m c.in-Err.stop (c.in-Err.ensures.gives.broke m [] (begun_issued g.F.Flights.planner _ _ old.log _ _ _ _ m h.sparing.begun none)) (ap (λ (l : LogState). l.end) c.in-Err.ensures.ended); set = h.set };
-    same_bench = search rules;
-    goes = search rules;
-  };
-}
+pub returns-in_err-send-clause-ends : goal.returns-in_err-send-clause-ends
+returns-in_err-send-clause-ends g c =
+    let p = err_from_is_err_and c.from_residual.result c.from_residual.ensures.1 in
+    rw (p.1, p.2) (record {
+      no_end = search rules;
+      memory = search rules;
+      end = search rules;
+      ended = search rules;
+      keeps = record {
+        on = λ m h.
+            let old = c.args.self.now.sender in
+            let none : old.log.end ≡ None = search rules in
+            record { sparing = sparing_ended g.F.Flights.planner _ _ _ c.send.new.self.log _ _ _ _ m c.in_err-send.field-0.0 (c.in_err-send.ensures.gives.broke m [] (begun_issued g.F.Flights.planner _ _ old.log _ _ _ _ m h.sparing.begun none)) (ap (λ (l : LogState). l.end) c.in_err-send.ensures.ended); set = h.set };
+        same_bench = search rules;
+        goes = search rules;
+      };
+    })

@@ -1,5 +1,6 @@
 use Rattle.std.proofs.Common.{◌∙◌, ◌+◌, ◌++◌, ◌∷◌, [], false, List, length, length-append, drop, get_or, refl, ap, subst, arith}
 use Rattle.std.proofs.lemmas.List.{at_drop_more}
+use Rattle.std.proofs.lemmas.Result.{err_from_is_err_and}
 use Rattle.target_machine.specs.Plain.{Makes}
 use Rattle.target_machine.specs.declared.access.RegAccess.{RegAccess}
 use Rattle.target_calls.specs.Journal.{Entry}
@@ -9,22 +10,25 @@ use Rattle.packed_access.specs.Begun.{HasIssued, StopsAfterLines, strict_entries
 use Rattle.packed_access.proofs.FrameLemmas.{asks_further, further_then}
 use Rattle.packed_access.proofs.sender.Sender.issue_all.Goals as goal
 
-pub returns-in-Err-clause-gives : goal.returns-in-Err-clause-gives
-returns-in-Err-clause-gives g c = record {
-  on = λ m0 rest h. tt;
-  spare = λ m0 rest points h s. tt;
-  broke = λ m0 rest h. c.in-Err.ensures.broke m0 _ (c.loop-access.invariant.on m0 rest h);
-  stops = λ m0 rest answered h left.
-      subst (λ (calls : List Ask). StopsAfterLines m0 answered calls c.issue.new.self.log.lines c.in-Err.stop) c.loop-access.invariant.further.calls
-      (c.in-Err.ensures.stops m0 _ answered (c.loop-access.invariant.on m0 rest h) left);
-}
+pub returns-in_err-issue-clause-gives : goal.returns-in_err-issue-clause-gives
+returns-in_err-issue-clause-gives g c =
+    let p = err_from_is_err_and c.from_residual.result c.from_residual.ensures.1 in
+    rw (p.1, p.2) (record {
+      on = λ m0 rest h. tt;
+      spare = λ m0 rest points h s. tt;
+      broke = λ m0 rest h. c.in_err-issue.ensures.broke m0 _ (c.loop-access.invariant.on m0 rest h);
+      stops = λ m0 rest answered h left.
+          subst (λ (calls : List Ask). StopsAfterLines m0 answered calls c.issue.new.self.log.lines c.in_err-issue.field-0.0) c.loop-access.invariant.further.calls
+          (c.in_err-issue.ensures.stops m0 _ answered (c.loop-access.invariant.on m0 rest h) left);
+    })
 
-pub returns-in-Err-clause-further : goal.returns-in-Err-clause-further
-returns-in-Err-clause-further g c =
+pub returns-in_err-issue-clause-further : goal.returns-in_err-issue-clause-further
+returns-in_err-issue-clause-further g c =
     let before = c.loop-access.invariant in
     let now = c.issue.ensures.further in
     let keeps = now.step.keeps in
-    record {
+    let p = err_from_is_err_and c.from_residual.result c.from_residual.ensures.1 in
+    rw (p.1, p.2) (record {
       step = record {
         keeps = record {
           same_bench = keeps.same_bench ∙ before.identity;
@@ -32,12 +36,12 @@ returns-in-Err-clause-further g c =
           calls = keeps.calls ∙ before.further.calls;
           goes = goes_trans _ _ _ before.goes keeps.goes;
         };
-        ends = c.in-Err.ensures.further.step.ends;
+        ends = c.in_err-issue.ensures.further.step.ends;
       };
       asks = now.asks ∙ asks_further _ _ before.further;
       so = tt;
       managed = now.managed ∙ before.managed;
-    }
+    })
 
 pub loop-access-preserved : goal.loop-access-preserved
 loop-access-preserved g c =
@@ -47,7 +51,7 @@ loop-access-preserved g c =
     let entry : Entry = record { unit = c.args.unit; part = c.args.part; forgiving = false; action = Makes access } in
     let mid = c.loop-access.self in
     let before = c.loop-access.invariant in
-    let now = c.in-Ok.ensures in
+    let now = c.in_ok-issue.ensures in
     record {
       on = λ m0 rest h.
           let there = at_drop_more (λ (l : List RegAccess). strict_entries c.args.unit c.args.part l ++ rest) accesses i (record { ap = false; read = false; addr = 0; value = 0 }) c.loop-access-test.true in

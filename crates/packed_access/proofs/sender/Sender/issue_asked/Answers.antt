@@ -10,8 +10,8 @@ use Rattle.target_calls.specs.declared.calls.Ask.{Ask}
 use Rattle.packed_access.proofs.sender.Sender.issue_asked.Goals as goal
 use Rattle.access_regs.proofs.AllCalls.{strict_unless}
 
-pub returns-in-Ok-clause-small : goal.returns-in-Ok-clause-small
-returns-in-Ok-clause-small g c = λ m0 calls ask set is h.
+pub returns-in_ok-ask_poll-in-Poll-clause-small : goal.returns-in_ok-ask_poll-in-Poll-clause-small
+returns-in_ok-ask_poll-in-Poll-clause-small g c = λ m0 calls ask set is h.
     sym (ap (small_now (start_world (target_of m0.probe) None) calls) is ∙ never_narrow (target_of m0.probe) calls None c.args.unit.now c.args.forgive (ap is_wide c.in-Poll.is))
 
 pub returns-else-makes_alone : goal.returns-else-makes_alone

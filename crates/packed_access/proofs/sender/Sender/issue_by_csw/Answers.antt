@@ -1,4 +1,5 @@
 use Rattle.std.proofs.Common.{rules, ◌≡◌, ◌∙◌, ◌<◌, ◌++◌, [], List, length, true, false, Ok, Err, arith, sym, ap, subst}
+use Rattle.std.proofs.lemmas.Result.{err_from_is_err_and}
 use Rattle.std.specs.Prelude.{IfErr, OnOk}
 use Rattle.target_calls.specs.Journal.{Entry}
 use Rattle.target_calls.specs.declared.calls.Ask.{Ask}
@@ -29,22 +30,23 @@ returns-then-not-needs_csw-clause-gives g c =
           c.issue_unit.ensures.gives.stops m0 [] answered (subst (λ (l : List Entry). HasIssued g.F.Flights.planner (g.F.Flights.state old.flights) old.log (g.F.Flights.accesses old.flights) l m0) (plain_left (length old.log.calls) (target_issued g.F.Flights.planner old.log m0) old.managed c.args.unit.now some c.requires.sound.no_poll needs) h) left;
     }
 
-pub returns-in-Err-clause-gives : goal.returns-in-Err-clause-gives
-returns-in-Err-clause-gives g c =
+pub returns-in_err-read_csw-clause-gives : goal.returns-in_err-read_csw-clause-gives
+returns-in_err-read_csw-clause-gives g c =
     let old = c.args.self.now in
     let some : 0 < length old.log.calls = (let w = c.requires.ready.whole in omega (arith, w)) in
     let needs : needs_csw old.managed c.args.unit.now ≡ true = search rules in
-    record {
+    let p = err_from_is_err_and c.from_residual.result c.from_residual.ensures.1 in
+    rw (p.1, p.2) (record {
       on = λ m0 h. tt;
       spare = λ m0 left h s. tt;
       broke = λ m0 h.
-          c.in-Err.ensures.gives.broke m0 _ (subst (λ (l : List Entry). HasIssued g.F.Flights.planner (g.F.Flights.state old.flights) old.log (g.F.Flights.accesses old.flights) l m0) (csw_left (length old.log.calls) (target_issued g.F.Flights.planner old.log m0) old.managed c.args.unit.now some c.requires.sound.no_poll needs) h);
+          c.in_err-read_csw.ensures.gives.broke m0 _ (subst (λ (l : List Entry). HasIssued g.F.Flights.planner (g.F.Flights.state old.flights) old.log (g.F.Flights.accesses old.flights) l m0) (csw_left (length old.log.calls) (target_issued g.F.Flights.planner old.log m0) old.managed c.args.unit.now some c.requires.sound.no_poll needs) h);
       stops = λ m0 answered h left.
-          c.in-Err.ensures.gives.stops m0 _ answered (subst (λ (l : List Entry). HasIssued g.F.Flights.planner (g.F.Flights.state old.flights) old.log (g.F.Flights.accesses old.flights) l m0) (csw_left (length old.log.calls) (target_issued g.F.Flights.planner old.log m0) old.managed c.args.unit.now some c.requires.sound.no_poll needs) h) left;
-    }
+          c.in_err-read_csw.ensures.gives.stops m0 _ answered (subst (λ (l : List Entry). HasIssued g.F.Flights.planner (g.F.Flights.state old.flights) old.log (g.F.Flights.accesses old.flights) l m0) (csw_left (length old.log.calls) (target_issued g.F.Flights.planner old.log m0) old.managed c.args.unit.now some c.requires.sound.no_poll needs) h) left;
+    })
 
-pub returns-in-Ok-clause-gives : goal.returns-in-Ok-clause-gives
-returns-in-Ok-clause-gives g c =
+pub returns-clause-gives : goal.returns-clause-gives
+returns-clause-gives g c =
     let old = c.args.self.now in
     let mid = c.read_csw.new.self in
     let some : 0 < length old.log.calls = (let w = c.requires.ready.whole in omega (arith, w)) in
@@ -54,30 +56,30 @@ returns-in-Ok-clause-gives g c =
           let k : Kept = learned old.managed (port_of c.args.unit.now) (gives (target_issued g.F.Flights.planner old.log m0) (first_plan old.managed (port_of c.args.unit.now))) in
           let first : HasIssued g.F.Flights.planner (g.F.Flights.state old.flights) old.log (g.F.Flights.accesses old.flights) (strict_entries (length old.log.calls) Leads (first_plan old.managed (port_of c.args.unit.now)) ++ plan_entries (length old.log.calls) k c.args.unit.now) m0 =
           subst (λ (l : List Entry). HasIssued g.F.Flights.planner (g.F.Flights.state old.flights) old.log (g.F.Flights.accesses old.flights) l m0) (csw_left (length old.log.calls) (target_issued g.F.Flights.planner old.log m0) old.managed c.args.unit.now some c.requires.sound.no_poll needs) h in
-          c.issue_unit-in-Ok.ensures.gives.on m0 [] (plan_now g.F.Flights.planner _ mid.log _ _ k mid.managed c.args.unit.now (length old.log.calls) m0 (c.in-Ok.ensures.gives.on m0 _ first) c.in-Ok.ensures.empty (c.in-Ok.ensures.gives.kept m0 _ first) (ap length c.read_csw.ensures.issues.step.keeps.calls));
+          c.issue_unit-2.ensures.gives.on m0 [] (plan_now g.F.Flights.planner _ mid.log _ _ k mid.managed c.args.unit.now (length old.log.calls) m0 (c.in_ok-read_csw.ensures.gives.on m0 _ first) c.in_ok-read_csw.ensures.empty (c.in_ok-read_csw.ensures.gives.kept m0 _ first) (ap length c.read_csw.ensures.issues.step.keeps.calls));
       spare = λ m0 left h s.
           let k : Kept = learned old.managed (port_of c.args.unit.now) (gives (target_issued g.F.Flights.planner old.log m0) (first_plan old.managed (port_of c.args.unit.now))) in
           let first : HasIssued g.F.Flights.planner (g.F.Flights.state old.flights) old.log (g.F.Flights.accesses old.flights) (strict_entries (length old.log.calls) Leads (first_plan old.managed (port_of c.args.unit.now)) ++ plan_entries (length old.log.calls) k c.args.unit.now) m0 =
           subst (λ (l : List Entry). HasIssued g.F.Flights.planner (g.F.Flights.state old.flights) old.log (g.F.Flights.accesses old.flights) l m0) (csw_left (length old.log.calls) (target_issued g.F.Flights.planner old.log m0) old.managed c.args.unit.now some c.requires.sound.no_poll needs) h in
-          let there = plan_now g.F.Flights.planner _ mid.log _ _ k mid.managed c.args.unit.now (length old.log.calls) m0 (c.in-Ok.ensures.gives.on m0 _ first) c.in-Ok.ensures.empty (c.in-Ok.ensures.gives.kept m0 _ first) (ap length c.read_csw.ensures.issues.step.keeps.calls) in
-          let read = c.in-Ok.ensures.spare m0 _ left first s in
-          spared_further g.F.Flights.planner _ _ _ mid.log c.issue_unit-in-Ok.new.self.log read.paid left c.issue_unit-in-Ok.result m0 read.covers c.issue_unit-in-Ok.ensures.further.so
-          (c.issue_unit-in-Ok.ensures.gives.spare m0 [] read.paid there read.spared);
+          let there = plan_now g.F.Flights.planner _ mid.log _ _ k mid.managed c.args.unit.now (length old.log.calls) m0 (c.in_ok-read_csw.ensures.gives.on m0 _ first) c.in_ok-read_csw.ensures.empty (c.in_ok-read_csw.ensures.gives.kept m0 _ first) (ap length c.read_csw.ensures.issues.step.keeps.calls) in
+          let read = c.in_ok-read_csw.ensures.spare m0 _ left first s in
+          spared_further g.F.Flights.planner _ _ _ mid.log c.issue_unit-2.new.self.log read.paid left c.issue_unit-2.result m0 read.covers c.issue_unit-2.ensures.further.so
+          (c.issue_unit-2.ensures.gives.spare m0 [] read.paid there read.spared);
       broke = λ m0 h.
           let k : Kept = learned old.managed (port_of c.args.unit.now) (gives (target_issued g.F.Flights.planner old.log m0) (first_plan old.managed (port_of c.args.unit.now))) in
           let first : HasIssued g.F.Flights.planner (g.F.Flights.state old.flights) old.log (g.F.Flights.accesses old.flights) (strict_entries (length old.log.calls) Leads (first_plan old.managed (port_of c.args.unit.now)) ++ plan_entries (length old.log.calls) k c.args.unit.now) m0 =
           subst (λ (l : List Entry). HasIssued g.F.Flights.planner (g.F.Flights.state old.flights) old.log (g.F.Flights.accesses old.flights) l m0) (csw_left (length old.log.calls) (target_issued g.F.Flights.planner old.log m0) old.managed c.args.unit.now some c.requires.sound.no_poll needs) h in
-          c.issue_unit-in-Ok.ensures.gives.broke m0 [] (plan_now g.F.Flights.planner _ mid.log _ _ k mid.managed c.args.unit.now (length old.log.calls) m0 (c.in-Ok.ensures.gives.on m0 _ first) c.in-Ok.ensures.empty (c.in-Ok.ensures.gives.kept m0 _ first) (ap length c.read_csw.ensures.issues.step.keeps.calls));
+          c.issue_unit-2.ensures.gives.broke m0 [] (plan_now g.F.Flights.planner _ mid.log _ _ k mid.managed c.args.unit.now (length old.log.calls) m0 (c.in_ok-read_csw.ensures.gives.on m0 _ first) c.in_ok-read_csw.ensures.empty (c.in_ok-read_csw.ensures.gives.kept m0 _ first) (ap length c.read_csw.ensures.issues.step.keeps.calls));
       stops = λ m0 answered h left.
           let k : Kept = learned old.managed (port_of c.args.unit.now) (gives (target_issued g.F.Flights.planner old.log m0) (first_plan old.managed (port_of c.args.unit.now))) in
           let first : HasIssued g.F.Flights.planner (g.F.Flights.state old.flights) old.log (g.F.Flights.accesses old.flights) (strict_entries (length old.log.calls) Leads (first_plan old.managed (port_of c.args.unit.now)) ++ plan_entries (length old.log.calls) k c.args.unit.now) m0 =
           subst (λ (l : List Entry). HasIssued g.F.Flights.planner (g.F.Flights.state old.flights) old.log (g.F.Flights.accesses old.flights) l m0) (csw_left (length old.log.calls) (target_issued g.F.Flights.planner old.log m0) old.managed c.args.unit.now some c.requires.sound.no_poll needs) h in
-          subst (λ (calls : List Ask). IfErr c.issue_unit-in-Ok.result (StopsAfterLines m0 answered calls c.issue_unit-in-Ok.new.self.log.lines)) c.read_csw.ensures.issues.step.keeps.calls
-          (c.issue_unit-in-Ok.ensures.gives.stops m0 [] answered (plan_now g.F.Flights.planner _ mid.log _ _ k mid.managed c.args.unit.now (length old.log.calls) m0 (c.in-Ok.ensures.gives.on m0 _ first) c.in-Ok.ensures.empty (c.in-Ok.ensures.gives.kept m0 _ first) (ap length c.read_csw.ensures.issues.step.keeps.calls)) left);
+          subst (λ (calls : List Ask). IfErr c.issue_unit-2.result (StopsAfterLines m0 answered calls c.issue_unit-2.new.self.log.lines)) c.read_csw.ensures.issues.step.keeps.calls
+          (c.issue_unit-2.ensures.gives.stops m0 [] answered (plan_now g.F.Flights.planner _ mid.log _ _ k mid.managed c.args.unit.now (length old.log.calls) m0 (c.in_ok-read_csw.ensures.gives.on m0 _ first) c.in_ok-read_csw.ensures.empty (c.in_ok-read_csw.ensures.gives.kept m0 _ first) (ap length c.read_csw.ensures.issues.step.keeps.calls)) left);
     }
 
-pub returns-in-Ok-clause-kept : goal.returns-in-Ok-clause-kept
-returns-in-Ok-clause-kept g c = λ m0 h.
+pub returns-clause-kept : goal.returns-clause-kept
+returns-clause-kept g c = λ m0 h.
     let old = c.args.self.now in
     let mid = c.read_csw.new.self in
     let some : 0 < length old.log.calls = (let w = c.requires.ready.whole in omega (arith, w)) in
@@ -85,17 +87,17 @@ returns-in-Ok-clause-kept g c = λ m0 h.
     let k : Kept = learned old.managed (port_of c.args.unit.now) (gives (target_issued g.F.Flights.planner old.log m0) (first_plan old.managed (port_of c.args.unit.now))) in
     let first : HasIssued g.F.Flights.planner (g.F.Flights.state old.flights) old.log (g.F.Flights.accesses old.flights) (strict_entries (length old.log.calls) Leads (first_plan old.managed (port_of c.args.unit.now)) ++ plan_entries (length old.log.calls) k c.args.unit.now) m0 =
     subst (λ (l : List Entry). HasIssued g.F.Flights.planner (g.F.Flights.state old.flights) old.log (g.F.Flights.accesses old.flights) l m0) (csw_left (length old.log.calls) (target_issued g.F.Flights.planner old.log m0) old.managed c.args.unit.now some c.requires.sound.no_poll needs) h in
-    let is : c.issue_unit-in-Ok.new.self.managed ≡ (by_csw (target_issued g.F.Flights.planner old.log m0) old.managed c.args.unit.now).kept =
-    c.issue_unit-in-Ok.ensures.further.managed ∙ ap (λ (q : Kept). made q c.args.unit.now) (c.in-Ok.ensures.gives.kept m0 _ first) ∙ sym (csw_steps 0 (target_issued g.F.Flights.planner old.log m0) old.managed c.args.unit.now needs).1 in
-    elim c.issue_unit-in-Ok.result as (λ r. OnOk r (c.issue_unit-in-Ok.new.self.managed ≡ (by_csw (target_issued g.F.Flights.planner old.log m0) old.managed c.args.unit.now).kept)) [ Ok done ↦ is | Err s ↦ tt ]
+    let is : c.issue_unit-2.new.self.managed ≡ (by_csw (target_issued g.F.Flights.planner old.log m0) old.managed c.args.unit.now).kept =
+    c.issue_unit-2.ensures.further.managed ∙ ap (λ (q : Kept). made q c.args.unit.now) (c.in_ok-read_csw.ensures.gives.kept m0 _ first) ∙ sym (csw_steps 0 (target_issued g.F.Flights.planner old.log m0) old.managed c.args.unit.now needs).1 in
+    elim c.issue_unit-2.result as (λ r. OnOk r (c.issue_unit-2.new.self.managed ≡ (by_csw (target_issued g.F.Flights.planner old.log m0) old.managed c.args.unit.now).kept)) [ Ok done ↦ is | Err s ↦ tt ]
 
-pub returns-in-Ok-clause-issues : goal.returns-in-Ok-clause-issues
-returns-in-Ok-clause-issues g c = record {
+pub returns-clause-issues : goal.returns-clause-issues
+returns-clause-issues g c = record {
   step = search (rules, keeps_on);
   entries = search rules;
   whole = search rules;
   room = search rules;
-  fenced = never_past _ c.read_csw.new.self.log c.issue_unit-in-Ok.new.self.log c.issue_unit-in-Ok.result c.issue_unit-in-Ok.ensures.further.so c.issue_unit-in-Ok.ensures.further.step.keeps.goes.known c.in-Ok.ensures.fenced;
+  fenced = never_past _ c.read_csw.new.self.log c.issue_unit-2.new.self.log c.issue_unit-2.result c.issue_unit-2.ensures.further.so c.issue_unit-2.ensures.further.step.keeps.goes.known c.in_ok-read_csw.ensures.fenced;
 }
 
 pub returns-then-not-needs_csw-clause-issues : goal.returns-then-not-needs_csw-clause-issues
