@@ -15,12 +15,9 @@ use Rattle.dap_messages.specs.declared.command.PacketKind.{PacketKind}
 use Rattle.dap_messages.specs.declared.command.PacketKind.TheVariants.{Plain, Execute, Queue}
 use Rattle.dap_messages.specs.declared.command_value.CommandValue.{CommandValue}
 use Rattle.dap_messages.specs.declared.error.MessageError.{MessageError}
-use Rattle.dap_messages.specs.declared.request.RequestKind.{RequestKind}
-use Rattle.dap_messages.specs.declared.request.RequestKind.TheVariants.{Posted, Read, Match, Mask, Write}
 use Rattle.dap_messages.specs.declared.request.Response.{Response}
 use Rattle.dap_messages.specs.declared.request.Response.TheVariants.{Good, Wait, Fault, Mismatch}
 use Rattle.dap_replies.proofs.ReplyLaws.{response-code, response_is}
-use Rattle.dap_transfer.specs.Laws.{IsNormalKind}
 use Rattle.dap_transfer.specs.State.{is_good}
 use Rattle.flight_forms.specs.Chains.{joined_as, nothing_yet}
 use Rattle.flight_forms.specs.Flights.{Part}
@@ -36,15 +33,9 @@ use Rattle.batch_packer.proofs.PacketLemmas.{fits_packet, reads_packet}
 use Rattle.batch_packer.specs.Readings.{part_as, part_in, shown_in}
 use Rattle.bench_flights.proofs.CauseLemmas.{IsShownAt}
 use Rattle.bench_flights.proofs.ReplyReads.{block_read, transfer_read}
+use Rattle.batch_packer.proofs.ChainBench.{packet_count}
 
 -- ---- no access of a flight is a value match
-
-kind_unmatched : (k : RequestKind) → IsNormalKind k → is_match k ≡ false
-kind_unmatched Posted h = refl
-kind_unmatched Read h = refl
-kind_unmatched Match h = absurd h
-kind_unmatched Mask h = refl
-kind_unmatched Write h = refl
 
 -- of a guarded command only the first request is one
 first_matches : (accesses : List RegAccess) (n : ℕ) → passes is_match (kind_at (guarded_requests accesses) n) ≡ true → n ≡ 0
@@ -403,10 +394,6 @@ module _ (size : ℕ) (last : Exchange) (short : size ≤ 1024) (queue : is_queu
 
   pub chain_shows : (parts : List (List RegAccess)) → FitChain size parts → last.packets ≡ chain_packets parts → length last.replies ≡ length last.packets → ComesTo (readings_after (Some nothing_yet) parts last.replies) (ended_at (Some nothing_yet) 0 0 parts last.replies)
   chain_shows parts fit packets long =
-      chain_comes 0 0 nothing_yet parts last.replies fit (long ∙ ap length packets ∙ chain_long parts)
+      chain_comes 0 0 nothing_yet parts last.replies fit (long ∙ ap length packets ∙ packet_count parts)
       (record { sent = λ k. ap (λ (l : List (List ℕ)). slice_get l k) (sym packets) ∙ ap (slice_get last.packets) (let e : k ≡ 0 + k = omega arith in e); got = λ k. ap (slice_get last.replies) (let e : k ≡ 0 + k = omega arith in e) })
       (inl (record { good = refl; whole = λ j less. absurd (omega (arith, less)) }))
-    where
-      chain_long : (parts : List (List RegAccess)) → length (chain_packets parts) ≡ length parts
-      chain_long [] = refl
-      chain_long (p ∷ parts) = ap (λ n. suc n) (chain_long parts)

@@ -21,16 +21,16 @@ pub names_more : (names : List (List ℕ)) (xs : List Stmt) (i : ℕ) (x : Stmt)
     → names_after_all names (code_trees (take (i + 1) xs)) ≡ names_after (names_after_all names (code_trees (take i xs))) (stmt_tree (get_or xs i x))
 names_more names xs i x h = ap (names_after_all names) (code_trees-take xs i x h) ∙ names_after_all-append names (code_trees (take i xs)) (stmt_tree (get_or xs i x))
 
-abbrev last : Scope → List StmtTree → StmtTree → CodeFault → Type 0
+abbrev pub last : Scope → List StmtTree → StmtTree → CodeFault → Type 0
 last s code st = StmtFault (seeing s (names_after_all s.visible code)) st
 
-block_to : (s : Scope) (code : List StmtTree) (st : StmtTree) (f : CodeFault) → InEither (BlockFault s code) (last s code st) f → BlockFault s (code ++ st ∷ []) f
+pub block_to : (s : Scope) (code : List StmtTree) (st : StmtTree) (f : CodeFault) → InEither (BlockFault s code) (last s code st) f → BlockFault s (code ++ st ∷ []) f
 block_to s [] st f h = elim h [ here p ↦ elim p [ ] | there q ↦ here q ]
 block_to s (x ∷ code) st f h =
     let s' = seeing s (names_after s.visible x) in
     elim h [ here p ↦ elim p [ here u ↦ here u | there v ↦ there (block_to s' code st f (here v)) ] | there q ↦ there (block_to s' code st f (there q)) ]
 
-block_from : (s : Scope) (code : List StmtTree) (st : StmtTree) (f : CodeFault) → BlockFault s (code ++ st ∷ []) f → InEither (BlockFault s code) (last s code st) f
+pub block_from : (s : Scope) (code : List StmtTree) (st : StmtTree) (f : CodeFault) → BlockFault s (code ++ st ∷ []) f → InEither (BlockFault s code) (last s code st) f
 block_from s [] st f h = elim h [ here p ↦ there p | there q ↦ elim q [ ] ]
 block_from s (x ∷ code) st f h =
     let s' = seeing s (names_after s.visible x) in

@@ -1,12 +1,10 @@
 -- What a run starts with.
-use Rattle.std.proofs.Common.{◌≡◌, ◌<◌, ◌≤◌, ℕ, zero, suc, ◌+◌, Bool, true, false, cond, List, [], ◌∷◌, ◌++◌, map, take, drop, length, get_or, slice_get, Option, Some, refl, sym, ap, subst, ◌∙◌, arith, bytes_eq}
-use Rattle.std.proofs.lemmas.List.{drop_all, drop_more, get_or-map, length-map, map-append, take_more}
-use Rattle.expr_grammar.specs.Tree as t
-use Rattle.expr_grammar.specs.Tree.{StmtTree, stmt_tree, code_trees}
-use Rattle.expr_grammar.specs.declared.code.Stmt as statement
+use Rattle.std.proofs.Common.{◌≡◌, ◌<◌, ℕ, zero, suc, ◌+◌, true, false, cond, List, [], ◌∷◌, ◌++◌, map, take, length, get_or, slice_get, Option, Some, refl, sym, ap, subst, ◌∙◌, arith, bytes_eq}
+use Rattle.std.proofs.lemmas.List.{map-append, take_more}
 use Rattle.function_table.specs.Variables.{predefined}
 use Rattle.sequence_trees.specs.Trees.{SetTrees}
 use Rattle.target_machine.specs.declared.unit.Variable.{Variable}
+use Rattle.sequence_rules.proofs.StartLemmas.{new_name}
 use Rattle.sequence_rules.specs.declared.bindings.Binding.{Binding}
 use Rattle.target_calls.specs.NeedPoints.{Costs, nothing_asked}
 use Rattle.target_calls.specs.Values.{number_of, IsAsked}
@@ -24,61 +22,20 @@ use Rattle.control_flow.specs.Closing.{bindings_as_values, numbers_in, AreAsked}
 
 -- ---- the predefined variables have names of their own
 
-has : List (List ℕ) → List ℕ → Bool
-has [] n = false
-has (x ∷ xs) n = cond (bytes_eq n x) true (has xs n)
-
-has_is : (vs : List Variable) (i : ℕ) (n : List ℕ) → has_in (bindings_as_values (variables_of (take i vs))) n ≡ has (take i (map (λ v. v.name) vs)) n
-unfolding has
-has_is [] zero n = refl
-has_is [] (suc i) n = refl
-has_is (v ∷ vs) zero n = refl
-has_is (v ∷ vs) (suc i) n = ap (λ b. cond (bytes_eq n v.name) true b) (has_is vs i n)
-
-own_name : (i : ℕ) → i < 7 → has (take i predefined) (get_or predefined i []) ≡ false
-unfolding has
-own_name zero h = refl
-own_name (suc zero) h = refl
-own_name (suc (suc zero)) h = refl
-own_name (suc (suc (suc zero))) h = refl
-own_name (suc (suc (suc (suc zero)))) h = refl
-own_name (suc (suc (suc (suc (suc zero))))) h = refl
-own_name (suc (suc (suc (suc (suc (suc zero)))))) h = refl
-own_name (suc (suc (suc (suc (suc (suc (suc i))))))) h = absurd (omega arith)
-
-new_name : (vs : List Variable) (i : ℕ) (d : Variable) → map (λ v. v.name) vs ≡ predefined → i < length vs → has_in (bindings_as_values (variables_of (take i vs))) (get_or vs i d).name ≡ false
-new_name vs i d same h =
-    let seven : length vs ≡ 7 = sym (length-map vs (λ (v : Variable). v.name)) ∙ ap length same in
-    let named : (get_or vs i d).name ≡ get_or predefined i [] = sym (get_or-map (λ (v : Variable). v.name) vs i d [] h) ∙ ap (λ ns. get_or ns i []) same in
-    has_is vs i (get_or vs i d).name ∙ ap (λ ns. has (take i ns) (get_or vs i d).name) same ∙ ap (has (take i predefined)) named ∙ own_name i (omega arith)
+has_value : (bs : List (Binding ℕ)) (n : List ℕ) → has_in (bindings_as_values bs) n ≡ has_in bs n
+has_value [] n = refl
+has_value (b ∷ bs) n = ap (λ x. cond (bytes_eq n b.name) true x) (has_value bs n)
 
 -- one more of them
 pub start_more : (vs : List Variable) (i : ℕ) (d v : Variable) (old new : List (Binding Value)) → map (λ v. v.name) vs ≡ predefined → i < length vs → v ≡ get_or vs i d → old ≡ bindings_as_values (variables_of (take i vs)) → new ≡ with_new old v.name (Number v.value)
     → new ≡ bindings_as_values (variables_of (take (i + 1) vs))
 start_more vs i d v old new same h is was add =
-    let fresh : has_in old v.name ≡ false = ap (λ bs. has_in bs v.name) was ∙ ap (λ x. has_in (bindings_as_values (variables_of (take i vs))) x.name) is ∙ new_name vs i d same h in
+    let fresh : has_in old v.name ≡ false = ap (λ bs. has_in bs v.name) was ∙ ap (λ x. has_in (bindings_as_values (variables_of (take i vs))) x.name) is ∙ has_value (variables_of (take i vs)) (get_or vs i d).name ∙ new_name vs i d same h in
     add ∙ ap (λ b. cond b old (old ++ bound v.name (Number v.value) ∷ [])) fresh ∙ ap (λ bs. bs ++ bound v.name (Number v.value) ∷ []) was
     ∙ ap (λ x. bindings_as_values (variables_of (take i vs)) ++ bound x.name (Number x.value) ∷ []) is
     ∙ sym (ap (λ l. bindings_as_values (variables_of l)) (take_more vs i d h)
     ∙ ap bindings_as_values (map-append (λ (x : Variable). record { name = x.name; value = x.value }) (take i vs) (get_or vs i d ∷ []))
     ∙ map-append (λ (b : Binding ℕ). record { name = b.name; value = Number b.value }) (variables_of (take i vs)) (bound (get_or vs i d).name (get_or vs i d).value ∷ []))
-
--- ---- the debug variables
-
-first_declared : (st : StmtTree) (code : List StmtTree) (bs : List (Binding Value)) (v : Value) → with_all_new bs (declared_names (st ∷ code)) v ≡ with_all_new (with_all_new bs (declared_names (st ∷ [])) v) (declared_names code) v
-first_declared (t.Empty at) code bs v = refl
-first_declared (t.Declare name e) code bs v = refl
-first_declared (t.Plain at e) code bs v = refl
-
-pub declared_more : (xs : List statement.Stmt) (i : ℕ) (d one : statement.Stmt) (whole old new : List (Binding Value)) → i < length xs → one ≡ get_or xs i d → whole ≡ with_all_new old (declared_names (code_trees (drop i xs))) (Number 0)
-    → new ≡ with_all_new old (declared_names (stmt_tree one ∷ [])) (Number 0) → whole ≡ with_all_new new (declared_names (code_trees (drop (i + 1) xs))) (Number 0)
-declared_more xs i d one whole old new h is same add =
-    same ∙ ap (λ l. with_all_new old (declared_names (code_trees l)) (Number 0)) (drop_more xs i d h) ∙ first_declared (stmt_tree (get_or xs i d)) (code_trees (drop (i + 1) xs)) old (Number 0)
-    ∙ ap (λ x. with_all_new (with_all_new old (declared_names (stmt_tree x ∷ [])) (Number 0)) (declared_names (code_trees (drop (i + 1) xs))) (Number 0)) (sym is)
-    ∙ ap (λ bs. with_all_new bs (declared_names (code_trees (drop (i + 1) xs))) (Number 0)) (sym add)
-
-pub declared_over : (xs : List statement.Stmt) (i : ℕ) (whole old : List (Binding Value)) → length xs ≤ i → whole ≡ with_all_new old (declared_names (code_trees (drop i xs))) (Number 0) → old ≡ whole
-declared_over xs i whole old h same = sym (same ∙ ap (λ l. with_all_new old (declared_names (code_trees l)) (Number 0)) (drop_all i xs h))
 
 -- ---- the variables of an answer
 

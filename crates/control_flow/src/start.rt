@@ -1,25 +1,21 @@
 //! What a run starts with.
-ghost use Rattle.std.specs.Prelude.{◌≡◌, ◌∷◌, [], ℕ, List, Option, IfOk, OnOk, map};
+ghost use Rattle.std.specs.Prelude.{◌≡◌, ℕ, List, Option, IfOk, map};
 ghost use Rattle.target_calls.specs.NeedPoints.{Costs, nothing_asked};
 ghost use Rattle.target_calls.specs.World.{World};
-ghost use Rattle.target_calls.specs.declared.calls.Value.TheVariants.{Number};
-ghost use Rattle.expr_grammar.specs.Tree.{code_trees, stmt_tree};
 ghost use Rattle.function_table.specs.Variables.{predefined};
 ghost use Rattle.seq_check.specs.Answers.{checked_trees};
 ghost use Rattle.sequence_rules.specs.Late.{late, late_of};
 ghost use Rattle.sequence_rules.specs.Runs as r;
 ghost use Rattle.sequence_rules.specs.Shared.{bindings_of};
-ghost use Rattle.sequence_rules.specs.Steps.{declared_names, start_state};
-ghost use Rattle.sequence_rules.specs.Variables.{with_all_new};
+ghost use Rattle.sequence_rules.specs.Steps.{start_state};
 ghost use Rattle.function_calls.specs.Held.{late_state_of};
 ghost use Rattle.sequence_rules.specs.Runs.{variables_of};
 ghost use Rattle.control_flow.specs.Closing.{bindings_as_values};
 
 use dap_base::OutOfMemory;
-use expr_grammar::Stmt;
 use function_calls::Held;
 use seq_check::Checked;
-use sequence_rules::Globals;
+use sequence_rules::{Globals, add_declared};
 use std::alloc::Global;
 use target_calls::Value;
 use target_machine::{Settings, Variable};
@@ -34,30 +30,6 @@ fn make_globals(alloc: Global, start: &[Variable]) -> Result<Globals<Value>, Out
         globals.add(alloc, variable.name.as_str(), Value::Number(variable.value))?;
     }
     Ok(globals)
-}
-
-// The variable that a statement declares, at 0.
-fn add_one(globals: &mut Globals<Value>, alloc: Global, one: &Stmt) -> Result<(), OutOfMemory>
-    ensures { OnOk result (bindings_of globals.new ≡ with_all_new (bindings_of globals.old) (declared_names (stmt_tree one.now ∷ [])) (Number 0)) }
-{
-    match one {
-        Stmt::Declare(name, _) => globals.add(alloc, name.text.as_str(), Value::Number(0)),
-        Stmt::Empty(_) | Stmt::Plain(_, _) => Ok(()),
-    }
-}
-
-// The debug variables, at 0.
-fn add_declared(
-    globals: &mut Globals<Value>,
-    alloc: Global,
-    code: &[Stmt],
-) -> Result<(), OutOfMemory>
-    ensures { OnOk result (bindings_of globals.new ≡ with_all_new (bindings_of globals.old) (declared_names (code_trees code.now)) (Number 0)) }
-{
-    for one in code {
-        add_one(globals, alloc, one)?;
-    }
-    Ok(())
 }
 
 // What a run holds at its start: the predefined variables with their starting values, and the debug variables at 0.

@@ -1,7 +1,7 @@
 -- An access made at once is the call of its unit.
 use Rattle.std.proofs.Common.{◌≡◌, ◌∙◌, ℕ, ◌/◌, ◌%◌, Bool, true, false, cond, not, ◌&&◌, length, take, List, [], ◌∷◌, ◌++◌, map, sym, subst, refl, ap}
 use Rattle.std.proofs.lemmas.List.{append-nil}
-use Rattle.target_machine.specs.Attempt.{Attempt, attempt, is_free}
+use Rattle.target_machine.specs.Attempt.{Attempt, attempt}
 use Rattle.target_machine.specs.Plain.{Action, Makes, CallDone, CallEnd, Answered, Skipped, Faulted, Small, in_order, is_fault, given, issued, csw_actions, cfg_actions, transfer_actions, memory_actions, has_large, contains, needs_cfg, unit_actions, result_of, from_lanes, may_forgive, ended, commanded, forgives, call_done, select_of, ap_access_of, dp_read_of, dp_write_of, polled}
 use Rattle.target_calls.specs.World.{is_faulted}
 use Rattle.dap_base.specs.Bits.{has_bit}
@@ -13,7 +13,6 @@ use Rattle.target_machine.specs.declared.access.RegAccess.{RegAccess}
 use Rattle.target_machine.specs.declared.unit.Call.{Call}
 use Rattle.target_machine.specs.declared.unit.Call.TheVariants.{Access, Probe}
 use Rattle.target_machine.specs.declared.unit.ProbeCall.{ProbeCall}
-use Rattle.target_machine.specs.declared.unit.ProbeCall.TheVariants as probe
 use Rattle.target_machine.specs.declared.unit.Unit.{Unit as AccessUnit}
 use Rattle.target_machine.specs.declared.unit.Unit.TheVariants as unit
 use Rattle.direct_calls.specs.Made.{IsDone, end_by, memory_end_by}
@@ -248,23 +247,13 @@ skipped_end t large f call e v w r h hw d =
 
 -- ---- commands of the probe
 
-free_either : (b : Bool) (x y : Attempt) → is_fault y.outcome ≡ false → is_fault (cond (b && false) x y).outcome ≡ false
-free_either true x y h = h
-free_either false x y h = h
-
--- none of them faults
-pub command_passes : (t : TargetState) (c : ProbeCall) → is_fault (commanded t c).outcome ≡ false
-unfolding attempt is_free
-command_passes t (probe.Abort value) = free_either t.sticky _ _ refl
-command_passes t other = refl
-
 probe_by : (b : Bool) (k : ℕ) (next : TargetState) (large : List ℕ) (actions : List Action) → b ≡ false → IsDone (ended b false false k next large actions) (Answered k) next large
 probe_by true k next large actions h = absurd cc
 probe_by false k next large actions h = record { end_is = refl; next_is = refl; large_is = refl }
 
-pub command_done : (t : TargetState) (large : List ℕ) (c : ProbeCall) → IsDone (call_done t large false (Probe c)) (Answered (given (commanded t c).outcome)) (commanded t c).next large
+command_done : (t : TargetState) (large : List ℕ) (c : ProbeCall) → is_fault (commanded t c).outcome ≡ false → IsDone (call_done t large false (Probe c)) (Answered (given (commanded t c).outcome)) (commanded t c).next large
 unfolding call_done
-command_done t large c = probe_by (is_fault (commanded t c).outcome) _ _ large _ (command_passes t c)
+command_done t large c passes = probe_by (is_fault (commanded t c).outcome) _ _ large _ passes
 
-pub command_made : (t : TargetState) (c : ProbeCall) (n : ℕ) (u : TargetState) → n ≡ given (commanded t c).outcome → u ≡ (commanded t c).next → (large : List ℕ) → IsDone (call_done t large false (Probe c)) (Answered n) u large
-command_made t c n u hn hu large = (let d = command_done t large c in record { end_is = d.end_is ∙ ap Answered (sym hn); next_is = d.next_is ∙ sym hu; large_is = d.large_is })
+pub command_made : (t : TargetState) (c : ProbeCall) (n : ℕ) (u : TargetState) → is_fault (commanded t c).outcome ≡ false → n ≡ given (commanded t c).outcome → u ≡ (commanded t c).next → (large : List ℕ) → IsDone (call_done t large false (Probe c)) (Answered n) u large
+command_made t c n u passes hn hu large = (let d = command_done t large c passes in record { end_is = d.end_is ∙ ap Answered (sym hn); next_is = d.next_is ∙ sym hu; large_is = d.large_is })

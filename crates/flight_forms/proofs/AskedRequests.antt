@@ -15,7 +15,7 @@ use Rattle.flight_forms.specs.Packing.{AreTaken, IsTaken, check_when, request_of
 use Rattle.flight_forms.specs.Flights.{AreClear, is_own, slot_values}
 use Rattle.flight_forms.proofs.OwnAccesses.{ChecksFollow}
 use Rattle.flight_forms.proofs.RequestFacts.{carries, kind_carried, same_attempt, own_carried, free_carried}
-use Rattle.dap_base.proofs.Basics.{first_true}
+use Rattle.dap_base.proofs.Basics.{first_true, second_true}
 
 -- ---- no value match and no mask
 
@@ -163,11 +163,7 @@ check_not_own false w rs r h e own rest = ((λ f. absurd (not_both f own)), rest
 
 -- a write of an AP is a write
 ap_is_write : (a : RegAccess) → writes_ap a ≡ true → not a.read ≡ true
-ap_is_write a e = by_port a.ap (not a.read) e
-  where
-    by_port : (x y : Bool) → (x && y) ≡ true → y ≡ true
-    by_port true y f = f
-    by_port false y f = absurd (cc)
+ap_is_write a e = second_true a.ap (not a.read) e
 
 ending_follows : (w last : Bool) → (last ≡ true → w ≡ true) → ChecksFollow w (check_when last)
 ending_follows w true h = ((λ _. h refl), tt)

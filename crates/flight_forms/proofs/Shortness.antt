@@ -120,16 +120,16 @@ says_part rs n x words normal follow says =
 
 -- ---- one Transfer
 
+pub kind_unmatched : (k : RequestKind) → IsNormalKind k → is_match k ≡ false
+kind_unmatched Posted h = refl
+kind_unmatched Read h = refl
+kind_unmatched Match h = absurd h
+kind_unmatched Mask h = refl
+kind_unmatched Write h = refl
+
 pub normal_kind : (n : ℕ) (rs : List Request) → AreNormal rs → passes is_match (kind_at rs n) ≡ false
 normal_kind n [] normal = refl
-normal_kind zero (r ∷ rs) normal = by_kind (kind r) normal.0
-  where
-    by_kind : (k : RequestKind) → IsNormalKind k → is_match k ≡ false
-    by_kind Posted h = refl
-    by_kind Read h = refl
-    by_kind Match h = absurd h
-    by_kind Mask h = refl
-    by_kind Write h = refl
+normal_kind zero (r ∷ rs) normal = kind_unmatched (kind r) normal.0
 normal_kind (suc n) (r ∷ rs) normal = normal_kind n rs normal.1
 
 some_kind : (test : RequestKind → Bool) (n : ℕ) (rs : List Request) → passes test (kind_at rs n) ≡ true → n < length rs

@@ -41,7 +41,7 @@ pub struct Job {
     pub dbgconf: Option<NameText>,
     /// The entries of a kept trace, at most 65,536, where the job has one.
     pub trace: Option<TraceTexts>,
-    // Each number of the target fits its register or word.
+    /// Each number of the target fits its register or word.
     pub ghost in_range: { IsJobInRange bench.target },
 }
 

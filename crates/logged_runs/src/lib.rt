@@ -8,7 +8,6 @@ mod noting;
 mod places;
 mod runner;
 mod running;
-mod start;
 mod steps;
 mod values;
 mod walked;

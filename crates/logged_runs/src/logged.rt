@@ -15,7 +15,6 @@ ghost use Rattle.logged_runs.specs.Walk.{now, seen_so_far};
 
 use crate::places::Places;
 use crate::runner::LoggedRunner;
-use crate::start::{add_declared, make_globals};
 use crate::walked::Walked;
 use dap_base::OutOfMemory;
 use direct_calls::CallList;
@@ -23,7 +22,7 @@ use log_lines::Log;
 use logged_calls::{Held, LoggedEnd, Stopped};
 use run_coverage::Coverage;
 use seq_check::Checked;
-use sequence_rules::Globals;
+use sequence_rules::{Globals, add_declared, predefined_globals};
 use sequence_trees::Spot;
 use std::alloc::Global;
 use target_machine::{HaltCause, Settings, Target, Unit};
@@ -146,7 +145,7 @@ pub fn run_logged(
     // The log is the text of the events that are shown; the rest is what all events say.
     ensures seen { IfOk result (λ run. IsSeenOfRun turns (program_of (checked_trees checked.now) start.now settings.now) target.old run) }
 {
-    let mut globals = make_globals(alloc, settings.start.as_slice())?;
+    let mut globals = predefined_globals(alloc, settings.start.as_slice())?;
     add_declared(&mut globals, alloc, checked.debugvars().as_slice())?;
     let mut walked = Walked::new(alloc, globals);
     let runner = LoggedRunner {

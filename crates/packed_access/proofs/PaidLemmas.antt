@@ -30,6 +30,7 @@ use Rattle.packed_access.proofs.NeededLemmas.{needed_same}
 use Rattle.packed_access.proofs.SparingLemmas.{has_grows, has_later, has_paid, has_same}
 use Rattle.access_regs.specs.declared.planner.Planner.{Planner}
 use Rattle.access_regs.specs.declared.planner.Planner.TheVariants.{Managed}
+use Rattle.target_machine.proofs.CountLemmas.{one_most}
 
 -- ---- how many are left
 
@@ -51,11 +52,7 @@ left_one : (known fence : ℕ) → known < fence → one_if (nat_lt known fence)
 left_one known fence less = (let a : nat_lt known fence ≡ true = grind (arith, less) in ap one_if a)
 
 left_most : (known fence : ℕ) → one_if (nat_lt known fence) ≤ 1
-left_most known fence = by_test (nat_lt known fence)
-  where
-    by_test : (b : Bool) → one_if b ≤ 1
-    by_test true = omega arith
-    by_test false = omega arith
+left_most known fence = one_most (nat_lt known fence)
 
 covers_less : (paid left less needs : ℕ) → less ≤ left → min (paid + left) (2 ^ 64 - 1) ≤ needs → min (paid + less) (2 ^ 64 - 1) ≤ needs
 covers_less paid left less needs le covers = omega (arith, le, covers)

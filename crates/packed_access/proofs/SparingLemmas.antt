@@ -36,6 +36,7 @@ use Rattle.bench_flights.proofs.WireLemmas.{steps_map}
 use Rattle.access_regs.specs.declared.planner.Planner.{Planner}
 use Rattle.access_regs.specs.declared.planner.Planner.TheVariants.{Managed, Plain}
 use Rattle.flight_laws.proofs.ActionLemmas.{flight_registers}
+use Rattle.bench_flights.proofs.PacketLemmas.{none_sent}
 
 -- ---- register accesses of entries
 
@@ -179,13 +180,10 @@ has_grows p x limits given log new points m0 more h longer same = record { so = 
 pub has_later : (p : Planner) (x : Option BenchState) (limits given : Limits) (log new : LogState) (points more : ℕ) (m0 : BenchState) → HasSpared p limits given x log points m0 → new.calls ≡ log.calls → log.confirmed ≤ new.confirmed → points ≤ more → HasSpared p limits given x new more m0
 has_later p x limits given log new points more m0 h calls later le = record { so = λ managed. by_state x (h.so managed) }
   where
-    none_few : (m : BenchState) → SendsFew 0 m m
-    none_few m = record { few = omega arith; counts = λ few. few }
-
     by_state : (y : Option BenchState) → WhereObservable y (λ m. IsSpared p limits given log points m0 m) → WhereObservable y (λ m. IsSpared p limits given new more m0 m)
     by_state None k = k
     by_state (Some m) k =
-        let s : IsSpared p limits given new (points + 0) m0 m = grown_spared p limits given limits given log new points 0 m0 m m k (none_few m) calls later refl refl in
+        let s : IsSpared p limits given new (points + 0) m0 m = grown_spared p limits given limits given log new points 0 m0 m m k (none_sent m) calls later refl refl in
         record { full = s.full; few = (let f = s.few in omega (arith, f, le)); filled = s.filled; counts = s.counts; limits_are = s.limits_are; fits = s.fits; blocks = s.blocks }
 
 needs_cover : (log : LogState) (points count : ℕ) → (capped_sum log.needs points ≤ (with_needs log points count).needs) × (((with_needs log points count).calls ≡ log.calls) × ((with_needs log points count).confirmed ≡ log.confirmed))

@@ -86,13 +86,13 @@ own_order a b x y u v f g p q r s h = rw (p, q, r, s) h
 parts_order : (x y : Part) (P Q : CodeFault → Type 0) (p q : StepFault) → nat_lt (part_rank y) (part_rank x) ≡ false → (part_rank y == part_rank x) ≡ false → At x P p → At y Q q → is_step_before q p ≡ false
 parts_order x y P Q p q lt eq h j = own_order q.path p.path q.part p.part y x q.fault p.fault j.own h.own j.part_is h.part_is (rw (lt, eq) refl)
 
-abbrev view_at : Part → CodeFault → StepFault
+abbrev pub view_at : Part → CodeFault → StepFault
 view_at part f = record { path = []; part = part; fault = f }
 
-view_order : (part : Part) (f g : CodeFault) → is_step_before (view_at part f) (view_at part g) ≡ fault_before part f g
+pub view_order : (part : Part) (f g : CodeFault) → is_step_before (view_at part f) (view_at part g) ≡ fault_before part f g
 view_order part f g = rw (lt_itself (part_rank part), same_rank (part_rank part)) refl
 
-at_from : (part : Part) (P : CodeFault → Type 0) (g : StepFault) → At part P g → (f : CodeFault) × P f × (g ≡ view_at part f)
+pub at_from : (part : Part) (P : CodeFault → Type 0) (g : StepFault) → At part P g → (f : CodeFault) × P f × (g ≡ view_at part f)
 at_from part P g h = (g.fault, h.holds, same_view g.path g.part g.fault part h.own h.part_is) where
   same_view : (path : List ℕ) (x : Part) (f : CodeFault) (y : Part) → path ≡ [] → x ≡ y → record { path = path; part = x; fault = f } ≡ view_at y f
   same_view path x f y p q = rw (p, q) refl

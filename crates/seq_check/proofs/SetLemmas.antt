@@ -69,7 +69,7 @@ added-distinct more h = added-append [] more (all_apart more) h
 abbrev pub held : Holder → StepFault → SetFault
 held holder f = record { holder = holder; fault = f }
 
-held_order : (holder : Holder) (f g : StepFault) → is_set_before (held holder f) (held holder g) ≡ is_step_before f g
+pub held_order : (holder : Holder) (f g : StepFault) → is_set_before (held holder f) (held holder g) ≡ is_step_before f g
 held_order holders.Debugvars f g = refl
 held_order (holders.Sequence n) f g = rw (lt_itself n) refl
 

@@ -37,20 +37,20 @@ step_tree-Control cond repeat timeout steps = ap step_tree (sym (c.rolls-Control
 -- ---- the order of steps
 
 -- the path begins with a number from this one on
-record Numbered (from : ℕ) (path : List ℕ) : Type 0 where
+pub record Numbered (from : ℕ) (path : List ℕ) : Type 0 where
   pub number : ℕ
   pub rest : List ℕ
   pub parts : path ≡ number ∷ rest
   pub least : from ≤ number
 
-numbered : (s : Scope) (around n : ℕ) (steps : CodeSteps) (f : StepFault) → FaultInSteps s around n steps f → Numbered n f.path
+pub numbered : (s : Scope) (around n : ℕ) (steps : CodeSteps) (f : StepFault) → FaultInSteps s around n steps f → Numbered n f.path
 numbered s around n NoSteps f h = elim h [ ]
 numbered s around n (MoreSteps step more) f h = elim h [
   | here p ↦ record { number = n; rest = p.inner.path; parts = ap (λ x. x.path) p.is; least = omega arith }
   | there q ↦ let r = numbered (seeing s (names_after_step s.visible step)) around (suc n) more f q in record { number = r.number; rest = r.rest; parts = r.parts; least = omega (arith, r.least) }
 ]
 
-abbrev before_by : (a b : List ℕ) (x y : Part) (f g : CodeFault) → Bool
+abbrev pub before_by : (a b : List ℕ) (x y : Part) (f g : CodeFault) → Bool
 before_by a b x y f g = path_before a b || not (path_before b a) && (nat_lt (part_rank x) (part_rank y) || part_rank x == part_rank y && fault_before x f g)
 
 pub apart : (n j : ℕ) → suc n ≤ j → (j == n) ≡ false

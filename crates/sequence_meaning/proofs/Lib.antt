@@ -12,7 +12,7 @@ pub mod HeldLemmas
 pub mod Loops
 pub mod NeverLost
 pub mod Opened
-pub mod StartLemmas
+pub mod AnswerLemmas
 pub mod UnitLemmas
 pub mod StopLemmas
 pub mod PartLemmas

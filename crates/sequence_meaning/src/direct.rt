@@ -16,9 +16,10 @@ use crate::end::{DirectEnd, Stopped};
 use crate::ended::{Direct, Recorded};
 use crate::held::DirectHeld;
 use crate::runner::DirectRunner;
-use crate::start::{add_declared, copy_variables, make_globals};
+use crate::variables::copy_variables;
 use dap_base::{OutOfMemory, Sink};
 use seq_check::Checked;
+use sequence_rules::{add_declared, predefined_globals};
 use std::alloc::Global;
 use target_machine::{Settings, Target};
 
@@ -104,7 +105,7 @@ pub fn run_recorded<K: Sink>(
         (outcome (program_of (checked_trees checked.now) start.now settings.now) target.old (known_part known (K.written sink.old)))
         result target.new (known_part known (K.written sink.new)) }
 {
-    let mut globals = make_globals(alloc, settings.start.as_slice())?;
+    let mut globals = predefined_globals(alloc, settings.start.as_slice())?;
     add_declared(&mut globals, alloc, checked.debugvars().as_slice())?;
     let mut held = DirectHeld::new(alloc, globals);
     let runner = DirectRunner {

@@ -15,9 +15,9 @@ mod probe;
 mod registers;
 mod runner;
 mod running;
-mod start;
 mod steps;
 mod values;
+mod variables;
 
 pub use direct::{run_direct, run_recorded};
 pub use ended::{Direct, Recorded};

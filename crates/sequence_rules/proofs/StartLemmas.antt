@@ -18,18 +18,18 @@ use Rattle.sequence_rules.specs.Variables.{bound, has_in, with_new, with_all_new
 
 -- ---- the predefined variables have names of their own
 
-pub has : List (List ℕ) → List ℕ → Bool
+has : List (List ℕ) → List ℕ → Bool
 has [] n = false
 has (x ∷ xs) n = cond (bytes_eq n x) true (has xs n)
 
-pub has_is : (vs : List Variable) (i : ℕ) (n : List ℕ) → has_in (variables_of (take i vs)) n ≡ has (take i (map (λ v. v.name) vs)) n
+has_is : (vs : List Variable) (i : ℕ) (n : List ℕ) → has_in (variables_of (take i vs)) n ≡ has (take i (map (λ v. v.name) vs)) n
 unfolding has
 has_is [] zero n = refl
 has_is [] (suc i) n = refl
 has_is (v ∷ vs) zero n = refl
 has_is (v ∷ vs) (suc i) n = ap (λ b. cond (bytes_eq n v.name) true b) (has_is vs i n)
 
-pub own_name : (i : ℕ) → i < 7 → has (take i predefined) (get_or predefined i []) ≡ false
+own_name : (i : ℕ) → i < 7 → has (take i predefined) (get_or predefined i []) ≡ false
 unfolding has
 own_name zero h = refl
 own_name (suc zero) h = refl
@@ -57,20 +57,20 @@ start_more vs i d v old new same h is was add =
 
 -- ---- the debug variables
 
-pub first_declared : (st : StmtTree) (code : List StmtTree) (bs : List (Binding ℕ)) (v : ℕ) → with_all_new bs (declared_names (st ∷ code)) v ≡ with_all_new (with_all_new bs (declared_names (st ∷ [])) v) (declared_names code) v
+first_declared : {V : Type 0} (st : StmtTree) (code : List StmtTree) (bs : List (Binding V)) (v : V) → with_all_new bs (declared_names (st ∷ code)) v ≡ with_all_new (with_all_new bs (declared_names (st ∷ [])) v) (declared_names code) v
 first_declared (t.Empty at) code bs v = refl
 first_declared (t.Declare name e) code bs v = refl
 first_declared (t.Plain at e) code bs v = refl
 
-pub declared_more : (xs : List statement.Stmt) (i : ℕ) (d one : statement.Stmt) (whole old new : List (Binding ℕ)) → i < length xs → one ≡ get_or xs i d → whole ≡ with_all_new old (declared_names (code_trees (drop i xs))) 0
-    → new ≡ with_all_new old (declared_names (stmt_tree one ∷ [])) 0 → whole ≡ with_all_new new (declared_names (code_trees (drop (i + 1) xs))) 0
-declared_more xs i d one whole old new h is same add =
-    same ∙ ap (λ l. with_all_new old (declared_names (code_trees l)) 0) (drop_more xs i d h) ∙ first_declared (stmt_tree (get_or xs i d)) (code_trees (drop (i + 1) xs)) old 0
-    ∙ ap (λ x. with_all_new (with_all_new old (declared_names (stmt_tree x ∷ [])) 0) (declared_names (code_trees (drop (i + 1) xs))) 0) (sym is)
-    ∙ ap (λ bs. with_all_new bs (declared_names (code_trees (drop (i + 1) xs))) 0) (sym add)
+pub declared_more : {V : Type 0} (v : V) (xs : List statement.Stmt) (i : ℕ) (d one : statement.Stmt) (whole old new : List (Binding V)) → i < length xs → one ≡ get_or xs i d → whole ≡ with_all_new old (declared_names (code_trees (drop i xs))) v
+    → new ≡ with_all_new old (declared_names (stmt_tree one ∷ [])) v → whole ≡ with_all_new new (declared_names (code_trees (drop (i + 1) xs))) v
+declared_more v xs i d one whole old new h is same add =
+    same ∙ ap (λ l. with_all_new old (declared_names (code_trees l)) v) (drop_more xs i d h) ∙ first_declared (stmt_tree (get_or xs i d)) (code_trees (drop (i + 1) xs)) old v
+    ∙ ap (λ x. with_all_new (with_all_new old (declared_names (stmt_tree x ∷ [])) v) (declared_names (code_trees (drop (i + 1) xs))) v) (sym is)
+    ∙ ap (λ bs. with_all_new bs (declared_names (code_trees (drop (i + 1) xs))) v) (sym add)
 
-pub declared_over : (xs : List statement.Stmt) (i : ℕ) (whole old : List (Binding ℕ)) → length xs ≤ i → whole ≡ with_all_new old (declared_names (code_trees (drop i xs))) 0 → old ≡ whole
-declared_over xs i whole old h same = sym (same ∙ ap (λ l. with_all_new old (declared_names (code_trees l)) 0) (drop_all i xs h))
+pub declared_over : {V : Type 0} (v : V) (xs : List statement.Stmt) (i : ℕ) (whole old : List (Binding V)) → length xs ≤ i → whole ≡ with_all_new old (declared_names (code_trees (drop i xs))) v → old ≡ whole
+declared_over v xs i whole old h same = sym (same ∙ ap (λ l. with_all_new old (declared_names (code_trees l)) v) (drop_all i xs h))
 
 -- ---- the state at the start
 

@@ -15,6 +15,7 @@ mod polls;
 mod ports;
 mod sequences;
 mod shared;
+mod start;
 mod units;
 
 pub use arguments::text_of;
@@ -28,4 +29,5 @@ pub use polls::poll_of;
 pub use ports::Port;
 pub use sequences::steps_of;
 pub use shared::{SharedVariables, VariableValue};
+pub use start::{add_declared, predefined_globals};
 pub use units::{ap_unit, dp_unit, low_bits, memory_port, memory_unit, pins_command};

@@ -1,21 +1,21 @@
 -- The faults of calls, one part after another.
-use Rattle.std.proofs.Common.{◌≡◌, ◌↔◌, sym, subst, ℕ, ◌+◌, ◌-◌, ◌<◌, Bool, true, false, IsTrue, List, [], ◌∷◌, ◌++◌, map, length, take, get_or, Option, Some, None}
+use Rattle.std.proofs.Common.{◌≡◌, ◌↔◌, sym, subst, ℕ, ◌+◌, ◌-◌, ◌<◌, Bool, true, false, IsTrue, List, ◌++◌, map, length, take, get_or, Option, Some, None}
 use Rattle.expr_grammar.specs.declared.code.Arg.{Arg}
 use Rattle.expr_grammar.specs.declared.code.Name.{Name}
 use Rattle.expr_grammar.specs.declared.code.TextArg as string
 use Rattle.expr_grammar.specs.declared.code.Stmt.{Stmt}
-use Rattle.expr_grammar.specs.Tree.{ArgTrees, arg_tree, arg_trees, StmtTree, stmt_tree, code_trees}
+use Rattle.expr_grammar.specs.Tree.{ArgTrees, arg_tree, arg_trees, stmt_tree, code_trees}
 use Rattle.function_table.specs.declared.function.Function.{Function}
 use Rattle.function_table.specs.declared.function.Function.TheVariants as functions
 use Rattle.function_table.specs.Functions.{name_of, Takes, kind_at}
 use Rattle.code_check.specs.declared.fault.FaultKind.TheVariants as k
 use Rattle.code_check.specs.declared.fault.CodeFault.{CodeFault}
-use Rattle.code_check.specs.First.{InEither, here, there}
+use Rattle.code_check.specs.First.{here, there}
 use Rattle.code_check.specs.ExprFaults.{Scope, ArgFault, ArgsFault, KindFault, KindsFault, arg_count, text_at, OfText, SequenceFault, FormatFault, TextsFault, KnownFault, NamesNone, FunctionFault}
-use Rattle.code_check.specs.BlockFaults.{names_after, names_after_all, seeing, StmtFault, BlockFault}
+use Rattle.code_check.specs.BlockFaults.{names_after_all, seeing, StmtFault, BlockFault}
 use Rattle.code_check.proofs.ArgLemmas.{arg_trees-take, kinds_to, kinds_from, length-taken, args_from, args_to}
 use Rattle.code_check.proofs.CallLemmas.{not_so, is_so, same_function}
-use Rattle.code_check.proofs.BlockLemmas.{code_trees-take}
+use Rattle.code_check.proofs.BlockLemmas.{block_from, block_to, code_trees-take}
 use Rattle.set_faults.specs.Listed.{Adds, found_if}
 use Rattle.set_faults.proofs.AddLemmas.{adds_none, adds_same, adds_two, adds_here, adds_there, adds_where, adds_of_where}
 
@@ -37,21 +37,6 @@ kinds_more fn xs i x h old mid new p q =
     rw (arg_trees-take xs i x h) (adds_same (kinds_to fn 0 front t) (kinds_from fn 0 front t) (adds_two p q'))
 
 -- ---- statements
-
-abbrev last : Scope → List StmtTree → StmtTree → CodeFault → Type 0
-last s code st = StmtFault (seeing s (names_after_all s.visible code)) st
-
-block_to : (s : Scope) (code : List StmtTree) (st : StmtTree) (f : CodeFault) → InEither (BlockFault s code) (last s code st) f → BlockFault s (code ++ st ∷ []) f
-block_to s [] st f h = elim h [ here p ↦ elim p [ ] | there q ↦ here q ]
-block_to s (x ∷ code) st f h =
-    let s' = seeing s (names_after s.visible x) in
-    elim h [ here p ↦ elim p [ here u ↦ here u | there v ↦ there (block_to s' code st f (here v)) ] | there q ↦ there (block_to s' code st f (there q)) ]
-
-block_from : (s : Scope) (code : List StmtTree) (st : StmtTree) (f : CodeFault) → BlockFault s (code ++ st ∷ []) f → InEither (BlockFault s code) (last s code st) f
-block_from s [] st f h = elim h [ here p ↦ there p | there q ↦ elim q [ ] ]
-block_from s (x ∷ code) st f h =
-    let s' = seeing s (names_after s.visible x) in
-    elim h [ here p ↦ here (here p) | there q ↦ elim (block_from s' code st f q) [ here u ↦ here (there u) | there v ↦ there v ] ]
 
 pub block_more : (s : Scope) (xs : List Stmt) (i : ℕ) (x : Stmt) → i < length xs → (old mid new : List CodeFault)
     → Adds (BlockFault s (code_trees (take i xs))) old mid → Adds (StmtFault (seeing s (names_after_all s.visible (code_trees (take i xs)))) (stmt_tree (get_or xs i x))) mid new

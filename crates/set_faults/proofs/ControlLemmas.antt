@@ -10,12 +10,11 @@ use Rattle.code_check.specs.declared.fault.CodeFault.{CodeFault}
 use Rattle.code_check.specs.First.{InEither, here, there, FaultWhere}
 use Rattle.code_check.proofs.CallLemmas.{is_so}
 use Rattle.seq_check.specs.StepFaults.{StepFault, path_before, part_rank, control_rank, fault_before, is_step_before, no_place, At, TimeoutFault, LoopFault, ControlFault}
-use Rattle.seq_check.proofs.ControlLemmas.{kind_of_loop, kind_of_timeout, kind_of_where, same_rank}
+use Rattle.seq_check.proofs.ControlLemmas.{at_from, kind_of_loop, kind_of_timeout, kind_of_where, view_at, view_order}
 use Rattle.set_faults.specs.Listed.{IsListOf, found_if}
 use Rattle.set_faults.specs.Controls.{is_too_long, is_unbounded}
 use Rattle.set_faults.proofs.AddLemmas.{is_said}
 use Rattle.set_faults.proofs.ListLemmas.{listed_nothing, listed_one, listed_two, listed_mapped}
-use Rattle.dap_base.proofs.Basics.{lt_itself}
 
 abbrev before : CodeFault → CodeFault → Bool
 before = fault_before parts.Control
@@ -72,17 +71,6 @@ pub joined : (a b c none one two three : List CodeFault) → one ≡ [] ++ a →
 joined a b c none one two three p q r = r ∙ ap (λ l. l ++ c) (q ∙ ap (λ l. l ++ b) p) ∙ append_assoc a b c
 
 -- ---- the parts of a step
-
-abbrev pub view_at : Part → CodeFault → StepFault
-view_at part f = record { path = []; part = part; fault = f }
-
-view_order : (part : Part) (f g : CodeFault) → is_step_before (view_at part f) (view_at part g) ≡ fault_before part f g
-view_order part f g = rw (lt_itself (part_rank part), same_rank (part_rank part)) refl
-
-at_from : (part : Part) (P : CodeFault → Type 0) (g : StepFault) → At part P g → (f : CodeFault) × P f × (g ≡ view_at part f)
-at_from part P g h = (g.fault, h.holds, same_view g.path g.part g.fault part h.own h.part_is) where
-  same_view : (path : List ℕ) (x : Part) (f : CodeFault) (y : Part) → path ≡ [] → x ≡ y → record { path = path; part = x; fault = f } ≡ view_at y f
-  same_view path x f y p q = rw (p, q) refl
 
 pub listed_at : (part : Part) (P : CodeFault → Type 0) (list : List CodeFault) → IsListOf (fault_before part) P list → IsListOf is_step_before (At part P) (map (view_at part) list)
 listed_at part P list h = listed_mapped (fault_before part) is_step_before (view_at part) P (At part P) list (view_order part) (λ f p. record { own = refl; part_is = refl; holds = p }) (at_from part P) h

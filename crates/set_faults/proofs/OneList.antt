@@ -1,5 +1,5 @@
 -- Of two faults of a set at most one is before the other, so there is one list.
-use Rattle.std.proofs.Common.{◌≡◌, ◌∙◌, sym, ap, subst, ℕ, ◌==◌, nat_lt, ◌&&◌, ◌||◌, not, Bool, true, false, List, [], ◌∷◌, map, get_or, Some, refl, arith, true≢false, ◌⊎◌, inl, inr}
+use Rattle.std.proofs.Common.{◌≡◌, ◌∙◌, sym, ap, subst, ℕ, ◌==◌, nat_lt, ◌&&◌, ◌||◌, not, Bool, true, false, List, [], ◌∷◌, map, Some, refl, arith, true≢false, ◌⊎◌, inl, inr}
 use Rattle.std.proofs.lemmas.Bool.Decides.{nat_tests}
 use Rattle.sequence_trees.specs.declared.spot.Part.{Part}
 use Rattle.sequence_trees.specs.declared.spot.Part.TheVariants as parts
@@ -41,18 +41,6 @@ part_one_way parts.Debugvars f g h j = not_both f g h j
 part_one_way parts.Block f g h j = not_both f g h j
 part_one_way parts.If f g h j = not_both f g h j
 part_one_way parts.While f g h j = not_both f g h j
-
--- the parts in their order
-ranked : List Part
-ranked = parts.Debugvars ∷ parts.Control ∷ parts.Block ∷ parts.If ∷ parts.While ∷ []
-
-part_at_rank : (part : Part) → get_or ranked (part_rank part) parts.Debugvars ≡ part
-unfolding ranked
-part_at_rank parts.Debugvars = refl
-part_at_rank parts.Control = refl
-part_at_rank parts.Block = refl
-part_at_rank parts.If = refl
-part_at_rank parts.While = refl
 
 -- what comes before by the first test both ways, or by the rest both ways
 either_way : (a b c d : Bool) → (a || not b && c) ≡ true → (b || not a && d) ≡ true → ((a ≡ true) × (b ≡ true)) ⊎ ((c ≡ true) × (d ≡ true))

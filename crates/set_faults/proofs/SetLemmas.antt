@@ -13,22 +13,15 @@ use Rattle.seq_check.specs.declared.faulty.Holder.TheVariants as holders
 use Rattle.seq_check.specs.StepFaults.{StepFault, is_step_before, At, FaultInSteps}
 use Rattle.seq_check.specs.SetFaults.{SetFault, holder_before, is_set_before, Of, names_of, debugvars_scope, sequences_scope, FaultInSequences}
 use Rattle.seq_check.specs.Valid.{holder_name}
+use Rattle.seq_check.proofs.SetLemmas.{held, held_order}
 use Rattle.set_faults.specs.declared.site.Fault.{Fault}
 use Rattle.set_faults.specs.Listed.{IsListOf}
 use Rattle.set_faults.specs.Sites.{step_fault_at, Appends}
 use Rattle.set_faults.specs.Rules.{fault_of, AreRuleFaults}
 use Rattle.set_faults.proofs.ListLemmas.{listed_mapped}
 use Rattle.set_faults.proofs.StepLemmas.{appends_two, appends_same}
-use Rattle.dap_base.proofs.Basics.{lt_itself}
 
 -- ---- faults of one holder
-
-abbrev held : Holder → StepFault → SetFault
-held holder f = record { holder = holder; fault = f }
-
-held_order : (holder : Holder) (f g : StepFault) → is_set_before (held holder f) (held holder g) ≡ is_step_before f g
-held_order holders.Debugvars f g = refl
-held_order (holders.Sequence n) f g = rw (lt_itself n) refl
 
 listed_held : (holder : Holder) (P : StepFault → Type 0) (list : List StepFault) → IsListOf is_step_before P list → IsListOf is_set_before (Of holder P) (map (held holder) list)
 listed_held holder P list h =

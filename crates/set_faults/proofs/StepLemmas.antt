@@ -1,5 +1,5 @@
 -- The faults of steps, one step after another.
-use Rattle.std.proofs.Common.{◌≡◌, ◌∙◌, sym, ap, subst, ℕ, suc, ◌+◌, ◌<◌, ◌≤◌, ◌==◌, nat_lt, ◌&&◌, ◌||◌, not, Bool, true, List, [], ◌∷◌, ◌++◌, map, length, take, get_or, Option, refl, arith, append_assoc, min, ◌⊎◌, inl, inr}
+use Rattle.std.proofs.Common.{◌≡◌, ◌∙◌, sym, ap, subst, ℕ, suc, ◌+◌, ◌<◌, ◌≤◌, nat_lt, Bool, true, List, [], ◌∷◌, ◌++◌, map, length, take, get_or, Option, refl, arith, append_assoc, min, ◌⊎◌, inl, inr}
 use Rattle.std.proofs.lemmas.Bool.{cases_lt, lt-ltb}
 use Rattle.seq_check.proofs.NameLemmas.{take-names_after_steps}
 use Rattle.std.proofs.lemmas.List.{append-nil, map-append}
@@ -12,13 +12,14 @@ use Rattle.code_check.specs.declared.fault.CodeFault.{CodeFault}
 use Rattle.code_check.specs.First.{InEither, here, there}
 use Rattle.code_check.specs.ExprFaults.{Scope}
 use Rattle.code_check.specs.BlockFaults.{seeing}
-use Rattle.seq_check.specs.StepFaults.{StepFault, path_before, part_rank, fault_before, is_step_before, At, under, Under, OwnFault, FaultInStep, FaultInSteps, names_after_step, names_after_steps}
-use Rattle.seq_check.proofs.StepLemmas.{fronts, fronts-length, steps_tree-take, own_path, under_order}
+use Rattle.seq_check.specs.StepFaults.{StepFault, fault_before, is_step_before, At, under, Under, OwnFault, FaultInStep, FaultInSteps, names_after_step, names_after_steps}
+use Rattle.seq_check.proofs.StepLemmas.{before_by, fronts, fronts-length, numbered, own_path, steps_tree-take, under_order}
 use Rattle.set_faults.specs.declared.site.Fault.{Fault}
 use Rattle.set_faults.specs.Listed.{IsListOf}
 use Rattle.set_faults.specs.Sites.{code_fault_at, step_fault_at, Appends}
 use Rattle.set_faults.proofs.ListLemmas.{listed_two, listed_same, listed_mapped}
-use Rattle.set_faults.proofs.ControlLemmas.{view_at, listed_at}
+use Rattle.seq_check.proofs.ControlLemmas.{view_at}
+use Rattle.set_faults.proofs.ControlLemmas.{listed_at}
 
 -- ---- parts that are added one after the other
 
@@ -46,23 +47,6 @@ pub appends_part : (step : SetStep) (part : Part) (P : CodeFault → Type 0) (li
 appends_part step part P list old new h e = record { list = map (view_at part) list; is_list = listed_at part P list h; is_new = e ∙ ap (λ l. old ++ l) (shown_at step part list) }
 
 -- ---- a control, and what it holds
-
--- the path begins with a number from this one on
-record Numbered (from : ℕ) (path : List ℕ) : Type 0 where
-  pub number : ℕ
-  pub rest : List ℕ
-  pub parts : path ≡ number ∷ rest
-  pub least : from ≤ number
-
-numbered : (s : Scope) (around n : ℕ) (steps : CodeSteps) (f : StepFault) → FaultInSteps s around n steps f → Numbered n f.path
-numbered s around n NoSteps f h = elim h [ ]
-numbered s around n (MoreSteps step more) f h = elim h [
-  | here p ↦ record { number = n; rest = p.inner.path; parts = ap (λ x. x.path) p.is; least = omega arith }
-  | there q ↦ let r = numbered (seeing s (names_after_step s.visible step)) around (suc n) more f q in record { number = r.number; rest = r.rest; parts = r.parts; least = omega (arith, r.least) }
-]
-
-abbrev before_by : (a b : List ℕ) (x y : Part) (f g : CodeFault) → Bool
-before_by a b x y f g = path_before a b || not (path_before b a) && (nat_lt (part_rank x) (part_rank y) || part_rank x == part_rank y && fault_before x f g)
 
 inner_path : (a b q : List ℕ) (j : ℕ) (x y : Part) (f g : CodeFault) → a ≡ [] → b ≡ j ∷ q → before_by a b x y f g ≡ true
 inner_path a b q j x y f g ea eb = rw (ea, eb) refl

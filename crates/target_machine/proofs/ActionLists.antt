@@ -30,7 +30,7 @@ pub order_next : (m : Attempt) (a : Action) (ys : List Action) → is_fault m.ou
 order_next m a ys good = ap (λ (b : Bool). order_from (cond b m (acted m.next a)) ys) good
 
 -- the actions in order are those that follow ones that pass
-pass_order : (m : Attempt) (t u : TargetState) (xs : List Action) (a : Action) (ys : List Action) → is_fault m.outcome ≡ false → m.next ≡ t → PassTo t xs u →
+pub pass_order : (m : Attempt) (t u : TargetState) (xs : List Action) (a : Action) (ys : List Action) → is_fault m.outcome ≡ false → m.next ≡ t → PassTo t xs u →
     order_from m (xs ++ a ∷ ys) ≡ order_from (acted u a) ys
 pass_order m t u [] a ys good at h = order_next m a ys good ∙ ap (λ (s : TargetState). order_from (acted s a) ys) (at ∙ sym h)
 pass_order m t u (x ∷ xs) a ys good at h =

@@ -1,6 +1,6 @@
 //! A command of the probe, done at once.
-ghost use Rattle.std.specs.Prelude.{◌≡◌};
-ghost use Rattle.target_machine.specs.Plain.{commanded, given};
+ghost use Rattle.std.specs.Prelude.{◌≡◌, false};
+ghost use Rattle.target_machine.specs.Plain.{commanded, given, is_fault};
 ghost use Rattle.target_machine.specs.Sound.{IsSoundProbe};
 
 use super::{Target, attempt};
@@ -10,9 +10,11 @@ use crate::{ProbeCall, RegAccess};
 impl Target {
     /// Does a command of the probe at once, and answers the levels of the pins after `DAP_SWJ_Pins`, else 0. A delay adds all its
     /// microseconds to the sum of the delays; a write of ABORT is done whatever STICKYERR is. No command meets a fault.
+    #[tactic(auto, using(crate::proofs::CommandLemmas::command_passes))]
     pub fn command(&mut self, call: ProbeCall) -> u32
         requires { IsSoundProbe call }
         ensures value { result ≡ given (commanded self.old call).outcome }
+        ensures passes { is_fault (commanded self.old call).outcome ≡ false }
         ensures next { self.new ≡ (commanded self.old call).next }
     {
         match call {

@@ -2,7 +2,7 @@ use Rattle.std.proofs.Common.{ap, ◌∙◌}
 use Rattle.sequence_rules.specs.Shared.{bindings_of}
 use Rattle.sequence_rules.specs.Variables.{with_new}
 use Rattle.sequence_rules.proofs.StartLemmas.{start_more}
-use Rattle.logged_runs.proofs.start.make_globals.Goals as goal
+use Rattle.sequence_rules.proofs.start.predefined_globals.Goals as goal
 
 pub loop-variable-preserved : goal.loop-variable-preserved
 loop-variable-preserved c =

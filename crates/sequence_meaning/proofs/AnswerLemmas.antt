@@ -1,12 +1,10 @@
--- What a run starts with.
+-- The variables that a run answers.
 use Rattle.std.proofs.Common.{◌≡◌, ◌≤◌, ℕ, zero, suc, ◌+◌, List, [], ◌∷◌, ◌++◌, take, length, slice_get, Some, refl, sym, ap, ◌∙◌, arith}
 use Rattle.std.proofs.lemmas.List.{map-append}
 use Rattle.target_machine.specs.declared.unit.Variable.{Variable}
 use Rattle.sequence_rules.specs.declared.bindings.Binding.{Binding}
 use Rattle.sequence_rules.specs.Runs.{variables_of}
 use Rattle.sequence_rules.specs.Variables.{bound}
-
--- ---- the variables of an answer
 
 pub answered_more : (bs : List (Binding ℕ)) (i : ℕ) (x : Binding ℕ) (old new : List Variable) (v : Variable) → Some x ≡ slice_get bs i → v.name ≡ x.name → v.value ≡ x.value → new ≡ old ++ v ∷ [] → variables_of old ≡ take i bs
     → variables_of new ≡ take (i + 1) bs

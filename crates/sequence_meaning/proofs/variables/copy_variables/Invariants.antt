@@ -1,7 +1,7 @@
 use Rattle.std.proofs.Common.{◌≡◌, ◌≤◌, ◌-◌, take, length}
 use Rattle.sequence_rules.specs.Shared.{bindings_of}
 use Rattle.sequence_rules.specs.Runs.{variables_of}
-use Rattle.sequence_meaning.proofs.start.copy_variables.Given as goal
+use Rattle.sequence_meaning.proofs.variables.copy_variables.Given as goal
 
 abbrev pub invariant-loop-index : goal.invariant-loop-index
 invariant-loop-index l = record {

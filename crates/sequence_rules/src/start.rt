@@ -1,4 +1,4 @@
-//! What a run starts with.
+//! The variables with which a run starts.
 ghost use Rattle.std.specs.Prelude.{◌≡◌, [], ◌∷◌, IfOk, OnOk, map};
 ghost use Rattle.expr_grammar.specs.Tree.{code_trees, stmt_tree};
 ghost use Rattle.function_table.specs.Variables.{predefined};
@@ -7,14 +7,17 @@ ghost use Rattle.sequence_rules.specs.Shared.{bindings_of};
 ghost use Rattle.sequence_rules.specs.Steps.{declared_names};
 ghost use Rattle.sequence_rules.specs.Variables.{with_all_new};
 
+use crate::globals::Globals;
+use crate::shared::VariableValue;
 use dap_base::OutOfMemory;
 use expr_grammar::Stmt;
-use sequence_rules::Globals;
 use std::alloc::Global;
 use target_machine::Variable;
 
-// The predefined variables with their starting values.
-pub(crate) fn make_globals(alloc: Global, start: &[Variable]) -> Result<Globals<u64>, OutOfMemory>
+/// The predefined variables with their starting values, as numbers.
+///
+/// `OutOfMemory` where memory is refused.
+pub fn predefined_globals(alloc: Global, start: &[Variable]) -> Result<Globals<u64>, OutOfMemory>
     requires { map (λ variable. variable.name) start.now ≡ predefined }
     ensures { IfOk result (λ globals. bindings_of globals ≡ variables_of start.now) }
 {
@@ -26,22 +29,28 @@ pub(crate) fn make_globals(alloc: Global, start: &[Variable]) -> Result<Globals<
 }
 
 // The variable that a statement declares, at 0.
-fn add_one(globals: &mut Globals<u64>, alloc: Global, one: &Stmt) -> Result<(), OutOfMemory>
-    ensures { OnOk result (bindings_of globals.new ≡ with_all_new (bindings_of globals.old) (declared_names (stmt_tree one.now ∷ [])) 0) }
+fn add_one<V: VariableValue>(
+    globals: &mut Globals<V>,
+    alloc: Global,
+    one: &Stmt,
+) -> Result<(), OutOfMemory>
+    ensures { OnOk result (bindings_of globals.new ≡ with_all_new (bindings_of globals.old) (declared_names (stmt_tree one.now ∷ [])) V.zero) }
 {
     match one {
-        Stmt::Declare(name, _) => globals.add(alloc, name.text.as_str(), 0),
+        Stmt::Declare(name, _) => globals.add(alloc, name.text.as_str(), V::zero()),
         Stmt::Empty(_) | Stmt::Plain(_, _) => Ok(()),
     }
 }
 
-// The debug variables, at 0.
-pub(crate) fn add_declared(
-    globals: &mut Globals<u64>,
+/// Adds the variables that the statements of debug variables declare, at 0. One that is there stays as it is.
+///
+/// `OutOfMemory` where memory is refused; some of them may then have been added.
+pub fn add_declared<V: VariableValue>(
+    globals: &mut Globals<V>,
     alloc: Global,
     code: &[Stmt],
 ) -> Result<(), OutOfMemory>
-    ensures { OnOk result (bindings_of globals.new ≡ with_all_new (bindings_of globals.old) (declared_names (code_trees code.now)) 0) }
+    ensures { OnOk result (bindings_of globals.new ≡ with_all_new (bindings_of globals.old) (declared_names (code_trees code.now)) V.zero) }
 {
     for one in code {
         add_one(globals, alloc, one)?;

@@ -1,6 +1,6 @@
 use Rattle.std.proofs.Common.{refl, arith}
-use Rattle.sequence_meaning.proofs.StartLemmas.{answered_more}
-use Rattle.sequence_meaning.proofs.start.copy_variables.Goals as goal
+use Rattle.sequence_meaning.proofs.AnswerLemmas.{answered_more}
+use Rattle.sequence_meaning.proofs.variables.copy_variables.Goals as goal
 
 pub loop-index-preserved : goal.loop-index-preserved
 loop-index-preserved c = record {

@@ -1,7 +1,0 @@
-use Rattle.std.proofs.Common.{◌≡◌, take}
-use Rattle.sequence_rules.specs.Shared.{bindings_of}
-use Rattle.sequence_rules.specs.Runs.{variables_of}
-use Rattle.logged_runs.proofs.start.make_globals.Given as goal
-
-abbrev pub invariant-loop-variable : goal.invariant-loop-variable
-invariant-loop-variable l = bindings_of l.globals ≡ variables_of (take l.variable-index l.start)
