@@ -1,28 +1,11 @@
 //! The program: it makes the real source, file and sink, and calls `dapseq_words`.
 #![tactic(auto)]
 
-mod words;
-
-use dap_base::{OutOfMemory, ReadSource, Words, WriteSink};
-use std::alloc::Global;
-use std::io::ErrorKind;
+use dap_base::{OutOfMemory, ReadSource, WriteSink};
+use program_arguments::read_words;
+use std::io;
 use std::process::ExitCode;
-use std::{env, io};
-use trace_compare::{FileSource, Status, dapseq_words};
-use words::{unreadable_words, words_of};
-
-// The words after the program's name. One word where they cannot be read as text, so that the call is a wrong one.
-fn read_words(rt: &HostRuntime, alloc: Global) -> Result<Words, OutOfMemory> {
-    let arguments = match env::args(rt) {
-        Ok(arguments) => arguments,
-        Err(error) if error.kind() == ErrorKind::OutOfMemory => return Err(OutOfMemory),
-        Err(_) => return unreadable_words(alloc),
-    };
-    let Ok(arguments) = arguments.collect::<Vec<String>>(alloc) else {
-        return Err(OutOfMemory);
-    };
-    words_of(alloc, &arguments)
-}
+use trace_compare::{Status, FileSource, dapseq_words};
 
 fn main(rt: HostRuntime) -> ExitCode {
     let alloc = rt.alloc();

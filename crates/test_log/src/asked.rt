@@ -1,9 +1,9 @@
 //! What words ask for, as text.
 
-use crate::calls::words_of;
 use dap_base::NameText;
 use log_words::{Asked, WordsError, asked_of};
 use std::alloc::{AllocError, Global};
+use test_calls::words_in;
 
 // A name that is given, or `-`.
 fn name_or_dash(name: &Option<NameText>) -> &str {
@@ -29,7 +29,7 @@ fn show_asked(alloc: Global, asked: &Asked) -> Result<String, AllocError> {
 /// What the words of a text ask for, or `usage`, as a line.
 pub fn asked_text(alloc: Global, text: &[u8]) -> Result<Vec<u8>, AllocError> {
     let text = str::from_utf8(text).unwrap_or("");
-    let Ok(words) = words_of(alloc, text) else {
+    let Ok(words) = words_in(alloc, text) else {
         return Vec::from_slice(alloc, b"out of memory\n");
     };
     match asked_of(alloc, &words) {

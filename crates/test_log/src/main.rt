@@ -3,36 +3,29 @@
 #![tactic(auto)]
 
 mod asked;
-mod calls;
-mod cases;
-mod failing;
 
 use asked::asked_text;
-use calls::{answer, words_of};
-use cases::{run_case, run_failing};
+use dap_base::{MemorySink, MemorySource, Words};
+use log_tool::dapseq_log;
 use std::alloc::{AllocError, Global};
 use std::io;
+use test_calls::{Program, call_row, run_case, run_failing};
 use test_tables::{Row, Tally, table_of};
 
-// What a call with these words writes of the job of a row, and its status.
-fn call_log(alloc: Global, words: &str, row: &Row) -> Result<Vec<u8>, AllocError> {
-    let Ok(words) = words_of(alloc, words) else {
-        return Vec::from_slice(alloc, b"out of memory\n");
-    };
-    let Ok((status, sink)) = answer(alloc, &words, row.input.as_slice(), &[], &[]) else {
-        return Vec::from_slice(alloc, b"out of memory\n");
-    };
-    let mut written = Vec::from_slice(alloc, sink.bytes())?;
-    let last = format!(in alloc; "status {}\n", status.code())?;
-    written.extend_from_slice(last.as_bytes())?;
-    Ok(written)
+// The program `dapseq_log`.
+struct Log;
+
+impl Program for Log {
+    fn call(alloc: Global, words: &Words, source: &mut MemorySource, sink: &mut MemorySink) -> u8 {
+        dapseq_log(alloc, words, source, sink).code()
+    }
 }
 
 // What comes of a row: of the form `call` and words the text that is written and the status, of the form `words` what the words of the
 // row ask for.
 fn try_row(alloc: Global, row: &Row) -> Result<Vec<u8>, AllocError> {
     match row.form.as_str().strip_prefix("call") {
-        Some(words) => call_log(alloc, words, row),
+        Some(words) => call_row::<Log>(alloc, words, row),
         None => asked_text(alloc, row.input.as_slice()),
     }
 }
@@ -53,9 +46,9 @@ fn main(rt: HostRuntime) -> io::Result<()> {
         let line = line?;
         let line = line.as_str();
         if let Some(name) = line.strip_prefix("failing ") {
-            run_failing(&rt, name)?;
+            run_failing::<Log>(&rt, name)?;
         } else if let Some(name) = line.strip_prefix("case ") {
-            run_case(&rt, name)?;
+            run_case::<Log>(&rt, name)?;
         } else {
             try_table(&rt, line)?;
         }

@@ -1,7 +1,7 @@
 //! Calls with stored jobs, and what is stored beside them.
 
-use crate::calls::{answer, words_of};
 use crate::failing::{Object, failing_calls};
+use crate::program::{Program, answer, words_in};
 use dap_base::{OutOfMemory, Words};
 use std::io::ErrorKind;
 use std::{fs, io};
@@ -37,7 +37,7 @@ fn read_stored(rt: &HostRuntime, name: &str) -> io::Result<Stored> {
     let args = fs::read_to_string(rt, format!(in rt.alloc(); "{name}.args")?)?;
     let text = fs::read(rt, format!(in rt.alloc(); "{name}.stdout")?)?;
     let job = fs::read(rt, format!(in rt.alloc(); "{}", first_line(args.as_str()))?)?;
-    let words = words_of(rt.alloc(), other_lines(args.as_str())).map_err(no_memory)?;
+    let words = words_in(rt.alloc(), other_lines(args.as_str())).map_err(no_memory)?;
     Ok(Stored { job, words, text })
 }
 
@@ -45,10 +45,9 @@ fn read_stored(rt: &HostRuntime, name: &str) -> io::Result<Stored> {
 /// `NAME.stdout`; else what was written.
 ///
 /// An error where a file cannot be read, standard output cannot be written, or memory is refused.
-pub fn run_case(rt: &HostRuntime, name: &str) -> io::Result<()> {
+pub fn run_case<P: Program>(rt: &HostRuntime, name: &str) -> io::Result<()> {
     let Stored { job, words, text } = read_stored(rt, name)?;
-    let (status, sink) = answer(rt.alloc(), &words, &job, &[], &[]).map_err(no_memory)?;
-    let code = status.code();
+    let (code, sink) = answer::<P>(rt.alloc(), &words, &job, &[], &[]).map_err(no_memory)?;
     if sink.bytes() == text.as_slice() {
         return println!(rt; "{name} {code} as expected");
     }
@@ -64,11 +63,11 @@ pub fn run_case(rt: &HostRuntime, name: &str) -> io::Result<()> {
 /// not write then.
 ///
 /// An error where a file cannot be read, standard output cannot be written, or memory is refused.
-pub fn run_failing(rt: &HostRuntime, name: &str) -> io::Result<()> {
+pub fn run_failing<P: Program>(rt: &HostRuntime, name: &str) -> io::Result<()> {
     let Stored { job, words, text } = read_stored(rt, name)?;
     print!(rt; "{name}")?;
     for (object, called) in [(Object::Source, "source"), (Object::Sink, "sink")] {
-        match failing_calls(rt.alloc(), &words, &job, &text, object).map_err(no_memory)? {
+        match failing_calls::<P>(rt.alloc(), &words, &job, &text, object).map_err(no_memory)? {
             Some(calls) => print!(rt; " {called} {calls}")?,
             None => print!(rt; " {called} differs")?,
         }

@@ -1,5 +1,5 @@
 use Rattle.std.proofs.Common.{◌≡◌, map, string_bytes, take, drop}
-use Rattle.dapseq_words.proofs.words.words_of.Given as goal
+use Rattle.program_arguments.proofs.words_of.Given as goal
 
 abbrev pub invariant-loop-argument : goal.invariant-loop-argument
 invariant-loop-argument l = record {
