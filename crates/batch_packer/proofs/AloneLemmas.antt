@@ -34,7 +34,7 @@ use Rattle.batch_packer.specs.Alone.{IsBlock, one_command, one_form}
 use Rattle.batch_packer.specs.Exchanges.{HasAnswered, IsIdle, MayHaveRun}
 use Rattle.batch_packer.specs.Flying.{HasFlown, HasFlownBy, IsReady, MayHaveFlown, OnceBy, transfers_of}
 use Rattle.batch_packer.specs.Readings.{IsPart, IsSeen, IsShown, part_as, part_in, part_with, reading, shown_in}
-use Rattle.batch_packer.specs.declared.part.Progress.{Progress}
+use Rattle.batch_packer.specs.declared.part.FlightProgress.{FlightProgress}
 
 -- what the command does
 abbrev one_done : Bool → TransferState → List RegAccess → Transferred
@@ -173,18 +173,18 @@ ran_alone b given accesses packet m n short fits is ready does (inr ran) =
 
 -- ---- what was read is what was done
 
-pub part_same : (part : Part) (progress : Progress) (old new : List (Option ℕ)) → IsPart part progress old new → old ≡ [] → part_with progress new ≡ part
+pub part_same : (part : Part) (progress : FlightProgress) (old new : List (Option ℕ)) → IsPart part progress old new → old ≡ [] → part_with progress new ≡ part
 part_same part progress old new is none =
     λ i. record { performed = is.performed i; confirmed = is.confirmed i; response = is.response i; values = (is.values ∙ ap (λ xs. xs ++ part.values) none) i }
 
 -- what was shown with no value before it
-pub seen_shown : (found : Option Part) (progress : Option Progress) (new : List (Option ℕ)) → IsShown found progress [] new → IsSeen found progress new
+pub seen_shown : (found : Option Part) (progress : Option FlightProgress) (new : List (Option ℕ)) → IsShown found progress [] new → IsSeen found progress new
 seen_shown None None new is = tt
 seen_shown None (Some progress) new is = absurd is
 seen_shown (Some part) None new is = absurd is
 seen_shown (Some part) (Some progress) new is = sym (part_same part progress [] new is refl)
 
-pub flown_by : (form : Form) (accesses : List RegAccess) (found : Option Part) (progress : Option Progress) (new : List (Option ℕ)) (part : Part) (m n : BenchState) →
+pub flown_by : (form : Form) (accesses : List RegAccess) (found : Option Part) (progress : Option FlightProgress) (new : List (Option ℕ)) (part : Part) (m n : BenchState) →
     IsSeen found progress new → found ≡ Some part → HasFlown form accesses part m n → HasFlownBy form accesses progress new m n
 flown_by form accesses None progress new part m n is e has = absurd (not_both e)
   where
@@ -201,7 +201,7 @@ flown_by form accesses (Some found) (Some progress) new part m n is e has =
 
 -- ---- over a bench
 
-pub flew_alone : (b : Bool) (given : Limits) (accesses : List RegAccess) (packet reply : List ℕ) (progress : Option Progress) (new : List (Option ℕ)) (x y : Option BenchState) →
+pub flew_alone : (b : Bool) (given : Limits) (accesses : List RegAccess) (packet reply : List ℕ) (progress : Option FlightProgress) (new : List (Option ℕ)) (x y : Option BenchState) →
     AreLimits given → (b ≡ true → IsBlock accesses) → AreTaken accesses → AreWords accesses → FitsPacket given.packet_size 0 (one_command b accesses) →
     packet ≡ command_bytes (one_command b accesses) → IsSeen (reading (one_command b accesses) 0 (requests_for false accesses) reply) progress new →
     StepsTo (λ m o. IsIdle m → HasAnswered packet reply m o) x y → StepsTo (λ m n. IsReady given m → HasFlownBy (one_form b) accesses progress new m n) x y

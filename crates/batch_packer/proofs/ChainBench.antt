@@ -29,7 +29,7 @@ use Rattle.batch_packer.specs.Exchanges.{IsOpen}
 use Rattle.batch_packer.specs.Flying.{HasFlown, HasFlownBy, IsReady, MayHaveFlown, NoneOrPart, transfers_of}
 use Rattle.batch_packer.specs.Queues.{HandedSome, IsQueue, ServedSome}
 use Rattle.batch_packer.specs.Readings.{IsSeen}
-use Rattle.batch_packer.specs.declared.part.Progress.{Progress}
+use Rattle.batch_packer.specs.declared.part.FlightProgress.{FlightProgress}
 
 -- ---- the packets
 
@@ -334,7 +334,7 @@ not_all_taken given accesses parts packets replies m n o short some all taken fi
 
 -- ---- over a bench
 
-pub flew_chain : (given : Limits) (accesses : List RegAccess) (parts : List (List RegAccess)) (packets replies : List (List ℕ)) (progress : Option Progress) (new : List (Option ℕ)) (a b c : Option BenchState) →
+pub flew_chain : (given : Limits) (accesses : List RegAccess) (parts : List (List RegAccess)) (packets replies : List (List ℕ)) (progress : Option FlightProgress) (new : List (Option ℕ)) (a b c : Option BenchState) →
     given.packet_size ≤ 1024 → 0 < length parts → all_of parts ≡ accesses → AreWords accesses → AllTaken parts → AllByRecursion AreWords parts → FitChain given.packet_size parts → packets ≡ chain_packets parts →
     length replies ≡ length packets → IsSeen (readings_after (Some nothing_yet) parts replies) progress new →
     StepsTo (λ m n. n ≡ fold served m packets) a b → StepsTo (HandedSome replies) b c → StepsTo (λ m o. IsReady given m → HasFlownBy Chain accesses progress new m o) a c

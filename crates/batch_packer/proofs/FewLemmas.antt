@@ -7,7 +7,7 @@ use Rattle.dap_transfer.specs.WireTransfer.{reads_rdbuff_itself}
 use Rattle.dap_transfer.specs.Wires.{access_of}
 use Rattle.flight_forms.specs.Flights.{part_of, seen_values}
 use Rattle.batch_packer.specs.Readings.{IsFew}
-use Rattle.batch_packer.specs.declared.part.Progress.{Progress}
+use Rattle.batch_packer.specs.declared.part.FlightProgress.{FlightProgress}
 
 own_few : (rs : List Request) → length (accesses_in rs) ≤ length rs
 own_few [] = omega arith
@@ -22,7 +22,7 @@ taken_few zero xs = omega arith
 taken_few (suc n) [] = omega arith
 taken_few (suc n) (x ∷ xs) = let h = taken_few n xs in omega arith
 
-pub few_part : (rs : List Request) (x : Response) (words : List ℕ) (old new : List (Option ℕ)) (p : Progress) → length rs ≤ 255 → p.performed ≡ (part_of rs x words).performed →
+pub few_part : (rs : List Request) (x : Response) (words : List ℕ) (old new : List (Option ℕ)) (p : FlightProgress) → length rs ≤ 255 → p.performed ≡ (part_of rs x words).performed →
     p.confirmed ≡ (part_of rs x words).confirmed → new ≡ old ++ (part_of rs x words).values → IsFew p old new
 few_part rs x words old new p few performed confirmed values =
     let own = own_few rs in

@@ -19,7 +19,7 @@ use Rattle.batch_packer.proofs.AloneLemmas.{seen_shown}
 use Rattle.batch_packer.proofs.PacketLemmas.{fits_packet}
 use Rattle.batch_packer.specs.Alone.{IsBlock, one_command, one_reading}
 use Rattle.batch_packer.specs.Readings.{IsPacketOf, IsSeen, IsShown, reading}
-use Rattle.batch_packer.specs.declared.part.Progress.{Progress}
+use Rattle.batch_packer.specs.declared.part.FlightProgress.{FlightProgress}
 use Rattle.batch_packer.proofs.ChainBench.{some_is}
 
 -- the one packet that was kept
@@ -56,7 +56,7 @@ normal_front rs accesses is = subst AreNormal (sym is) (are_normal false accesse
 
 -- ---- what was read
 
-pub shown_alone : (b : Bool) (size : ℕ) (accesses : List RegAccess) (packet reply : List ℕ) (rs : List Request) (progress : Option Progress) (old new : List (Option ℕ)) → size ≤ 1024 →
+pub shown_alone : (b : Bool) (size : ℕ) (accesses : List RegAccess) (packet reply : List ℕ) (rs : List Request) (progress : Option FlightProgress) (old new : List (Option ℕ)) → size ≤ 1024 →
     FitsPacket size 0 (one_command b accesses) → packet ≡ command_bytes (one_command b accesses) → rs ≡ requests_for false accesses →
     ((kind : PacketKind) (command : CommandValue) → IsPacketOf kind (command ∷ []) packet → IsShown (reading command 0 rs reply) progress old new) → old ≡ [] →
     IsSeen (reading (one_command b accesses) 0 (requests_for false accesses) reply) progress new
@@ -66,6 +66,6 @@ shown_alone b size accesses packet reply rs progress old new short fits is front
     (subst (λ (ys : List Request). IsShown (reading c 0 ys reply) progress old new) front
     (shown Plain c (fits_packet Plain c packet size short fits (is ∙ sym (append-nil (command_bytes c)))))))
 
-pub read_alone : (b : Bool) (accesses : List RegAccess) (reply : List ℕ) (replies : List (List ℕ)) (progress : Option Progress) (new : List (Option ℕ)) → replies ≡ reply ∷ [] →
+pub read_alone : (b : Bool) (accesses : List RegAccess) (reply : List ℕ) (replies : List (List ℕ)) (progress : Option FlightProgress) (new : List (Option ℕ)) → replies ≡ reply ∷ [] →
     IsSeen (reading (one_command b accesses) 0 (requests_for false accesses) reply) progress new → IsSeen (one_reading b accesses replies) progress new
 read_alone b accesses reply replies progress new is shown = subst (λ (xs : List (List ℕ)). IsSeen (one_reading b accesses xs) progress new) (sym is) shown

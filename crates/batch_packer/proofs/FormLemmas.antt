@@ -27,7 +27,7 @@ use Rattle.batch_packer.specs.Queues.{IsChain}
 use Rattle.batch_packer.specs.Readings.{IsSeen, part_with}
 use Rattle.batch_packer.specs.declared.ends.FlightEnd.{FlightEnd}
 use Rattle.batch_packer.specs.declared.ends.FlightEnd.TheVariants as ends
-use Rattle.batch_packer.specs.declared.part.Progress.{Progress}
+use Rattle.batch_packer.specs.declared.part.FlightProgress.{FlightProgress}
 use Rattle.dap_base.proofs.Basics.{second_true}
 
 -- ---- what a form holds
@@ -86,11 +86,11 @@ chain_sent limits given accesses some in_range within words is = record {
 
 -- ---- how it ends
 
-same_whole : (accesses : List RegAccess) (progress : Progress) (values : List (Option ℕ)) → progress.performed ≡ length accesses → progress.confirmed ≡ length accesses → progress.response ≡ Good →
+same_whole : (accesses : List RegAccess) (progress : FlightProgress) (values : List (Option ℕ)) → progress.performed ≡ length accesses → progress.confirmed ≡ length accesses → progress.response ≡ Good →
     part_with progress values ≡ whole_part accesses values
 same_whole accesses progress values p k r = λ i. record { performed = p i; confirmed = k i; response = r i; values = values }
 
-flew_one : (form : Form) (accesses : List RegAccess) (progress : Progress) (values : List (Option ℕ)) (m n : BenchState) → HasFlown form accesses (part_with progress values) m n →
+flew_one : (form : Form) (accesses : List RegAccess) (progress : FlightProgress) (values : List (Option ℕ)) (m n : BenchState) → HasFlown form accesses (part_with progress values) m n →
     Flew form accesses (end_at progress.response progress) values m n
 flew_one form accesses progress values m n has = by_response progress.response refl
   where
@@ -109,17 +109,17 @@ flew_one form accesses progress values m n has = by_response progress.response r
     by_response Fault e = ((λ f. absurd (cc)), moved Fault e)
     by_response Mismatch e = let does = has.does in let made = does.made in absurd (made.never e)
 
-flew_found : (form : Form) (accesses : List RegAccess) (progress : Option Progress) (values : List (Option ℕ)) (m n : BenchState) → HasFlownBy form accesses progress values m n →
+flew_found : (form : Form) (accesses : List RegAccess) (progress : Option FlightProgress) (values : List (Option ℕ)) (m n : BenchState) → HasFlownBy form accesses progress values m n →
     Flew form accesses (end_of progress) values m n
 flew_found form accesses None values m n has = absurd has
 flew_found form accesses (Some progress) values m n has = flew_one form accesses progress values m n has
 
-pub flew_so : (form : Form) (given : Limits) (accesses : List RegAccess) (progress : Option Progress) (end : Option FlightEnd) (values : List (Option ℕ)) (a b : Option BenchState) → end ≡ end_of progress →
+pub flew_so : (form : Form) (given : Limits) (accesses : List RegAccess) (progress : Option FlightProgress) (end : Option FlightEnd) (values : List (Option ℕ)) (a b : Option BenchState) → end ≡ end_of progress →
     StepsTo (λ m n. IsReady given m → HasFlownBy form accesses progress values m n) a b → StepsTo (λ m n. IsReady given m → Flew form accesses end values m n) a b
 flew_so form given accesses progress end values a b is steps =
     steps_map (λ m n h ready. subst (λ (e : Option FlightEnd). Flew form accesses e values m n) (sym is) (flew_found form accesses progress values m n (h ready))) a b steps
 
-ends_one : (progress : Progress) (values : List (Option ℕ)) → EndsBy (unless_mismatch (Some (part_with progress values))) (end_at progress.response progress) values
+ends_one : (progress : FlightProgress) (values : List (Option ℕ)) → EndsBy (unless_mismatch (Some (part_with progress values))) (end_at progress.response progress) values
 ends_one progress values = by_response progress.response refl
   where
     by_response : (x : Response) → progress.response ≡ x → EndsBy (cond (is_mismatch x) None (Some (part_with progress values))) (end_at x progress) values
@@ -128,17 +128,17 @@ ends_one progress values = by_response progress.response refl
     by_response Fault e = record { performed = refl; confirmed = refl; response = ap code_of (sym e); stopped = inr refl; seen = refl }
     by_response Mismatch e = tt
 
-ends_seen : (found : Option Part) (progress : Progress) (values : List (Option ℕ)) → IsSeen found (Some progress) values → EndsBy (unless_mismatch found) (end_at progress.response progress) values
+ends_seen : (found : Option Part) (progress : FlightProgress) (values : List (Option ℕ)) → IsSeen found (Some progress) values → EndsBy (unless_mismatch found) (end_at progress.response progress) values
 ends_seen None progress values h = absurd h
 ends_seen (Some part) progress values h = subst (λ (x : Part). EndsBy (unless_mismatch (Some x)) (end_at progress.response progress) values) (sym h) (ends_one progress values)
 
-ends_found : (found : Option Part) (progress : Option Progress) (values : List (Option ℕ)) → IsSeen found progress values → EndsBy (unless_mismatch found) (end_of progress) values
+ends_found : (found : Option Part) (progress : Option FlightProgress) (values : List (Option ℕ)) → IsSeen found progress values → EndsBy (unless_mismatch found) (end_of progress) values
 ends_found None None values h = tt
 ends_found None (Some progress) values h = absurd h
 ends_found (Some part) None values h = absurd h
 ends_found (Some part) (Some progress) values h = ends_seen (Some part) progress values h
 
-pub ends_so : (form : Form) (size : ℕ) (accesses : List RegAccess) (packets replies : List (List ℕ)) (last : Exchange) (progress : Option Progress) (end : Option FlightEnd) (values : List (Option ℕ)) →
+pub ends_so : (form : Form) (size : ℕ) (accesses : List RegAccess) (packets replies : List (List ℕ)) (last : Exchange) (progress : Option FlightProgress) (end : Option FlightEnd) (values : List (Option ℕ)) →
     last ≡ record { packets = packets; replies = replies } → end ≡ end_of progress → IsSeen (form_reading form size accesses replies) progress values →
     EndsBy (flight_reading form size accesses last.replies) end values
 ends_so form size accesses packets replies last progress end values kept is seen =

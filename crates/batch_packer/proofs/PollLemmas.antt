@@ -38,7 +38,7 @@ use Rattle.batch_packer.specs.Polling.{MayHavePolled, PolledBy, is_framed, is_re
 use Rattle.batch_packer.specs.Readings.{IsPacketOf, shown_in}
 use Rattle.batch_packer.specs.declared.ends.FlightEnd.{FlightEnd}
 use Rattle.batch_packer.specs.declared.ends.FlightEnd.TheVariants as ends
-use Rattle.batch_packer.specs.declared.poll.Config.{Config}
+use Rattle.probe_core.specs.declared.job.Config.{Config}
 use Rattle.batch_packer.specs.declared.poll.PollAsk.{PollAsk}
 
 -- ---- its packet

@@ -19,7 +19,7 @@ use Rattle.batch_packer.proofs.PacketLemmas.{fits_packet}
 use Rattle.batch_packer.specs.ChainReadings.{ended_at, guarded_in, guarded_reading, inner_reply, is_of_one, noted_at, readings_after, then_reading}
 use Rattle.batch_packer.specs.Queues.{IsPartPacket}
 use Rattle.batch_packer.specs.Readings.{IsPacketOf, IsSeen, IsShown, part_with, reading}
-use Rattle.batch_packer.specs.declared.part.Progress.{Progress}
+use Rattle.batch_packer.specs.declared.part.FlightProgress.{FlightProgress}
 use Rattle.dap_base.proofs.Basics.{first_is}
 
 -- ---- the payload between the guard and its end
@@ -69,7 +69,7 @@ take_bytes zero (x ∷ xs) h = absurd (omega arith)
 take_bytes (suc n) [] h = refl
 take_bytes (suc n) (x ∷ xs) h = ap (λ ys. x ∷ ys) (take_bytes n xs (omega arith))
 
-pub part_shown : (accesses : List RegAccess) (packet reply : List ℕ) (rs : List Request) (count : ℕ) (progress : Option Progress) (old new : List (Option ℕ)) → IsPartPacket accesses packet →
+pub part_shown : (accesses : List RegAccess) (packet reply : List ℕ) (rs : List Request) (count : ℕ) (progress : Option FlightProgress) (old new : List (Option ℕ)) → IsPartPacket accesses packet →
     take count rs ≡ guarded_requests accesses → count ≡ length (guarded_requests accesses) → 2 ≤ length reply → is_of_one (get_or reply 0 0) (get_or reply 1 0) ≡ true →
     ((kind : PacketKind) (command : CommandValue) → IsPacketOf kind (command ∷ []) packet → IsShown (reading command 2 (take (count - 1 - 2) (drop 2 rs)) (take (length reply - 2) (drop 2 reply))) progress old new) →
     IsShown (guarded_reading accesses reply) progress old new
@@ -124,7 +124,7 @@ reads_on i replies reply part parts left sofar next found all at split whole is 
     ∙ (λ j. readings_after (Some sofar) (sym split j) (sym (drop_at i replies reply at) j))
     ∙ whole
 
-seen_some : (found : Option Part) (progress : Progress) (new : List (Option ℕ)) → IsSeen found (Some progress) new → found ≡ Some (part_with progress new)
+seen_some : (found : Option Part) (progress : FlightProgress) (new : List (Option ℕ)) → IsSeen found (Some progress) new → found ≡ Some (part_with progress new)
 seen_some None progress new h = absurd h
 seen_some (Some part) progress new h = ap Some h
 
@@ -132,7 +132,7 @@ seen_none : (found : Option Part) (new : List (Option ℕ)) → IsSeen found Non
 seen_none None new h = refl
 seen_none (Some part) new h = absurd h
 
-pub goes_on : (i : ℕ) (replies : List (List ℕ)) (reply : List ℕ) (part : List RegAccess) (parts left : List (List RegAccess)) (sofar : Part) (progress : Progress) (new : List (Option ℕ)) (all : Option Part) →
+pub goes_on : (i : ℕ) (replies : List (List ℕ)) (reply : List ℕ) (part : List RegAccess) (parts left : List (List RegAccess)) (sofar : Part) (progress : FlightProgress) (new : List (Option ℕ)) (all : Option Part) →
     slice_get replies i ≡ Some reply → parts ≡ part ∷ left → readings_after (Some sofar) parts (drop i replies) ≡ all → IsSeen (then_reading sofar (guarded_reading part reply)) (Some progress) new →
     readings_after (Some (part_with progress new)) left (drop (i + 1) replies) ≡ all
 goes_on i replies reply part parts left sofar progress new all at split whole seen =
@@ -154,7 +154,7 @@ ends_on i at replies reply part parts left sofar found all here split whole is =
     ∙ (λ j. ended_at (Some sofar) i at (sym split j) (sym (drop_at i replies reply here) j))
     ∙ whole
 
-pub end_goes_on : (i at noted : ℕ) (replies : List (List ℕ)) (reply : List ℕ) (part : List RegAccess) (parts left : List (List RegAccess)) (sofar : Part) (progress : Progress) (new : List (Option ℕ)) (all : ℕ) →
+pub end_goes_on : (i at noted : ℕ) (replies : List (List ℕ)) (reply : List ℕ) (part : List RegAccess) (parts left : List (List RegAccess)) (sofar : Part) (progress : FlightProgress) (new : List (Option ℕ)) (all : ℕ) →
     slice_get replies i ≡ Some reply → parts ≡ part ∷ left → ended_at (Some sofar) i at parts (drop i replies) ≡ all → noted ≡ cond (is_good sofar.response) i at →
     IsSeen (then_reading sofar (guarded_reading part reply)) (Some progress) new → ended_at (Some (part_with progress new)) (i + 1) noted left (drop (i + 1) replies) ≡ all
 end_goes_on i at noted replies reply part parts left sofar progress new all here split whole note seen =
@@ -176,7 +176,7 @@ drop_all zero (x ∷ xs) h = absurd (omega arith)
 drop_all (suc i) [] h = refl
 drop_all (suc i) (x ∷ xs) h = drop_all i xs (omega arith)
 
-pub ends_there : (i : ℕ) (packets replies : List (List ℕ)) (parts : List (List RegAccess)) (progress : Progress) (new : List (Option ℕ)) (all : Option Part) → length replies ≡ length packets → length replies ≤ i →
+pub ends_there : (i : ℕ) (packets replies : List (List ℕ)) (parts : List (List RegAccess)) (progress : FlightProgress) (new : List (Option ℕ)) (all : Option Part) → length replies ≡ length packets → length replies ≤ i →
     drop i packets ≡ chain_packets parts → readings_after (Some (part_with progress new)) parts (drop i replies) ≡ all → IsSeen all (Some progress) new
 ends_there i packets replies parts progress new all count past is whole =
     let none : parts ≡ [] = none_left parts (sym (drop_all i packets (omega arith)) ∙ is) in

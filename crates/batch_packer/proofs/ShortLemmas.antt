@@ -25,7 +25,7 @@ use Rattle.batch_packer.specs.ChainReadings.{guarded_in, guarded_reading, is_mis
 use Rattle.batch_packer.specs.FlightEnds.{IsShort, end_at, end_of}
 use Rattle.batch_packer.specs.Readings.{IsReadFrom, IsSeen, IsShown, part_as, part_in, part_with, shown_in}
 use Rattle.batch_packer.specs.declared.ends.FlightEnd.{FlightEnd}
-use Rattle.batch_packer.specs.declared.part.Progress.{Progress}
+use Rattle.batch_packer.specs.declared.part.FlightProgress.{FlightProgress}
 
 one_is : (found command : CommandValue) → Some found ≡ slice_get (command ∷ []) 0 → found ≡ command
 one_is found command e = some_is found command e
@@ -33,7 +33,7 @@ one_is found command e = some_is found command e
     some_is : (x y : CommandValue) → Some x ≡ Some y → x ≡ y
     some_is x y f = cc
 
-pub read_from : (command found : CommandValue) (replied : List ℕ) (view : Shown) (before : ℕ) (requests : List Request) (old new : List (Option ℕ)) (result : Option Progress) → Some found ≡ slice_get (command ∷ []) 0 →
+pub read_from : (command found : CommandValue) (replied : List ℕ) (view : Shown) (before : ℕ) (requests : List Request) (old new : List (Option ℕ)) (result : Option FlightProgress) → Some found ≡ slice_get (command ∷ []) 0 →
     Some view ≡ shown_in (reply_read found replied) → IsReplyTo found replied view → IsShown (part_as before requests view (response_of view.response)) result old new → IfSome result (IsReadFrom command before requests replied old new)
 read_from command found replied view before requests old new None is read answers reply_shown = tt
 read_from command found replied view before requests old new (Some progress) is read answers reply_shown = record {
@@ -46,7 +46,7 @@ read_from command found replied view before requests old new (Some progress) is 
 -- ---- what one reply shows
 
 -- of a flight in one packet
-one_part_short : (b : Bool) (accesses : List RegAccess) (answer : ReplyValue) (view : Shown) (progress : Progress) (new : List (Option ℕ)) (x : Option Response) → (b ≡ true → IsBlock accesses) → AreTaken accesses →
+one_part_short : (b : Bool) (accesses : List RegAccess) (answer : ReplyValue) (view : Shown) (progress : FlightProgress) (new : List (Option ℕ)) (x : Option Response) → (b ≡ true → IsBlock accesses) → AreTaken accesses →
     Answers (one_command b accesses) answer → view ≡ reply_shown answer → response_of view.response ≡ x → IsShown (part_as 0 (requests_for false accesses) view x) (Some progress) [] new →
     IsPartOf (length accesses) (part_with progress new)
 one_part_short b accesses answer view progress new None block taken may shows is reply_shown = absurd reply_shown
@@ -76,7 +76,7 @@ one_part_short false accesses (reply.Status id status) view progress new (Some x
 one_part_short false accesses (reply.Pins pins) view progress new (Some x) block taken may shows is reply_shown = absurd may
 one_part_short false accesses (reply.Block n code) view progress new (Some x) block taken may shows is reply_shown = absurd may
 
-pub alone_short : (b : Bool) (accesses : List RegAccess) (replied : List ℕ) (result : Option Progress) (new : List (Option ℕ)) → (b ≡ true → IsBlock accesses) → AreTaken accesses →
+pub alone_short : (b : Bool) (accesses : List RegAccess) (replied : List ℕ) (result : Option FlightProgress) (new : List (Option ℕ)) → (b ≡ true → IsBlock accesses) → AreTaken accesses →
     IfSome result (IsReadFrom (one_command b accesses) 0 (requests_for false accesses) replied [] new) → IfSome result (λ p. IsPartOf (length accesses) (part_with p new))
 alone_short b accesses replied None new block taken from = tt
 alone_short b accesses replied (Some progress) new block taken from =
@@ -99,7 +99,7 @@ guarded_part_short accesses (reply.Status id status) view (Some x) taken some ma
 guarded_part_short accesses (reply.Pins pins) view (Some x) taken some may shows is = absurd may
 guarded_part_short accesses (reply.Block n code) view (Some x) taken some may shows is = absurd may
 
-pub guarded_short : (accesses : List RegAccess) (replied : List ℕ) (rs : List Request) (result : Option Progress) (old new : List (Option ℕ)) → AreTaken accesses → 0 < length accesses → 2 ≤ length replied →
+pub guarded_short : (accesses : List RegAccess) (replied : List ℕ) (rs : List Request) (result : Option FlightProgress) (old new : List (Option ℕ)) → AreTaken accesses → 0 < length accesses → 2 ≤ length replied →
     is_of_one (get_or replied 0 0) (get_or replied 1 0) ≡ true → IfSome result (IsReadFrom (guarded_command accesses) 2 rs (take (length replied - 2) (drop 2 replied)) old new) →
     IfSome result (λ _. IfSome (guarded_reading accesses replied) (IsPartOf (length accesses)))
 guarded_short accesses replied rs None old new taken some two first from = tt
@@ -116,7 +116,7 @@ guarded_short accesses replied rs (Some progress) old new taken some two first f
 
 -- ---- what several replies show
 
-joined_shown : (x : Response) (unmet : Bool) (sofar next : Part) (progress : Progress) (new : List (Option ℕ)) → IsSeen (joined_if (is_good x) unmet sofar next) (Some progress) new →
+joined_shown : (x : Response) (unmet : Bool) (sofar next : Part) (progress : FlightProgress) (new : List (Option ℕ)) → IsSeen (joined_if (is_good x) unmet sofar next) (Some progress) new →
     joined_as x sofar next ≡ part_with progress new
 joined_shown Good false sofar next progress new h = h
 joined_shown Good true sofar next progress new h = absurd h
@@ -127,7 +127,7 @@ joined_shown Fault false sofar next progress new h = absurd h
 joined_shown Mismatch true sofar next progress new h = h
 joined_shown Mismatch false sofar next progress new h = absurd h
 
-pub next_short : (m n : ℕ) (sofar : Part) (found : Option Part) (progress : Progress) (new : List (Option ℕ)) → IsSeen (then_reading sofar found) (Some progress) new → IfSome found (IsPartOf n) →
+pub next_short : (m n : ℕ) (sofar : Part) (found : Option Part) (progress : FlightProgress) (new : List (Option ℕ)) → IsSeen (then_reading sofar found) (Some progress) new → IfSome found (IsPartOf n) →
     IsPartOf m sofar → IsPartOf (m + n) (part_with progress new)
 next_short m n sofar None progress new seen short before = absurd seen
 next_short m n sofar (Some next) progress new seen short before =
@@ -145,12 +145,12 @@ none_short = record {
 }
 
 -- all replies were read
-pub all_short : (n m : ℕ) (progress : Progress) (values : List (Option ℕ)) → n ≡ m → IsPartOf n (part_with progress values) → IsPartOf m (part_with progress values)
+pub all_short : (n m : ℕ) (progress : FlightProgress) (values : List (Option ℕ)) → n ≡ m → IsPartOf n (part_with progress values) → IsPartOf m (part_with progress values)
 all_short n m progress values e h = subst (λ (k : ℕ). IsPartOf k (part_with progress values)) e h
 
 -- ---- how a flight ends
 
-end_short : (count : ℕ) (progress : Progress) (new : List (Option ℕ)) → IsPartOf count (part_with progress new) → IsShort count (end_at progress.response progress)
+end_short : (count : ℕ) (progress : FlightProgress) (new : List (Option ℕ)) → IsPartOf count (part_with progress new) → IsShort count (end_at progress.response progress)
 end_short count progress new h = by_response progress.response refl
   where
     by_response : (x : Response) → progress.response ≡ x → IsShort count (end_at x progress)
@@ -159,11 +159,11 @@ end_short count progress new h = by_response progress.response refl
     by_response Fault e = (h.most, h.short (λ f. absurd (let g : ◌≡◌ {A = Response} Fault Good = sym e ∙ f in cc)))
     by_response Mismatch e = tt
 
-end_found : (count : ℕ) (progress : Option Progress) (new : List (Option ℕ)) → IfSome progress (λ p. IsPartOf count (part_with p new)) → IsShort count (end_of progress)
+end_found : (count : ℕ) (progress : Option FlightProgress) (new : List (Option ℕ)) → IfSome progress (λ p. IsPartOf count (part_with p new)) → IsShort count (end_of progress)
 end_found count None new h = tt
 end_found count (Some progress) new h = end_short count progress new h
 
-pub ends_short : (count : ℕ) (progress : Option Progress) (end : Option FlightEnd) (new : List (Option ℕ)) → end ≡ end_of progress → IfSome progress (λ p. IsPartOf count (part_with p new)) → IsShort count end
+pub ends_short : (count : ℕ) (progress : Option FlightProgress) (end : Option FlightEnd) (new : List (Option ℕ)) → end ≡ end_of progress → IfSome progress (λ p. IsPartOf count (part_with p new)) → IsShort count end
 ends_short count progress end new is h = subst (λ (e : Option FlightEnd). IsShort count e) (sym is) (end_found count progress new h)
 
 -- each of the parts has accesses that a flight takes

@@ -16,7 +16,7 @@ use Rattle.batch_packer.specs.Flying.{HasFlown, MayHaveFlown}
 use Rattle.batch_packer.specs.declared.ends.Cut.{Cut}
 use Rattle.batch_packer.specs.declared.ends.FlightEnd.{FlightEnd}
 use Rattle.batch_packer.specs.declared.ends.FlightEnd.TheVariants as ends
-use Rattle.batch_packer.specs.declared.part.Progress.{Progress}
+use Rattle.batch_packer.specs.declared.part.FlightProgress.{FlightProgress}
 
 -- what the replies to a flight in this form show
 abbrev pub form_reading : Form → ℕ → List RegAccess → List (List ℕ) → Option Part
@@ -95,18 +95,18 @@ pub record EndsOver {B : Type 0} (reported : B → Reported) (state : B → Opti
   pub cause : HasEndCause (reported old).faults (reported new).faults end
 
 -- numbers of 32 bits
-pub record IsSmall (progress : Progress) : Type 0 where
+pub record IsSmall (progress : FlightProgress) : Type 0 where
   pub performed : progress.performed < 2 ^ 32
   pub confirmed : progress.confirmed < 2 ^ 32
 
 -- how a flight ends that came so far and was answered so
-abbrev pub end_at : Response → Progress → Option FlightEnd
+abbrev pub end_at : Response → FlightProgress → Option FlightEnd
 end_at Good progress = None
 end_at Mismatch progress = Some ends.ReplyBad
 end_at response progress = Some (ends.Cut (record { performed = progress.performed; confirmed = progress.confirmed; response = code_of response }))
 
 -- the same by what its replies said; they are bad where they said nothing
-abbrev pub end_of : Option Progress → Option FlightEnd
+abbrev pub end_of : Option FlightProgress → Option FlightEnd
 end_of None = Some ends.ReplyBad
 end_of (Some progress) = end_at progress.response progress
 

@@ -17,7 +17,7 @@ use Rattle.flight_forms.specs.declared.form.Form.{Form}
 use Rattle.flight_forms.specs.declared.form.Form.TheVariants.{Chain, Transfer}
 use Rattle.batch_packer.specs.Exchanges.{IsIdle, StepsWhere, TakesPackets}
 use Rattle.batch_packer.specs.Readings.{part_with}
-use Rattle.batch_packer.specs.declared.part.Progress.{Progress}
+use Rattle.batch_packer.specs.declared.part.FlightProgress.{FlightProgress}
 
 -- what makes the transfers of a bench
 abbrev pub transfers_of : BenchState → TransferState
@@ -78,7 +78,7 @@ pub record HasFlown (form : Form) (accesses : List RegAccess) (part : Part) (m n
   pub once : OnceBy form accesses part (transfers_of m) (transfers_of n)
 
 -- what a flight did whose replies were read so; each of them is one that its command may get
-abbrev pub HasFlownBy : Form → List RegAccess → Option Progress → List (Option ℕ) → BenchState → BenchState → Type 0
+abbrev pub HasFlownBy : Form → List RegAccess → Option FlightProgress → List (Option ℕ) → BenchState → BenchState → Type 0
 HasFlownBy form accesses None values m n = ⊥
 HasFlownBy form accesses (Some progress) values m n = HasFlown form accesses (part_with progress values) m n
 

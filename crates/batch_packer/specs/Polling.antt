@@ -20,7 +20,7 @@ use Rattle.batch_packer.specs.Flying.{transfers_of}
 use Rattle.batch_packer.specs.Readings.{shown_in}
 use Rattle.batch_packer.specs.declared.ends.FlightEnd.{FlightEnd}
 use Rattle.batch_packer.specs.declared.ends.FlightEnd.TheVariants as ends
-use Rattle.batch_packer.specs.declared.poll.Config.{Config}
+use Rattle.probe_core.specs.declared.job.Config.{Config}
 use Rattle.batch_packer.specs.declared.poll.PollAsk.{PollAsk}
 
 -- The turns of one portion of a poll: DAP_TransferConfigure has 16 bits for the match retry, one less than the turns.

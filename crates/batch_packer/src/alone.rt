@@ -13,7 +13,7 @@ ghost use Rattle.batch_packer.specs.Rooms.{IsFreshRoom, KeepsRoom};
 
 use crate::exchange::exchange;
 use crate::packing::write_one;
-use crate::part::Progress;
+use crate::part::FlightProgress;
 use crate::reply::read_reply;
 use crate::slots::Slots;
 use dap_base::Failed;
@@ -34,7 +34,7 @@ pub fn fly_alone<B: Bench>(
     bytes: &mut [u8],
     slots: &mut Slots,
     bench: &mut B,
-) -> Result<Option<Progress>, Failed>
+) -> Result<Option<FlightProgress>, Failed>
     requires bench { TakesPackets (B.reported bench.old) }
     requires block { is_block ≡ true → IsBlock accesses.now }
     requires accesses { AreSendable accesses.now }

@@ -17,7 +17,7 @@ ghost use Rattle.batch_packer.specs.Readings.{IsNear, IsSeen, IsShown, ReadsFew,
 ghost use Rattle.batch_packer.specs.Rooms.{IsFreshRoom, KeepsRoom, most_requests};
 
 use crate::packing::put_packets;
-use crate::part::Progress;
+use crate::part::FlightProgress;
 use crate::queue::{receive_all, send_all};
 use crate::reply::read_reply;
 use crate::slots::Slots;
@@ -45,7 +45,7 @@ fn read_part(
     reply: &[u8],
     requests: &mut [Request],
     slots: &mut Slots,
-) -> Option<Progress>
+) -> Option<FlightProgress>
     requires requests { length requests.old ≡ most_requests }
     requires part { IsSentPart accesses.now packet.now }
     requires room { length slots.old.values + 255 ≤ slots.old.room }
@@ -82,7 +82,7 @@ fn is_mismatch(response: Response) -> bool
 
 // How far a chain came, by how far it had come and how far its next command came. `None` where the
 // next makes accesses after one that did not come to its end, or makes none after one that did.
-fn join_progress(so_far: Progress, next: Progress) -> Option<Progress>
+fn join_progress(so_far: FlightProgress, next: FlightProgress) -> Option<FlightProgress>
     requires performed { so_far.performed < 2 ^ 32 }
     requires confirmed { so_far.confirmed < 2 ^ 32 }
     requires next_performed { next.performed ≤ 255 }
@@ -99,7 +99,7 @@ fn join_progress(so_far: Progress, next: Progress) -> Option<Progress>
             Some(so_far)
         }
     } else if is_good(so_far.response) {
-        Some(Progress {
+        Some(FlightProgress {
             performed: so_far.performed + next.performed,
             confirmed: so_far.confirmed + next.confirmed,
             response: next.response,
@@ -124,13 +124,13 @@ fn keep(response: Response, len: usize, slots: &mut Slots)
 // Reads the reply to the packet of one part, after others that said how far the chain came. `None`
 // where it is no reply that the packet may get, or breaks the rules on chains.
 fn read_next(
-    so_far: Progress,
+    so_far: FlightProgress,
     accesses: &[RegAccess],
     packet: &[u8],
     reply: &[u8],
     requests: &mut [Request],
     slots: &mut Slots,
-) -> Option<Progress>
+) -> Option<FlightProgress>
     requires requests { length requests.old ≡ most_requests }
     requires part { IsSentPart accesses.now packet.now }
     requires room { length slots.old.values + 255 ≤ slots.old.room }
@@ -153,7 +153,7 @@ fn read_next(
 }
 
 // Notes at which reply a chain ended, as long as all before it came to their end.
-fn mark(so_far: Progress, index: usize, at: &mut usize)
+fn mark(so_far: FlightProgress, index: usize, at: &mut usize)
     ensures { at.new ≡ (if is_good so_far.response then index else at.old) }
 {
     if is_good(so_far.response) {
@@ -171,7 +171,7 @@ fn read_packets(
     requests: &mut [Request],
     slots: &mut Slots,
     at: &mut usize,
-) -> Option<Progress>
+) -> Option<FlightProgress>
     requires requests { length requests.old ≡ most_requests }
     requires few { length accesses.now < 65535 }
     requires taken { AllTaken (parts_of packet_size accesses.now) }
@@ -188,7 +188,7 @@ fn read_packets(
     ensures few { IfSome result IsSmall }
     ensures room { slots.new.room ≡ slots.old.room }
 {
-    let mut so_far = Progress {
+    let mut so_far = FlightProgress {
         performed: 0,
         confirmed: 0,
         response: Response::Good,
@@ -231,7 +231,7 @@ pub fn fly_chain<B: Bench>(
     at: &mut usize,
     slots: &mut Slots,
     bench: &mut B,
-) -> Result<Option<Progress>, Failed>
+) -> Result<Option<FlightProgress>, Failed>
     requires bench { TakesPackets (B.reported bench.old) }
     requires chain { IsChain packet_size (B.reported bench.old).limits accesses.now }
     requires accesses { AreSendable accesses.now }

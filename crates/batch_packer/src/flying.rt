@@ -14,7 +14,7 @@ ghost use Rattle.batch_packer.specs.Rooms.{IsFreshRoom, KeepsRoom};
 use crate::alone::fly_alone;
 use crate::chain::fly_chain;
 use crate::ends::{Cut, FlightEnd};
-use crate::part::Progress;
+use crate::part::FlightProgress;
 use crate::slots::Slots;
 use dap_base::Failed;
 use dap_messages::{Request, Response};
@@ -35,7 +35,7 @@ fn fly_in<B: Bench>(
     at: &mut usize,
     slots: &mut Slots,
     bench: &mut B,
-) -> Result<Option<Progress>, Failed>
+) -> Result<Option<FlightProgress>, Failed>
     requires bench { TakesFlights limits (B.reported bench.old) }
     requires some { 0 < length accesses.now }
     requires form { form_of limits.packet_size limits.packet_count accesses.now ≡ Some form }
@@ -77,7 +77,7 @@ fn fly_in<B: Bench>(
 }
 
 // How a flight ends that came so far; `None` where it came to its end.
-fn end_at(progress: Progress) -> Option<FlightEnd>
+fn end_at(progress: FlightProgress) -> Option<FlightEnd>
     requires { IsSmall progress }
     ensures { result ≡ end_at progress.response progress }
 {
@@ -93,7 +93,7 @@ fn end_at(progress: Progress) -> Option<FlightEnd>
 }
 
 // The same by what its replies said; they are bad where they said nothing.
-fn end_of(progress: Option<Progress>) -> Option<FlightEnd>
+fn end_of(progress: Option<FlightProgress>) -> Option<FlightEnd>
     requires { IfSome progress IsSmall }
     ensures { result ≡ end_of progress }
 {

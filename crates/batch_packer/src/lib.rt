@@ -19,5 +19,6 @@ mod slots;
 
 pub use ends::{Cut, FlightEnd};
 pub use flight::Flight;
-pub use poll::{Config, PollAsk};
+pub use poll::PollAsk;
+pub use probe_core::Config;
 pub use slots::Slots;

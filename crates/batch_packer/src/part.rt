@@ -16,7 +16,7 @@ use dap_replies::ReplyView;
 
 /// How far the accesses of a flight, or of one of its commands, came.
 #[derive(Clone, Copy, Debug, PartialEq, Eq)]
-pub struct Progress {
+pub struct FlightProgress {
     /// How many accesses were performed.
     pub performed: usize,
     /// How many of these are known to have been good.
@@ -87,7 +87,7 @@ pub fn progress_by(
     response: Response,
     view: &ReplyView<'_>,
     slots: &mut Slots,
-) -> Progress
+) -> FlightProgress
     requires normal { AreNormal executed.now }
     requires few { length executed.now ≤ 255 }
     requires room { length slots.old.values + length executed.now ≤ slots.old.room }
@@ -102,7 +102,7 @@ pub fn progress_by(
     let performed = slots.len() - before;
     let confirmed = performed.saturating_sub(count_doubted(response, reads, is_write, view));
     slots.cut(before + confirmed);
-    Progress {
+    FlightProgress {
         performed,
         confirmed,
         response,

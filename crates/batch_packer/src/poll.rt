@@ -20,22 +20,13 @@ use crate::packing::write_single;
 use crate::reply::view_at;
 use dap_base::Failed;
 use dap_messages::{Command, Request, Response};
-use probe_core::{Bench, PacketList};
+use probe_core::{Bench, Config, PacketList};
 
 // The address of CTRL/STAT.
 const CTRL_STAT: u8 = 0x4;
 
 // DAP_ExecuteCommands.
 const EXECUTE: u8 = 0x7F;
-
-/// The settings of `DAP_TransferConfigure` that a poll sets again.
-#[derive(Clone, Copy, Debug, PartialEq, Eq)]
-pub struct Config {
-    /// The idle cycles after each transfer.
-    pub idle: u8,
-    /// How often a transfer is tried again that was answered WAIT.
-    pub retry: u16,
-}
 
 /// One portion of a poll: CTRL/STAT is read until the value under the mask is `value`, at most
 /// `turns` times.

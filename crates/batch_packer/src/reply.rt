@@ -8,7 +8,7 @@ ghost use Rattle.dap_messages.specs.Responses.{response_of};
 ghost use Rattle.dap_transfer.specs.Laws.{AreNormal};
 ghost use Rattle.batch_packer.specs.Readings.{IsPacketOf, IsReadFrom, IsShown, ReadsFew, part_as, reading, shown_in};
 
-use crate::part::{Progress, progress_by};
+use crate::part::{FlightProgress, progress_by};
 use crate::slots::Slots;
 use dap_messages::{CommandView, Request, Response, packet_view};
 use dap_replies::{ReplyView, reply_view};
@@ -53,7 +53,7 @@ fn read_view(
     before: usize,
     requests: &[Request],
     slots: &mut Slots,
-) -> Option<Progress>
+) -> Option<FlightProgress>
     requires normal { AreNormal requests.now }
     requires few { length requests.now ≤ 255 }
     requires room { length slots.old.values + length requests.now ≤ slots.old.room }
@@ -82,7 +82,7 @@ pub fn read_reply(
     requests: &[Request],
     reply: &[u8],
     slots: &mut Slots,
-) -> Option<Progress>
+) -> Option<FlightProgress>
     requires normal { AreNormal requests.now }
     requires few { length requests.now ≤ 255 }
     requires room { length slots.old.values + length requests.now ≤ slots.old.room }

@@ -16,7 +16,7 @@ use Rattle.batch_packer.specs.Flying.{CanFly, transfers_of}
 use Rattle.batch_packer.specs.Polling.{PolledBy}
 use Rattle.batch_packer.specs.declared.ends.FlightEnd.{FlightEnd}
 use Rattle.batch_packer.specs.declared.ends.FlightEnd.TheVariants as ends
-use Rattle.batch_packer.specs.declared.poll.Config.{Config}
+use Rattle.probe_core.specs.declared.job.Config.{Config}
 use Rattle.batch_packer.specs.declared.poll.PollAsk.{PollAsk}
 use Rattle.batch_packer.proofs.CallLemmas.{flies_after}
 use Rattle.bench_flights.specs.Flown.{CanMatch, DidLess, HasDoneWhole, IsSetTo, LeftActionOff, matched_word}

@@ -16,7 +16,7 @@ use Rattle.batch_packer.specs.FlightStates.{SentBy, sent_form}
 use Rattle.batch_packer.specs.Flying.{CanFly}
 use Rattle.batch_packer.specs.Polling.{PolledBy}
 use Rattle.batch_packer.specs.declared.ends.FlightEnd.{FlightEnd}
-use Rattle.batch_packer.specs.declared.poll.Config.{Config}
+use Rattle.probe_core.specs.declared.job.Config.{Config}
 use Rattle.batch_packer.specs.declared.poll.PollAsk.{PollAsk}
 use Rattle.bench_flights.specs.Flown.{CanMatch, SendsFew}
 use Rattle.bench_flights.specs.Wires.{HasDelayed, HasLooked}

@@ -26,7 +26,7 @@ use Rattle.batch_packer.specs.Polling.{is_framed, is_of_four, is_read, match_by,
 use Rattle.batch_packer.specs.Readings.{shown_in}
 use Rattle.batch_packer.specs.declared.ends.FlightEnd.{FlightEnd}
 use Rattle.batch_packer.specs.declared.ends.FlightEnd.TheVariants as ends
-use Rattle.batch_packer.specs.declared.poll.Config.{Config}
+use Rattle.probe_core.specs.declared.job.Config.{Config}
 use Rattle.batch_packer.specs.declared.poll.PollAsk.{PollAsk}
 use Rattle.dap_replies.proofs.ReplyLaws.{response_is}
 use Rattle.batch_packer.proofs.PacketLemmas.{reads_packet}

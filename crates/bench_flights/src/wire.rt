@@ -18,7 +18,7 @@ ghost use Rattle.bench_flights.specs.Wires.{AreHeld, HasMadeAction, HasRead, Hav
 ghost use Rattle.bench_flights.specs.Wires.{MadeOrNot, MaySendCommand, MaySendPoll, ReadOrNot, unnamed};
 
 use crate::flights::{Flights, Polled};
-use batch_packer::{Config as PollConfig, Cut, Flight, FlightEnd, PollAsk, Slots};
+use batch_packer::{Cut, Flight, FlightEnd, PollAsk, Slots};
 use dap_messages::Command;
 use probe_core::{Bench, Config, Limits};
 use std::alloc::Global;
@@ -156,7 +156,7 @@ impl<B: Bench> Wire<B> {
     }
 
     // One portion of a poll: at most 65,536 turns, in one packet.
-    fn poll_portion(&mut self, config: PollConfig, ask: PollAsk) -> Result<bool, FlightEnd>
+    fn poll_portion(&mut self, config: Config, ask: PollAsk) -> Result<bool, FlightEnd>
         requires may { MaySendPoll self.old.flight ask.turns }
         ensures done { IfOk result (λ matched. StepsMatching config.idle config.retry
             (HasMadeAction (Polls ask.mask ask.value ask.turns) (matched_word matched)) (B.state self.old.bench) (B.state self.new.bench)) }
@@ -263,11 +263,7 @@ impl<B: Bench> Flights for Wire<B> {
                 value: requested,
                 turns: now,
             };
-            let again = PollConfig {
-                idle: config.idle,
-                retry: config.retry,
-            };
-            if self.poll_portion(again, ask)? {
+            if self.poll_portion(config, ask)? {
                 return Ok(true);
             }
             left -= now;

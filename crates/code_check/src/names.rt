@@ -1,5 +1,5 @@
 //! Names that are found fast, and that stand in the order in which they came.
-ghost use Rattle.std.specs.Prelude.{◌≡◌, ◌<◌, [], IfOk, OnOk, OnErr, IfSome, is_some, position, length, take};
+ghost use Rattle.std.specs.Prelude.{◌≡◌, ◌<◌, [], IfOk, OnOk, OnErr, IfSome, is_some, position, length, map, string_bytes, take};
 ghost use Rattle.std.specs.Str.{bytes_eq};
 ghost use Rattle.function_table.specs.Variables.{predefined};
 ghost use Rattle.code_check.specs.Names.{has_name, with_name};
@@ -10,7 +10,7 @@ use indexmap::IndexSet;
 use std::alloc::Global;
 use std::marker::Model;
 
-/// Names, no two of them the same. Contracts see their list.
+/// Names, no two of them the same, each found without going through the others. Contracts see their list.
 #[derive(Drop)]
 pub struct Names {
     set: IndexSet<String>,
@@ -39,6 +39,13 @@ impl Names {
         ensures { result ≡ length self.now }
     {
         self.set.len()
+    }
+
+    /// The names in order, lent without a copy.
+    pub fn as_slice(&self) -> &[String]
+        ensures { map string_bytes result.now ≡ self.now }
+    {
+        self.set.as_slice()
     }
 
     /// Whether the name is among these.

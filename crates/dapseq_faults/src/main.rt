@@ -2,7 +2,7 @@
 #![tactic(auto)]
 
 use dap_base::{OutOfMemory, ReadSource, WriteSink};
-use faults_tool::{Status, dapseq_faults};
+use faults_tool::{FaultsStatus, dapseq_faults};
 use program_arguments::read_words;
 use std::io;
 use std::process::ExitCode;
@@ -15,7 +15,7 @@ fn main(rt: HostRuntime) -> ExitCode {
             let mut sink = WriteSink::new(io::writer(&rt));
             dapseq_faults(alloc, &words, &mut source, &mut sink)
         }
-        Err(OutOfMemory) => Status::OutOfMemory,
+        Err(OutOfMemory) => FaultsStatus::OutOfMemory,
     };
     ExitCode::from(status.code())
 }

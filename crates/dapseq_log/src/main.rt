@@ -2,7 +2,7 @@
 #![tactic(auto)]
 
 use dap_base::{OutOfMemory, ReadSource, WriteSink};
-use log_tool::{Status, dapseq_log};
+use log_tool::{LogStatus, dapseq_log};
 use program_arguments::read_words;
 use std::io;
 use std::process::ExitCode;
@@ -15,7 +15,7 @@ fn main(rt: HostRuntime) -> ExitCode {
             let mut sink = WriteSink::new(io::writer(&rt));
             dapseq_log(alloc, &words, &mut source, &mut sink)
         }
-        Err(OutOfMemory) => Status::OutOfMemory,
+        Err(OutOfMemory) => LogStatus::OutOfMemory,
     };
     ExitCode::from(status.code())
 }

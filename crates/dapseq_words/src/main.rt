@@ -5,7 +5,7 @@ use dap_base::{OutOfMemory, ReadSource, WriteSink};
 use program_arguments::read_words;
 use std::io;
 use std::process::ExitCode;
-use trace_compare::{Status, FileSource, dapseq_words};
+use trace_compare::{CompareStatus, FileSource, dapseq_words};
 
 fn main(rt: HostRuntime) -> ExitCode {
     let alloc = rt.alloc();
@@ -16,7 +16,7 @@ fn main(rt: HostRuntime) -> ExitCode {
             let mut sink = WriteSink::new(io::writer(&rt));
             dapseq_words(alloc, &words, &mut source, &mut file, &mut sink)
         }
-        Err(OutOfMemory) => Status::OutOfMemory,
+        Err(OutOfMemory) => CompareStatus::OutOfMemory,
     };
     ExitCode::from(status.code())
 }

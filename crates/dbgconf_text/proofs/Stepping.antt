@@ -4,25 +4,25 @@ use Rattle.std.proofs.lemmas.List.{take-map, drop-map, take_all, length-drop}
 use Rattle.expr_grammar.specs.declared.token.Token.{Token}
 use Rattle.expr_grammar.specs.Lexeme.{Lexeme, lexeme, lexemes}
 use Rattle.expr_grammar.proofs.Limits.{lexemes_length}
-use Rattle.dbgconf_text.specs.declared.values.Values.{Values}
+use Rattle.dbgconf_text.specs.declared.values.NamedValues.{NamedValues}
 use Rattle.dbgconf_text.specs.Cuts.{Setting, Cut}
 use Rattle.dbgconf_text.specs.Splicing.{CanCut, Splicing, cut_of, left_after, out_after, pending, rest_after, statement_len}
 use Rattle.dbgconf_text.specs.Values.{value_in}
 use Rattle.dbgconf_text.proofs.Statements.{Turned, same_cut, same_left, turned}
 
 -- the names have the values that are left after these tokens
-abbrev pub Holds : Values → List Setting → List Lexeme → Type 0
+abbrev pub Holds : NamedValues → List Setting → List Lexeme → Type 0
 Holds values set before = (name : List ℕ) → value_in values name ≡ pending set before name
 
 -- What a turn leads to: the cut of the statement can be made, and what was put and is left stands after it.
-pub record Stepped (text out rest : List ℕ) (tokens own : List Token) (start : ℕ) (set : List Setting) (values : Values) : Type 0 where
+pub record Stepped (text out rest : List ℕ) (tokens own : List Token) (start : ℕ) (set : List Setting) (values : NamedValues) : Type 0 where
   pub can : (c : Cut) → cut_of (value_in values) (lexemes own) ≡ Some c → CanCut text rest c
   pub further : 0 < length own
   pub within : start + length own ≤ length tokens
   pub next : (put tail : List ℕ) → put ≡ out_after text rest out (cut_of (value_in values) (lexemes own)) → tail ≡ rest_after text rest (cut_of (value_in values) (lexemes own)) → Splicing text put tail (lexemes tokens) (start + length own) set
-  pub left : (new : Values) → ((name : List ℕ) → value_in new name ≡ left_after (value_in values) (lexemes own) name) → Holds new set (take (start + length own) (lexemes tokens))
+  pub left : (new : NamedValues) → ((name : List ℕ) → value_in new name ≡ left_after (value_in values) (lexemes own) name) → Holds new set (take (start + length own) (lexemes tokens))
 
-module _ (text out rest : List ℕ) (tokens own : List Token) (start : ℕ) (set : List Setting) (values : Values) (s : Splicing text out rest (lexemes tokens) start set) (h : Holds values set (take start (lexemes tokens))) (lt : start < length tokens)
+module _ (text out rest : List ℕ) (tokens own : List Token) (start : ℕ) (set : List Setting) (values : NamedValues) (s : Splicing text out rest (lexemes tokens) start set) (h : Holds values set (take start (lexemes tokens))) (lt : start < length tokens)
     (own_is : own ≡ take (statement_len (lexemes (take (length tokens - start) (drop start tokens)))) (take (length tokens - start) (drop start tokens))) where
   whole : take (length tokens - start) (drop start tokens) ≡ drop start tokens
   whole = take_all (length tokens - start) (drop start tokens) (omega (arith, length-drop start tokens))
@@ -57,7 +57,7 @@ module _ (text out rest : List ℕ) (tokens own : List Token) (start : ℕ) (set
       (subst (λ (o : List ℕ). Splicing text o tail (lexemes tokens) (start + length (lexemes own)) set) out_same
       (subst (λ (r : List ℕ). Splicing text (out_after text rest out (cut_of (pending set (take start (lexemes tokens))) (lexemes own))) r (lexemes tokens) (start + length (lexemes own)) set) rest_same turn.next))
 
-  left : (new : Values) → ((name : List ℕ) → value_in new name ≡ left_after (value_in values) (lexemes own) name) → Holds new set (take (start + length own) (lexemes tokens))
+  left : (new : NamedValues) → ((name : List ℕ) → value_in new name ≡ left_after (value_in values) (lexemes own) name) → Holds new set (take (start + length own) (lexemes tokens))
   left new is name =
       let at : start + length (lexemes own) ≡ start + length own = ap (λ (k : ℕ). start + k) (lexemes_length own) in
       is name ∙ same_left (value_in values) (pending set (take start (lexemes tokens))) (lexemes own) name h ∙ turn.left name ∙ ap (λ (k : ℕ). pending set (take k (lexemes tokens)) name) at

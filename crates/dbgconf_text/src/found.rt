@@ -3,19 +3,19 @@ ghost use Rattle.std.specs.Prelude.{◌≡◌, ◌++◌, ◌∷◌, [], IfOk};
 ghost use Rattle.dbgconf_text.specs.Conf.{has_item};
 
 use crate::conf::{Conf, ConfItem};
-use crate::values::Values;
+use crate::values::NamedValues;
 use dap_base::OutOfMemory;
 use std::alloc::Global;
 use std::marker::Model;
 
 /// Names and values in order, where a name is found without a look at the others. Contracts see their list.
 #[derive(Drop)]
-pub struct Found {
+pub struct IndexedConf {
     items: Conf,
-    values: Values,
+    values: NamedValues,
 }
 
-impl Model for Found {
+impl Model for IndexedConf {
     ghost use Rattle.std.specs.Prelude.{List};
     ghost use Rattle.dbgconf_text.specs.declared.conf.ConfItem.{ConfItem};
     ghost use Rattle.dbgconf_text.specs.Values.{HasNames};
@@ -27,14 +27,14 @@ impl Model for Found {
     ghost invariant = { λ found. HasNames found.values found.items };
 }
 
-impl Found {
+impl IndexedConf {
     // Nothing so far.
-    pub fn new(alloc: Global) -> Found
+    pub fn new(alloc: Global) -> IndexedConf
         ensures { result ≡ [] }
     {
-        Found {
+        IndexedConf {
             items: Conf::new(alloc),
-            values: Values::new(alloc),
+            values: NamedValues::new(alloc),
         }
     }
 
@@ -46,16 +46,16 @@ impl Found {
     }
 
     // These and one more.
-    pub fn with(self, alloc: Global, item: ConfItem) -> Result<Found, OutOfMemory>
+    pub fn with(self, alloc: Global, item: ConfItem) -> Result<IndexedConf, OutOfMemory>
         ensures { IfOk result (λ found. found ≡ self ++ item ∷ []) }
     {
-        let Found {
+        let IndexedConf {
             mut items,
             mut values,
         } = self;
         values.put(alloc, item.name.text.as_str(), item.value)?;
         items.push(item)?;
-        Ok(Found { items, values })
+        Ok(IndexedConf { items, values })
     }
 
     // The list of them.

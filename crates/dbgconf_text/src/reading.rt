@@ -8,7 +8,7 @@ ghost use Rattle.dbgconf_text.specs.Written.{AreNames};
 ghost use Rattle.dbgconf_text.specs.Turns.{IsNameAt, IsNext, IsRefusal, Stands, token_fault};
 
 use crate::conf::{Conf, ConfFault, ConfItem};
-use crate::found::Found;
+use crate::found::IndexedConf;
 use crate::marks::{is_mark_at, number_at};
 use dap_base::NameText;
 use expr_grammar::{Name, TokenError, TokenKind, Tokens, tokens};
@@ -19,7 +19,7 @@ fn read_name(
     alloc: Global,
     tokens: &Tokens<'_>,
     index: usize,
-    found: &Found,
+    found: &IndexedConf,
 ) -> Result<Name, ConfFault>
     requires stands { Stands tokens.now index found.now }
     requires here { index < length tokens.now }
@@ -46,7 +46,7 @@ fn read_item(
     alloc: Global,
     tokens: &Tokens<'_>,
     index: usize,
-    found: &Found,
+    found: &IndexedConf,
 ) -> Result<ConfItem, ConfFault>
     requires stands { Stands tokens.now index found.now }
     requires here { index < length tokens.now }
@@ -71,7 +71,7 @@ fn read_item(
 fn read_items(alloc: Global, tokens: &Tokens<'_>) -> Result<Conf, ConfFault>
     ensures { AnswersTokens tokens.now result }
 {
-    let mut found = Found::new(alloc);
+    let mut found = IndexedConf::new(alloc);
     let mut index = 0;
     while index < tokens.len() {
         let item = read_item(alloc, tokens, index, &found)?;

@@ -7,7 +7,7 @@ ghost use Rattle.dbgconf_text.specs.Values.{value_in};
 
 use crate::conf::{Conf, ConfItem};
 use crate::splicing::splice;
-use crate::values::Values;
+use crate::values::NamedValues;
 use dap_base::{NameText, OutOfMemory, Place};
 use expr_grammar::{ParseError, TokenError, Tokens, parse_code, tokens};
 use std::alloc::Global;
@@ -59,7 +59,7 @@ fn is_code(alloc: Global, tokens: &Tokens<'_>) -> Result<bool, OutOfMemory>
 }
 
 // The place of the first name that still has a value.
-fn find_left(conf: &[ConfItem], left: &Values) -> Option<Place>
+fn find_left(conf: &[ConfItem], left: &NamedValues) -> Option<Place>
     ensures { result ≡ first_left (value_in left.now) conf.now }
 {
     for item in conf {

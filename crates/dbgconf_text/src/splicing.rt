@@ -11,7 +11,7 @@ ghost use Rattle.dbgconf_text.specs.Values.{value_in};
 use crate::appending::{append, append_hex};
 use crate::conf::ConfItem;
 use crate::marks::{is_keyword, is_mark};
-use crate::values::Values;
+use crate::values::NamedValues;
 use dap_base::OutOfMemory;
 use expr_grammar::Token;
 use std::alloc::Global;
@@ -49,7 +49,7 @@ struct Patch {
 }
 
 // What is put into a statement. A name that is declared there loses its value.
-fn take_patch(left: &mut Values, own: &[Token<'_>]) -> Option<Patch>
+fn take_patch(left: &mut NamedValues, own: &[Token<'_>]) -> Option<Patch>
     ensures patch { MatchOption result (cut_of (value_in left.old) (lexemes own.now) ≡ None)
         (λ p. cut_of (value_in left.old) (lexemes own.now) ≡ Some (record { from = p.equals + 1; to = p.semi; value = p.value })) }
     ensures left { (name : List ℕ) → value_in left.new name ≡ left_after (value_in left.old) (lexemes own.now) name }
@@ -82,7 +82,7 @@ fn put_statement<'t>(
     alloc: Global,
     text: &str,
     own: &[Token<'_>],
-    left: &mut Values,
+    left: &mut NamedValues,
     rest: &'t str,
     out: &mut String,
 ) -> Result<&'t str, OutOfMemory>
@@ -109,13 +109,13 @@ pub fn splice(
     text: &str,
     tokens: &[Token<'_>],
     conf: &[ConfItem],
-) -> Result<(String, Values), OutOfMemory>
+) -> Result<(String, NamedValues), OutOfMemory>
     requires are { AreTokensOf text.now (lexemes tokens.now) }
     requires code { AreCode (lexemes tokens.now) }
     ensures text { IfOk result (λ r. string_bytes r.0 ≡ spliced text.now 0 (cuts (settings_of conf.now) (lexemes tokens.now))) }
     ensures left { IfOk result (λ r. (name : List ℕ) → value_in r.1 name ≡ pending (settings_of conf.now) (lexemes tokens.now) name) }
 {
-    let mut left = Values::of(alloc, conf)?;
+    let mut left = NamedValues::of(alloc, conf)?;
     let mut out = String::new(alloc);
     let mut rest = text;
     let mut start = 0;

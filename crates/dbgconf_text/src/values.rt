@@ -12,25 +12,25 @@ use std::alloc::Global;
 
 /// Numbers with names, each found without a look at the others. Contracts see them by `value_in`.
 #[derive(Drop)]
-pub struct Values {
+pub struct NamedValues {
     numbers: IndexMap<String, u64>,
 }
 
-impl Values {
+impl NamedValues {
     // No numbers.
-    pub fn new(alloc: Global) -> Values
+    pub fn new(alloc: Global) -> NamedValues
         ensures { (name : List ℕ) → value_in result name ≡ None }
     {
-        Values {
+        NamedValues {
             numbers: IndexMap::new(alloc),
         }
     }
 
     // The values of a list. It is gone through from its end, so that the first value of a name stays.
-    pub fn of(alloc: Global, conf: &[ConfItem]) -> Result<Values, OutOfMemory>
+    pub fn of(alloc: Global, conf: &[ConfItem]) -> Result<NamedValues, OutOfMemory>
         ensures { IfOk result (λ values. (name : List ℕ) → value_in values name ≡ value_of name (settings_of conf.now)) }
     {
-        let mut values = Values::new(alloc);
+        let mut values = NamedValues::new(alloc);
         let mut index = conf.len();
         while index > 0 {
             index -= 1;

@@ -41,10 +41,7 @@ fn write_warnings<K: Sink>(
     ensures puts { PutsText (flat_map (warning_text sets.now) warnings.now) result TextError.Failed K.written K.faults sink.old sink.new }
 {
     for warning in warnings {
-        match put_made(text_of(alloc, sets, warning), sink) {
-            Ok(()) => {}
-            Err(error) => return Err(error),
-        }
+        put_made(text_of(alloc, sets, warning), sink)?;
     }
     Ok(())
 }
@@ -77,10 +74,8 @@ fn write_rest<K: Sink>(
 ) -> Result<(), TextError>
     ensures puts { PutsText (warnings_text faults.now warnings.now) result TextError.Failed K.written K.faults sink.old sink.new }
 {
-    match write_warnings(alloc, faults.sets.as_slice(), warnings, sink) {
-        Ok(()) => put_line(counts_of(alloc, faults, warnings), sink),
-        Err(error) => Err(error),
-    }
+    write_warnings(alloc, faults.sets.as_slice(), warnings, sink)?;
+    put_line(counts_of(alloc, faults, warnings), sink)
 }
 
 /// Puts the text of the faults of a pack as `write_faults` does, with the warnings after the faults. Each has the word `warning` before it,
@@ -95,13 +90,11 @@ pub fn write_warned<K: Sink>(
 ) -> Result<(), TextError>
     ensures puts { PutsText (warned_text faults.now warnings.now) result TextError.Failed K.written K.faults sink.old sink.new }
 {
-    match write_each(
+    write_each(
         alloc,
         faults.sets.as_slice(),
         faults.faults.as_slice(),
         sink,
-    ) {
-        Ok(()) => write_rest(alloc, faults, warnings, sink),
-        Err(error) => Err(error),
-    }
+    )?;
+    write_rest(alloc, faults, warnings, sink)
 }

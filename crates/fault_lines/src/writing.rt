@@ -64,10 +64,7 @@ pub fn write_each<K: Sink>(
     ensures puts { PutsText (flat_map (fault_text sets.now) faults.now) result TextError.Failed K.written K.faults sink.old sink.new }
 {
     for fault in faults {
-        match put_made(text_of(alloc, sets, fault), sink) {
-            Ok(()) => {}
-            Err(error) => return Err(error),
-        }
+        put_made(text_of(alloc, sets, fault), sink)?;
     }
     Ok(())
 }
@@ -98,13 +95,11 @@ pub fn write_faults<K: Sink>(
 ) -> Result<(), TextError>
     ensures puts { PutsText (faults_text faults.now) result TextError.Failed K.written K.faults sink.old sink.new }
 {
-    match write_each(
+    write_each(
         alloc,
         faults.sets.as_slice(),
         faults.faults.as_slice(),
         sink,
-    ) {
-        Ok(()) => put_line(counts_of(alloc, faults), sink),
-        Err(error) => Err(error),
-    }
+    )?;
+    put_line(counts_of(alloc, faults), sink)
 }

@@ -12,13 +12,13 @@ use Rattle.fault_json.specs.WarningsJson.{warned_json}
 use Rattle.fault_json.specs.WarningsSarif.{warned_sarif}
 use Rattle.faults_words.specs.declared.format.Format.{Format}
 use Rattle.faults_words.specs.declared.format.Format.TheVariants as formats
-use Rattle.faults_tool.specs.declared.asking.Answer.{Answer}
-use Rattle.faults_tool.specs.declared.asking.Answer.TheVariants as answers
-use Rattle.faults_tool.specs.declared.status.Status.{Status}
-use Rattle.faults_tool.specs.declared.status.Status.TheVariants as status
+use Rattle.faults_tool.specs.declared.asking.FaultsAnswer.{FaultsAnswer}
+use Rattle.faults_tool.specs.declared.asking.FaultsAnswer.TheVariants as answers
+use Rattle.faults_tool.specs.declared.status.FaultsStatus.{FaultsStatus}
+use Rattle.faults_tool.specs.declared.status.FaultsStatus.TheVariants as status
 
 -- the status as the number with which the program ends
-abbrev pub faults_exit_code : Status → ℕ
+abbrev pub faults_exit_code : FaultsStatus → ℕ
 faults_exit_code status.Done = 0
 faults_exit_code status.Faulty = 1
 faults_exit_code status.Refused = 1
@@ -50,7 +50,7 @@ warned_in formats.Json faults warnings = warned_json faults warnings
 warned_in formats.Sarif faults warnings = warned_sarif faults warnings
 
 -- the text of an answer
-unfoldable pub faults_answer_text : Answer → List ℕ
+unfoldable pub faults_answer_text : FaultsAnswer → List ℕ
 faults_answer_text answers.Usage = faults_usage_line
 faults_answer_text answers.TooLong = too_long_line
 faults_answer_text (answers.Refused refusal) = refusal_line refusal
@@ -61,12 +61,12 @@ faults_answer_text (answers.Warned format faults warnings) = warned_in format fa
 -- ---- statuses
 
 -- the status where faults are written
-abbrev pub list_status : List PackFault → Status
+abbrev pub list_status : List PackFault → FaultsStatus
 list_status [] = status.Done
 list_status (f ∷ fs) = status.Faulty
 
 -- the status where an answer is written; warnings change none
-unfoldable pub faults_answer_status : Answer → Status
+unfoldable pub faults_answer_status : FaultsAnswer → FaultsStatus
 faults_answer_status answers.Usage = status.Usage
 faults_answer_status answers.TooLong = status.Refused
 faults_answer_status (answers.Refused refusal) = status.Refused

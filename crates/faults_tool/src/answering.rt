@@ -3,8 +3,8 @@ ghost use Rattle.std.specs.Prelude.{◌≡◌};
 ghost use Rattle.text_lines.specs.Puts.{PutsText};
 ghost use Rattle.faults_tool.specs.Answers.{faults_answer_text, faults_answer_status, faults_in_format, warned_in, list_status, no_pname_line, faults_usage_line};
 
-use crate::asking::Answer;
-use crate::status::Status;
+use crate::asking::FaultsAnswer;
+use crate::status::FaultsStatus;
 use check_lines::{write_refusal, write_too_long};
 use dap_base::Sink;
 use fault_json::{write_json, write_sarif, write_warned_json, write_warned_sarif};
@@ -16,24 +16,25 @@ use std::alloc::Global;
 use text_lines::{TextError, put_text};
 
 // The status where these faults are written.
-fn list_status(faults: &[PackFault]) -> Status
+fn list_status(faults: &[PackFault]) -> FaultsStatus
     ensures { result ≡ list_status faults.now }
 {
     match faults {
-        [] => Status::Done,
-        _ => Status::Faulty,
+        [] => FaultsStatus::Done,
+        _ => FaultsStatus::Faulty,
     }
 }
 
 /// The status where an answer is written.
 #[tactic(auto, unfolding(crate::specs::Answers::faults_answer_status))]
-pub fn status_of(answer: &Answer) -> Status
+pub fn status_of(answer: &FaultsAnswer) -> FaultsStatus
     ensures { result ≡ faults_answer_status answer.now }
 {
     match answer {
-        Answer::Usage => Status::Usage,
-        Answer::TooLong | Answer::Refused(_) | Answer::NoPname => Status::Refused,
-        Answer::Faults(_, faults) | Answer::Warned(_, faults, _) => {
+        FaultsAnswer::Usage => FaultsStatus::Usage,
+        FaultsAnswer::TooLong | FaultsAnswer::Refused(_) | FaultsAnswer::NoPname =>
+            FaultsStatus::Refused,
+        FaultsAnswer::Faults(_, faults) | FaultsAnswer::Warned(_, faults, _) => {
             list_status(faults.faults.as_slice())
         }
     }
@@ -91,16 +92,20 @@ fn write_list<K: Sink>(
 
 /// Writes the text of an answer. At an error a part of it was written, from its front.
 #[tactic(auto, unfolding(crate::specs::Answers::faults_answer_text))]
-pub fn write_answer<K: Sink>(alloc: Global, answer: &Answer, sink: &mut K) -> Result<(), TextError>
+pub fn write_answer<K: Sink>(
+    alloc: Global,
+    answer: &FaultsAnswer,
+    sink: &mut K,
+) -> Result<(), TextError>
     ensures puts { PutsText (faults_answer_text answer.now) result TextError.Failed K.written K.faults sink.old sink.new }
 {
     match answer {
-        Answer::Usage => write_usage(sink),
-        Answer::TooLong => write_too_long(sink),
-        Answer::Refused(refusal) => write_refusal(alloc, refusal, sink),
-        Answer::NoPname => write_no_pname(sink),
-        Answer::Faults(format, faults) => write_formatted(alloc, *format, faults, sink),
-        Answer::Warned(format, faults, warnings) => {
+        FaultsAnswer::Usage => write_usage(sink),
+        FaultsAnswer::TooLong => write_too_long(sink),
+        FaultsAnswer::Refused(refusal) => write_refusal(alloc, refusal, sink),
+        FaultsAnswer::NoPname => write_no_pname(sink),
+        FaultsAnswer::Faults(format, faults) => write_formatted(alloc, *format, faults, sink),
+        FaultsAnswer::Warned(format, faults, warnings) => {
             write_list(alloc, *format, faults, warnings.as_slice(), sink)
         }
     }

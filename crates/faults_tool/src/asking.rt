@@ -9,17 +9,17 @@ ghost use Rattle.tool_calls.specs.Calls.{ReadsJob};
 use crate::packs::read_pack;
 use dap_base::{ItemList, OutOfMemory, Source, Words};
 use device_tree::Pack;
-use faults_words::{Asked, Format, WordsError, asked_of};
+use faults_words::{FaultsCommand, Format, WordsError, asked_of};
 use job_check::{CheckRefusal, Refusal};
 use job_source::{Unread, read_job};
-use pack_faults::{PackFaults, PackRefusal, Request, pack_faults};
+use pack_faults::{PackFaults, PackRefusal, PackRequest, pack_faults};
 use pack_warnings::{PackWarning, pack_warnings};
 use std::alloc::Global;
 use tool_calls::Unasked;
 
 /// What is answered.
 #[derive(Drop)]
-pub enum Answer {
+pub enum FaultsAnswer {
     /// The words ask for nothing.
     Usage,
     /// The source has more bytes than a job may have.
@@ -35,13 +35,13 @@ pub enum Answer {
 }
 
 // What is answered where there is no set.
-fn refused_by(refusal: PackRefusal) -> Result<Answer, OutOfMemory>
+fn refused_by(refusal: PackRefusal) -> Result<FaultsAnswer, OutOfMemory>
     ensures { IfOk result (λ answer. answer_of_pack_refusal refusal ≡ Some answer) }
 {
     match refusal {
-        PackRefusal::NoDevice => Ok(Answer::Refused(Refusal::NoDevice)),
-        PackRefusal::NoVariant => Ok(Answer::Refused(Refusal::NoVariant)),
-        PackRefusal::NoPname => Ok(Answer::NoPname),
+        PackRefusal::NoDevice => Ok(FaultsAnswer::Refused(Refusal::NoDevice)),
+        PackRefusal::NoVariant => Ok(FaultsAnswer::Refused(Refusal::NoVariant)),
+        PackRefusal::NoPname => Ok(FaultsAnswer::NoPname),
         PackRefusal::OutOfMemory => Err(OutOfMemory),
     }
 }
@@ -50,27 +50,31 @@ fn refused_by(refusal: PackRefusal) -> Result<Answer, OutOfMemory>
 fn list_of(
     alloc: Global,
     pack: &Pack,
-    request: &Request,
+    request: &PackRequest,
     format: Format,
     warnings: bool,
     faults: PackFaults,
-) -> Result<Answer, OutOfMemory>
+) -> Result<FaultsAnswer, OutOfMemory>
     ensures { IfOk result (IsList pack.now request.now format warnings faults) }
 {
     if !warnings {
-        return Ok(Answer::Faults(format, faults));
+        return Ok(FaultsAnswer::Faults(format, faults));
     }
     match pack_warnings(alloc, pack, request) {
-        Ok(warnings) => Ok(Answer::Warned(format, faults, warnings)),
+        Ok(warnings) => Ok(FaultsAnswer::Warned(format, faults, warnings)),
         Err(_) => Err(OutOfMemory),
     }
 }
 
 // What is asked for of a pack.
-fn ask_of_pack(alloc: Global, asked: Asked, pack: &Pack) -> Result<Answer, OutOfMemory>
+fn ask_of_pack(
+    alloc: Global,
+    asked: FaultsCommand,
+    pack: &Pack,
+) -> Result<FaultsAnswer, OutOfMemory>
     ensures { IfOk result (AsksOfPack pack.now asked) }
 {
-    let request = Request {
+    let request = PackRequest {
         device: asked.device,
         variant: asked.variant,
         pname: asked.pname,
@@ -82,25 +86,33 @@ fn ask_of_pack(alloc: Global, asked: Asked, pack: &Pack) -> Result<Answer, OutOf
 }
 
 // What is asked for of the bytes of a job.
-fn ask_of_bytes(alloc: Global, asked: Asked, bytes: &[u8]) -> Result<Answer, OutOfMemory>
+fn ask_of_bytes(
+    alloc: Global,
+    asked: FaultsCommand,
+    bytes: &[u8],
+) -> Result<FaultsAnswer, OutOfMemory>
     ensures { IfOk result (AsksOfPackBytes bytes.now asked) }
 {
     match read_pack(alloc, bytes) {
         Ok(pack) => ask_of_pack(alloc, asked, &pack),
-        Err(CheckRefusal::Refused(refusal)) => Ok(Answer::Refused(refusal)),
+        Err(CheckRefusal::Refused(refusal)) => Ok(FaultsAnswer::Refused(refusal)),
         Err(CheckRefusal::OutOfMemory) => Err(OutOfMemory),
     }
 }
 
 // What the source asks for.
-fn ask_of_source<S: Source>(alloc: Global, asked: Asked, source: &mut S) -> Result<Answer, Unasked>
+fn ask_of_source<S: Source>(
+    alloc: Global,
+    asked: FaultsCommand,
+    source: &mut S,
+) -> Result<FaultsAnswer, Unasked>
     ensures asked { (given : List (List ℕ)) → words_asked.WordsAskForFaults given asked
         → IfOk result (λ answer. (bytes : List ℕ) × AreBytesOf (S.left source.old) bytes × AsksForFaults given bytes answer) }
     ensures reads { ReadsJob result (S.left source.old) (S.left source.new) (S.faults source.old) (S.faults source.new) }
 {
     let bytes = match read_job(alloc, source) {
         Ok(bytes) => bytes,
-        Err(Unread::TooLong) => return Ok(Answer::TooLong),
+        Err(Unread::TooLong) => return Ok(FaultsAnswer::TooLong),
         Err(Unread::Failed) => return Err(Unasked::ReadFault),
         Err(Unread::OutOfMemory) => return Err(Unasked::OutOfMemory),
     };
@@ -111,7 +123,7 @@ fn ask_of_source<S: Source>(alloc: Global, asked: Asked, source: &mut S) -> Resu
 }
 
 /// What the words and the source ask for. Where the words ask for nothing, the source is not read.
-pub fn ask<S: Source>(alloc: Global, words: &Words, source: &mut S) -> Result<Answer, Unasked>
+pub fn ask<S: Source>(alloc: Global, words: &Words, source: &mut S) -> Result<FaultsAnswer, Unasked>
     ensures asked { IfOk result (λ answer. (bytes : List ℕ) × AreBytesOf (S.left source.old) bytes × AsksForFaults words.now bytes answer) }
     ensures taken { OnOk result (IsFaultsLine words.now → AreTaken (S.left source.old) (S.left source.new)) }
     ensures unread { (IsFaultsLine words.now → ⊥) → source.new ≡ source.old }
@@ -120,7 +132,7 @@ pub fn ask<S: Source>(alloc: Global, words: &Words, source: &mut S) -> Result<An
 {
     match asked_of(alloc, words) {
         Ok(asked) => ask_of_source(alloc, asked, source),
-        Err(WordsError::Usage) => Ok(Answer::Usage),
+        Err(WordsError::Usage) => Ok(FaultsAnswer::Usage),
         Err(WordsError::OutOfMemory) => Err(Unasked::OutOfMemory),
     }
 }

@@ -9,4 +9,4 @@ mod packs;
 mod status;
 
 pub use call::dapseq_faults;
-pub use status::Status;
+pub use status::FaultsStatus;

@@ -4,7 +4,7 @@ ghost use Rattle.faults_tool.specs.Answers.{faults_exit_code};
 
 /// How a call of `dapseq_faults` ended.
 #[derive(Clone, Copy, Debug, PartialEq, Eq)]
-pub enum Status {
+pub enum FaultsStatus {
     /// Each of the sets is valid.
     Done,
     /// There is at least one fault.
@@ -21,19 +21,19 @@ pub enum Status {
     OutOfMemory,
 }
 
-impl Status {
+impl FaultsStatus {
     /// The number with which the program ends: 0, 1 for both `Faulty` and `Refused`, 2, 5, 6 and 7, in the order of the
     /// variants.
     pub fn code(&self) -> u8
         ensures { result ≡ faults_exit_code self.now }
     {
         match self {
-            Status::Done => 0,
-            Status::Faulty | Status::Refused => 1,
-            Status::Usage => 2,
-            Status::ReadFault => 5,
-            Status::WriteFault => 6,
-            Status::OutOfMemory => 7,
+            FaultsStatus::Done => 0,
+            FaultsStatus::Faulty | FaultsStatus::Refused => 1,
+            FaultsStatus::Usage => 2,
+            FaultsStatus::ReadFault => 5,
+            FaultsStatus::WriteFault => 6,
+            FaultsStatus::OutOfMemory => 7,
         }
     }
 }

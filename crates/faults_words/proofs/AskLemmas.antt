@@ -1,6 +1,6 @@
 -- Words ask for one thing, that of their values.
 use Rattle.std.proofs.Common.{◌≡◌, ◌==◌, ℕ, Bool, List, [], ◌∷◌, if◌then◌else◌, codes, Option, None, Some, refl, sym, ap, ◌∙◌}
-use Rattle.faults_words.specs.declared.answer.Asked.{Asked}
+use Rattle.faults_words.specs.declared.answer.FaultsCommand.{FaultsCommand}
 use Rattle.faults_words.specs.declared.format.Format.{Format}
 use Rattle.faults_words.specs.declared.format.Format.TheVariants.{Text, Json, Sarif}
 use Rattle.word_options.specs.Line.{given_value}
@@ -29,11 +29,11 @@ same_format None f g is other = is ∙ sym other
 same_format (Some name) f g is other = same_named f g (sym is ∙ other)
 
 -- what is asked for, of its parts
-abbrev made : Option (List ℕ) → Option (List ℕ) → Option (List ℕ) → Format → Bool → Asked
+abbrev made : Option (List ℕ) → Option (List ℕ) → Option (List ℕ) → Format → Bool → FaultsCommand
 made device variant pname format warnings = record { device = device; variant = variant; pname = pname; format = format; warnings = warnings }
 
 -- one thing
-pub one_asked : (words : List (List ℕ)) (a b : Asked) → WordsAskForFaults words a → WordsAskForFaults words b → a ≡ b
+pub one_asked : (words : List (List ℕ)) (a b : FaultsCommand) → WordsAskForFaults words a → WordsAskForFaults words b → a ≡ b
 one_asked words a b is other =
     ap (λ d. made d a.variant a.pname a.format a.warnings) (is.found.device ∙ sym other.found.device)
     ∙ (ap (λ v. made b.device v a.pname a.format a.warnings) (is.found.variant ∙ sym other.found.variant)

@@ -1,6 +1,6 @@
 -- What words ask for.
 use Rattle.std.specs.Prelude.{◌≡◌, ℕ, List, Option, Some, None, codes}
-use Rattle.faults_words.specs.declared.answer.Asked.{Asked}
+use Rattle.faults_words.specs.declared.answer.FaultsCommand.{FaultsCommand}
 use Rattle.faults_words.specs.declared.format.Format.{Format}
 use Rattle.faults_words.specs.declared.format.Format.TheVariants as formats
 use Rattle.word_options.specs.Line.{WordsAskFor, is_set}
@@ -18,7 +18,7 @@ IsFormat None format = format ≡ formats.Text
 IsFormat (Some name) format = name ≡ format_text format
 
 -- what the values of the options ask for, by the value of each name
-pub record IsFaultsRequest (value : List ℕ → Option (List ℕ)) (a : Asked) : Type 0 where
+pub record IsFaultsRequest (value : List ℕ → Option (List ℕ)) (a : FaultsCommand) : Type 0 where
   pub device : a.device ≡ value (codes "device")
   pub variant : a.variant ≡ value (codes "variant")
   pub pname : a.pname ≡ value (codes "pname")
@@ -26,5 +26,5 @@ pub record IsFaultsRequest (value : List ℕ → Option (List ℕ)) (a : Asked) 
   pub warnings : a.warnings ≡ is_set (value (codes "warnings"))
 
 -- clap takes the words, and finds these values in them
-abbrev pub WordsAskForFaults : List (List ℕ) → Asked → Type 0
+abbrev pub WordsAskForFaults : List (List ℕ) → FaultsCommand → Type 0
 WordsAskForFaults = WordsAskFor faults_command_line IsFaultsRequest

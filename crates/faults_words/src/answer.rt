@@ -4,7 +4,7 @@ use dap_base::NameText;
 
 /// What the words ask for.
 #[derive(Debug, Drop)]
-pub struct Asked {
+pub struct FaultsCommand {
     /// The name after `--device`, where there is one.
     pub device: Option<NameText>,
     /// The name after `--variant`.

@@ -6,7 +6,7 @@ mod format;
 mod line;
 mod top;
 
-pub use answer::Asked;
+pub use answer::FaultsCommand;
 pub use format::Format;
 pub use top::asked_of;
 pub use word_options::WordsError;

@@ -13,13 +13,13 @@ use std::marker::Model;
 
 // What was read so far.
 #[derive(Drop)]
-pub(crate) struct Reader {
+pub(crate) struct HexReader {
     image: BTreeMap<u32, u8>,
     base: u32,
     is_ended: bool,
 }
 
-impl Model for Reader {
+impl Model for HexReader {
     ghost use Rattle.std.specs.Prelude.{◌≤◌};
     ghost use Rattle.hex_image.specs.Image.{Reading};
 
@@ -52,12 +52,12 @@ fn place(image: &mut BTreeMap<u32, u8>, address: u32, bytes: &[u8]) -> Result<()
     Ok(())
 }
 
-impl Reader {
+impl HexReader {
     // Nothing was read yet.
-    fn start(alloc: Global) -> Reader
+    fn start(alloc: Global) -> HexReader
         ensures { result ≡ at_start }
     {
-        Reader {
+        HexReader {
             image: BTreeMap::new(alloc),
             base: 0,
             is_ended: false,
@@ -197,7 +197,7 @@ fn fault_at(fault: LineFault, line: u64) -> ImageFault
 }
 
 // The image that was read, after so many lines.
-fn end_reading(reader: Reader, lines: u64) -> Result<Image, ImageFault>
+fn end_reading(reader: HexReader, lines: u64) -> Result<Image, ImageFault>
     requires { reader.is_ended ≡ true → length reader.image ≤ 262144 }
     ensures { IsImage result (at_end reader lines) }
 {
@@ -224,7 +224,7 @@ pub fn image_of(alloc: Global, text: &str) -> Result<Image, ImageFault>
     ensures { IsImage result (image text.now) }
 {
     let bytes = text.as_bytes();
-    let mut reader = Reader::start(alloc);
+    let mut reader = HexReader::start(alloc);
     let mut lines: u64 = 0;
     let mut start = 0;
     for end in 0..bytes.len() {

@@ -10,7 +10,7 @@ use Rattle.target_machine.specs.Memory.{Cell, Memory, merged, moved_on, shown_va
 use Rattle.target_machine.specs.Plain.{from_lanes, to_lanes}
 use Rattle.image_load.specs.Laid.{HasRisingAddresses, MayLoad, laid, with_byte}
 use Rattle.image_load.specs.Pieces.{IsPiece, are_word_addresses, byte_from_bit, byte_piece, pieces, word_piece}
-use Rattle.image_load.specs.declared.piece.Piece.{Piece}
+use Rattle.image_load.specs.declared.piece.WordOrByte.{WordOrByte}
 use Rattle.image_load.proofs.CellLemmas.{WordParts, byte_at_word, got_it, no_word, put, some_same, with_put, word_parts, word_put}
 use Rattle.image_load.proofs.LaneLemmas.{other_lane, replaced, same_lane, shown_byte, shown_word}
 
@@ -23,7 +23,7 @@ pub record HasWord (m : Memory) (k : ℕ) : Type 0 where
   pub writable : word.read_only ≡ false
 
 -- a word that is written keeps that it may be written, and so do all others
-put_word : (m : Memory) (p : Piece) (k : ℕ) (o : Option Cell) → map.get m (p.address / 4 * 4) ≡ o → HasWord m k → HasWord (word_put m p o) k
+put_word : (m : Memory) (p : WordOrByte) (k : ℕ) (o : Option Cell) → map.get m (p.address / 4 * 4) ≡ o → HasWord m k → HasWord (word_put m p o) k
 put_word m p k None e h = h
 put_word m p k (Some c) e h = by_key (eqb k at) refl
   where
@@ -41,7 +41,7 @@ put_word m p k (Some c) e h = by_key (eqb k at) refl
     }
     by_key false other = record { word = h.word; there = got_inserted m at new k ∙ ap (λ (b : Bool). cond b (Some new) (map.get m k)) other ∙ h.there; writable = h.writable }
 
-pub put_keeps : (m : Memory) (p : Piece) (k : ℕ) → HasWord m k → HasWord (put m p) k
+pub put_keeps : (m : Memory) (p : WordOrByte) (k : ℕ) → HasWord m k → HasWord (put m p) k
 put_keeps m p k h = put_word m p k (map.get m (p.address / 4 * 4)) refl h
 
 byte_keeps : (m : Memory) (b : ℕ × ℕ) (k : ℕ) → HasWord m k → HasWord (with_byte m b) k
@@ -136,7 +136,7 @@ laid_there (b ∷ image) m rising may =
 -- ---- pieces that a memory shows
 
 -- a read of a piece gives its value, and moves no word on
-pub record Shows (m : Memory) (p : Piece) : Type 0 where
+pub record Shows (m : Memory) (p : WordOrByte) : Type 0 where
   pub word : Cell
   pub there : map.get m (p.address / 4 * 4) ≡ Some word
   pub still : moved_on word ≡ word
@@ -199,7 +199,7 @@ pieces_show (a ∷ b ∷ c ∷ d ∷ rest) m h = by_word (are_word_addresses a.0
 -- ---- pieces that may be written
 
 -- a piece is one, and its word may be written
-pub record MayPut (m : Memory) (p : Piece) : Type 0 where
+pub record MayPut (m : Memory) (p : WordOrByte) : Type 0 where
   pub sound : IsPiece p
   pub has : HasWord m (p.address / 4 * 4)
 

@@ -5,7 +5,7 @@ use Rattle.access_calls.specs.declared.stop.Stop.{Stop}
 use Rattle.image_load.specs.Frame.{AsksCalls}
 use Rattle.image_load.specs.Loading.{AskedPart}
 use Rattle.image_load.specs.Pieces.{asked_all, piece_ask}
-use Rattle.image_load.specs.declared.piece.Piece.{Piece}
+use Rattle.image_load.specs.declared.piece.WordOrByte.{WordOrByte}
 
 pub map_more : {A B : Type 0} (f : A → B) (xs : List A) (i : ℕ) (d : A) → i < length xs → map f (take (i + 1) xs) ≡ map f (take i xs) ++ f (get_or xs i d) ∷ []
 map_more f [] i d less = absurd (omega (arith, less))
@@ -44,11 +44,11 @@ part_second first second old mid new mid_is p = record {
   asked = p.asked ∙ ap (λ (l : List Ask). l ++ p.part) mid_is ∙ append_assoc old first p.part;
 }
 
-pub count_all : (read : Bool) (n : ℕ) (ps : List Piece) → length (asked_all read n ps) ≡ length ps
+pub count_all : (read : Bool) (n : ℕ) (ps : List WordOrByte) → length (asked_all read n ps) ≡ length ps
 count_all read n [] = refl
 count_all read n (p ∷ ps) = ap suc (count_all read n ps)
 
-pub part_at : (read : Bool) (n : ℕ) (ps : List Piece) (i : ℕ) (d : Piece) (u : Ask) (old mid new : List Ask) → i < length ps → u ≡ piece_ask read n (get_or ps i d) → mid ≡ old ++ asked_all read n (take i ps) → AskedPart (u ∷ []) mid new
+pub part_at : (read : Bool) (n : ℕ) (ps : List WordOrByte) (i : ℕ) (d : WordOrByte) (u : Ask) (old mid new : List Ask) → i < length ps → u ≡ piece_ask read n (get_or ps i d) → mid ≡ old ++ asked_all read n (take i ps) → AskedPart (u ∷ []) mid new
     → AskedPart (asked_all read n ps) old new
 part_at read n ps i d u old mid new less is mid_is p =
     subst (λ (l : List Ask). AskedPart l old new) (sym (map_parts (piece_ask read n) ps i d less))

@@ -10,7 +10,7 @@ use Rattle.target_machine.specs.Memory.{Cell, Memory, merged, shown_value, with_
 use Rattle.target_machine.specs.Plain.{to_lanes}
 use Rattle.image_load.specs.Laid.{laid, with_byte, word_with}
 use Rattle.image_load.specs.Pieces.{are_word_addresses, byte_piece, pieces, word_piece}
-use Rattle.image_load.specs.declared.piece.Piece.{Piece}
+use Rattle.image_load.specs.declared.piece.WordOrByte.{WordOrByte}
 use Rattle.image_load.proofs.LaneLemmas.{four_lanes, replaced, whole_word}
 
 -- ---- maps
@@ -39,12 +39,12 @@ some_same m k c d x y = (let e : ◌≡◌ {A = Option Cell} (Some c) (Some d) =
 
 -- ---- a piece that is written
 
-abbrev pub word_put : Memory → Piece → Option Cell → Memory
+abbrev pub word_put : Memory → WordOrByte → Option Cell → Memory
 word_put m p None = m
 word_put m p (Some c) = map.insert m (p.address / 4 * 4) (with_values c (merged (shown_value c) (to_lanes p.address p.value) (lanes p.size p.address) ∷ []))
 
 -- the memory after a piece was written
-abbrev pub put : Memory → Piece → Memory
+abbrev pub put : Memory → WordOrByte → Memory
 put m p = word_put m p (map.get m (p.address / 4 * 4))
 
 pub with_put : (m : Memory) (b : ℕ × ℕ) → put m (byte_piece b) ≡ with_byte m b
@@ -100,7 +100,7 @@ module _ (a b c d : ℕ × ℕ) (aligned : a.0 % 4 ≡ 0) (bs : b.0 ≡ a.0 + 1)
   lane_d : d.0 % 4 ≡ 3
   lane_d = omega (arith, aligned, ds)
 
-  word : Piece
+  word : WordOrByte
   word = word_piece a.0 a.1 b.1 c.1 d.1
 
   word_lanes : lanes 4 a.0 ≡ (2 ^ (8 * 4) - 1) * 2 ^ (8 * 0)

@@ -2,7 +2,7 @@
 use Rattle.std.proofs.Common.{◌≡◌, ◌∙◌, ℕ, zero, suc, ◌+◌, ◌-◌, ◌<◌, ◌≤◌, Bool, cond, List, [], ◌∷◌, length, drop, drop-cons, get_or, Option, None, Some, refl, sym, ap, arith, eq-eqb, ne_eqb}
 use Rattle.image_load.specs.Pieces.{byte_from_bit, difference, first_difference, first_of}
 use Rattle.image_load.specs.declared.piece.Difference.{Difference}
-use Rattle.image_load.specs.declared.piece.Piece.{Piece}
+use Rattle.image_load.specs.declared.piece.WordOrByte.{WordOrByte}
 
 -- ---- bytes
 
@@ -30,7 +30,7 @@ no_byte size i bit address w f le = (let none : size - i ≡ 0 = omega (arith, l
 -- ---- pieces
 
 -- the results count at their places alone
-pub same_found : (ps : List Piece) (f h : ℕ → ℕ) → ((i : ℕ) → f i ≡ h i) → first_difference ps f ≡ first_difference ps h
+pub same_found : (ps : List WordOrByte) (f h : ℕ → ℕ) → ((i : ℕ) → f i ≡ h i) → first_difference ps f ≡ first_difference ps h
 same_found [] f h same = refl
 same_found (p ∷ ps) f h same =
     ap (λ (x : ℕ). first_of (difference p.size 0 p.address p.value x) (first_difference ps (λ i. f (i + 1)))) (same 0)
@@ -40,33 +40,33 @@ here : (i : ℕ) → i + 0 ≡ i
 here i = omega arith
 
 -- one piece further
-pub next_piece : (ps : List Piece) (i : ℕ) (d : Piece) (f : ℕ → ℕ) → i < length ps → difference (get_or ps i d).size 0 (get_or ps i d).address (get_or ps i d).value (f i) ≡ None
+pub next_piece : (ps : List WordOrByte) (i : ℕ) (d : WordOrByte) (f : ℕ → ℕ) → i < length ps → difference (get_or ps i d).size 0 (get_or ps i d).address (get_or ps i d).value (f i) ≡ None
     → first_difference (drop i ps) (λ k. f (i + k)) ≡ first_difference (drop (i + 1) ps) (λ k. f (i + 1 + k))
 next_piece ps i d f less none =
-    ap (λ (l : List Piece). first_difference l (λ k. f (i + k))) (drop-cons ps i d less)
+    ap (λ (l : List WordOrByte). first_difference l (λ k. f (i + k))) (drop-cons ps i d less)
     ∙ ap (λ (x : ℕ). first_of (difference (get_or ps i d).size 0 (get_or ps i d).address (get_or ps i d).value (f x)) (first_difference (drop (suc i) ps) (λ k. f (i + (k + 1))))) (here i)
     ∙ ap (λ (o : Option Difference). first_of o (first_difference (drop (suc i) ps) (λ k. f (i + (k + 1))))) none
     ∙ same_found (drop (suc i) ps) (λ k. f (i + (k + 1))) (λ k. f (i + 1 + k)) (λ k. let same : i + (k + 1) ≡ i + 1 + k = omega arith in ap f same)
     ∙ (let more : suc i ≡ i + 1 = omega arith in ap (λ (n : ℕ). first_difference (drop n ps) (λ k. f (i + 1 + k))) more)
 
-pub differs_piece : (ps : List Piece) (i : ℕ) (d : Piece) (f : ℕ → ℕ) (x : Difference) → i < length ps → difference (get_or ps i d).size 0 (get_or ps i d).address (get_or ps i d).value (f i) ≡ Some x
+pub differs_piece : (ps : List WordOrByte) (i : ℕ) (d : WordOrByte) (f : ℕ → ℕ) (x : Difference) → i < length ps → difference (get_or ps i d).size 0 (get_or ps i d).address (get_or ps i d).value (f i) ≡ Some x
     → first_difference (drop i ps) (λ k. f (i + k)) ≡ Some x
 differs_piece ps i d f x less some =
-    ap (λ (l : List Piece). first_difference l (λ k. f (i + k))) (drop-cons ps i d less)
+    ap (λ (l : List WordOrByte). first_difference l (λ k. f (i + k))) (drop-cons ps i d less)
     ∙ ap (λ (y : ℕ). first_of (difference (get_or ps i d).size 0 (get_or ps i d).address (get_or ps i d).value (f y)) (first_difference (drop (suc i) ps) (λ k. f (i + (k + 1))))) (here i)
     ∙ ap (λ (o : Option Difference). first_of o (first_difference (drop (suc i) ps) (λ k. f (i + (k + 1))))) some
 
-pub differs_at : (ps : List Piece) (i : ℕ) (d : Piece) (f : ℕ → ℕ) (x : Difference) (found : ℕ) (r : Option Difference) → i < length ps → found ≡ f i → r ≡ difference (get_or ps i d).size 0 (get_or ps i d).address (get_or ps i d).value found → r ≡ Some x
+pub differs_at : (ps : List WordOrByte) (i : ℕ) (d : WordOrByte) (f : ℕ → ℕ) (x : Difference) (found : ℕ) (r : Option Difference) → i < length ps → found ≡ f i → r ≡ difference (get_or ps i d).size 0 (get_or ps i d).address (get_or ps i d).value found → r ≡ Some x
     → first_difference (drop i ps) (λ k. f (i + k)) ≡ Some x
 differs_at ps i d f x found r less is r_is some =
     differs_piece ps i d f x less (ap (difference (get_or ps i d).size 0 (get_or ps i d).address (get_or ps i d).value) (sym is) ∙ sym r_is ∙ some)
 
-pub next_at : (ps : List Piece) (i : ℕ) (d : Piece) (f : ℕ → ℕ) (found : ℕ) (r : Option Difference) → i < length ps → found ≡ f i → r ≡ difference (get_or ps i d).size 0 (get_or ps i d).address (get_or ps i d).value found → r ≡ None
+pub next_at : (ps : List WordOrByte) (i : ℕ) (d : WordOrByte) (f : ℕ → ℕ) (found : ℕ) (r : Option Difference) → i < length ps → found ≡ f i → r ≡ difference (get_or ps i d).size 0 (get_or ps i d).address (get_or ps i d).value found → r ≡ None
     → first_difference (drop i ps) (λ k. f (i + k)) ≡ first_difference (drop (i + 1) ps) (λ k. f (i + 1 + k))
 next_at ps i d f found r less is r_is none =
     next_piece ps i d f less (ap (difference (get_or ps i d).size 0 (get_or ps i d).address (get_or ps i d).value) (sym is) ∙ sym r_is ∙ none)
 
-pub rest_none : (ps : List Piece) (i : ℕ) (f : ℕ → ℕ) → length ps ≤ i → first_difference (drop i ps) f ≡ None
+pub rest_none : (ps : List WordOrByte) (i : ℕ) (f : ℕ → ℕ) → length ps ≤ i → first_difference (drop i ps) f ≡ None
 rest_none [] zero f le = refl
 rest_none [] (suc i) f le = refl
 rest_none (p ∷ ps) zero f le = absurd (omega (arith, le))

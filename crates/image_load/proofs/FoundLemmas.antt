@@ -16,7 +16,7 @@ use Rattle.access_calls.specs.declared.stop.StopCause.TheVariants.{Faulted, NoAn
 use Rattle.image_load.specs.Loading.{StopsAtCut, read_back}
 use Rattle.image_load.specs.Pieces.{asked_all, first_difference, load_calls}
 use Rattle.image_load.specs.declared.piece.Difference.{Difference}
-use Rattle.image_load.specs.declared.piece.Piece.{Piece}
+use Rattle.image_load.specs.declared.piece.WordOrByte.{WordOrByte}
 use Rattle.image_load.proofs.CallLemmas.{count_all}
 use Rattle.image_load.proofs.DifferenceLemmas.{same_found}
 
@@ -32,7 +32,7 @@ pub few_all : (first n old : ℕ) → (0 < n → first ≡ old + n) → (n ≡ 0
 few_all first zero old some none many few = (let at = none refl in omega (arith, at))
 few_all first (suc n) old some none many few = (let at = some (omega arith) in omega (arith, at, many, few))
 
-pub long_all : (n : ℕ) (ps : List Piece) (old now : List Ask) → now ≡ settled_last (old ++ load_calls n ps) → length now ≡ length old + (length ps + length ps)
+pub long_all : (n : ℕ) (ps : List WordOrByte) (old now : List Ask) → now ≡ settled_last (old ++ load_calls n ps) → length now ≡ length old + (length ps + length ps)
 long_all n ps old now is =
     let a = length-append old (load_calls n ps) in
     let b = length-append (asked_all false n ps) (asked_all true n ps) in
@@ -59,7 +59,7 @@ module _ (w : World) (old calls : List Ask) (whole : stop w (old ++ calls) ≡ N
       ∙ index_past (results w old) (results (world_after w old) calls) (writes + i)
 
   -- what was compared is what was read back
-  pub compared : (ps : List Piece) (now : List Ask) (first : ℕ) (r : Option Difference) → (0 < length ps → first ≡ length old + length ps) → now ≡ settled_last (old ++ calls)
+  pub compared : (ps : List WordOrByte) (now : List Ask) (first : ℕ) (r : Option Difference) → (0 < length ps → first ≡ length old + length ps) → now ≡ settled_last (old ++ calls)
       → r ≡ first_difference ps (λ i. slice_index (results w now) (first + i)) → first_difference ps (read_back w old calls (length ps)) ≡ r
   compared [] now first r at now_is r_is = sym r_is
   compared (p ∷ ps) now first r at now_is r_is =

@@ -17,7 +17,7 @@ use Rattle.access_regs.proofs.Csw.{IsSize}
 use Rattle.image_load.specs.Laid.{CanLoad, Laid, laid}
 use Rattle.image_load.specs.Pieces.{IsPiece, asked_all, difference, first_difference, first_of, load_calls, pieces, read_ask, write_ask}
 use Rattle.image_load.specs.declared.piece.Difference.{Difference}
-use Rattle.image_load.specs.declared.piece.Piece.{Piece}
+use Rattle.image_load.specs.declared.piece.WordOrByte.{WordOrByte}
 use Rattle.image_load.proofs.AccessLemmas.{Aims, Went, read_goes, write_goes}
 use Rattle.image_load.proofs.ByteLemmas.{MayPut, Shows, bytes_fit, laid_there, pieces_may, pieces_show, put_keeps}
 use Rattle.image_load.proofs.CallLemmas.{count_all}
@@ -27,14 +27,14 @@ use Rattle.image_load.proofs.FoundLemmas.{index_past}
 
 -- ---- a piece
 
-size_of_piece : (p : Piece) → IsPiece p → IsSize p.size
+size_of_piece : (p : WordOrByte) → IsPiece p → IsSize p.size
 size_of_piece p h = by_size h.sized
   where
     by_size : (p.size ≡ 1) ⊎ (p.size ≡ 4) → IsSize p.size
     by_size (inl e) = inl e
     by_size (inr e) = inr (inr e)
 
-low_piece : (p : Piece) → IsPiece p → p.address < 2 ^ 32
+low_piece : (p : WordOrByte) → IsPiece p → p.address < 2 ^ 32
 low_piece p h = by_size h.sized
   where
     by_size : (p.size ≡ 1) ⊎ (p.size ≡ 4) → p.address < 2 ^ 32
@@ -59,22 +59,22 @@ module _ (n : ℕ) (lt : n < 256) where
 
   -- ---- writes
 
-  written : (w : World) (p : Piece) → IsOpen n w → (h : MayPut w.target.words p) → Went w.large n (done_now w (write_ask n p)) 0 (put w.target.words p)
+  written : (w : World) (p : WordOrByte) → IsOpen n w → (h : MayPut w.target.words p) → Went w.large n (done_now w (write_ask n p)) 0 (put w.target.words p)
   written w p open_ h =
       let went = write_goes w.large n lt w.target open_.aims p.size p.address (size_of_piece p h.sound) (low_piece p h.sound) h.has.word h.has.there p.value h.has.writable in
       record { end = went.end; large = went.large; words = went.words ∙ sym (ap (word_put w.target.words p) h.has.there); aims = went.aims }
 
-  may_stay : (m k : Memory) (p : Piece) (ps : List Piece) → k ≡ put m p → AllByRecursion (MayPut m) ps → AllByRecursion (MayPut k) ps
+  may_stay : (m k : Memory) (p : WordOrByte) (ps : List WordOrByte) → k ≡ put m p → AllByRecursion (MayPut m) ps → AllByRecursion (MayPut k) ps
   may_stay m k p [] is h = tt
   may_stay m k p (q ∷ ps) is h =
       (subst (λ (x : Memory). MayPut x q) (sym is) (record { sound = h.0.sound; has = put_keeps m p (q.address / 4 * 4) h.0.has }), may_stay m k p ps is h.1)
 
-  record Wrote (w : World) (ps : List Piece) : Type 0 where
+  record Wrote (w : World) (ps : List WordOrByte) : Type 0 where
     goes : stop w (asked_all false n ps) ≡ None
     words : (world_after w (asked_all false n ps)).target.words ≡ fold put w.target.words ps
     after : IsOpen n (world_after w (asked_all false n ps))
 
-  writes : (ps : List Piece) (w : World) → IsOpen n w → AllByRecursion (MayPut w.target.words) ps → Wrote w ps
+  writes : (ps : List WordOrByte) (w : World) → IsOpen n w → AllByRecursion (MayPut w.target.words) ps → Wrote w ps
   writes [] w open_ h = record { goes = refl; words = refl; after = open_ }
   writes (p ∷ ps) w open_ h =
       let went = written w p open_ h.0 in
@@ -89,7 +89,7 @@ module _ (n : ℕ) (lt : n < 256) where
 
   -- ---- reads
 
-  read_back : (w : World) (p : Piece) → IsOpen n w → IsPiece p → Shows w.target.words p → Went w.large n (done_now w (read_ask n p)) p.value w.target.words
+  read_back : (w : World) (p : WordOrByte) → IsOpen n w → IsPiece p → Shows w.target.words p → Went w.large n (done_now w (read_ask n p)) p.value w.target.words
   read_back w p open_ sound h =
       let went = read_goes w.large n lt w.target open_.aims p.size p.address (size_of_piece p sound) (low_piece p sound) h.word h.there in
       record {
@@ -99,12 +99,12 @@ module _ (n : ℕ) (lt : n < 256) where
         aims = went.aims;
       }
 
-  record ReadAll (w : World) (ps : List Piece) : Type 0 where
+  record ReadAll (w : World) (ps : List WordOrByte) : Type 0 where
     goes : stop w (asked_all true n ps) ≡ None
-    found : results w (asked_all true n ps) ≡ map (λ (p : Piece). p.value) ps
+    found : results w (asked_all true n ps) ≡ map (λ (p : WordOrByte). p.value) ps
     words : (world_after w (asked_all true n ps)).target.words ≡ w.target.words
 
-  reads : (ps : List Piece) (w : World) → IsOpen n w → AllByRecursion IsPiece ps → AllByRecursion (Shows w.target.words) ps → ReadAll w ps
+  reads : (ps : List WordOrByte) (w : World) → IsOpen n w → AllByRecursion IsPiece ps → AllByRecursion (Shows w.target.words) ps → ReadAll w ps
   reads [] w open_ sound h = record { goes = refl; found = refl; words = refl }
   reads (p ∷ ps) w open_ sound h =
       let went = read_back w p open_ sound.0 h.0 in
@@ -119,13 +119,13 @@ module _ (n : ℕ) (lt : n < 256) where
 
   -- ---- both
 
-  record DidBoth (w : World) (ps : List Piece) : Type 0 where
+  record DidBoth (w : World) (ps : List WordOrByte) : Type 0 where
     goes : stop w (load_calls n ps) ≡ None
-    found : results w (load_calls n ps) ≡ results w (asked_all false n ps) ++ map (λ (p : Piece). p.value) ps
+    found : results w (load_calls n ps) ≡ results w (asked_all false n ps) ++ map (λ (p : WordOrByte). p.value) ps
     before : stop w (asked_all false n ps) ≡ None
     words : (world_after w (load_calls n ps)).target.words ≡ fold put w.target.words ps
 
-  both : (w : World) (ps : List Piece) → IsOpen n w → AllByRecursion (MayPut w.target.words) ps → AllByRecursion IsPiece ps → AllByRecursion (Shows (fold put w.target.words ps)) ps → DidBoth w ps
+  both : (w : World) (ps : List WordOrByte) → IsOpen n w → AllByRecursion (MayPut w.target.words) ps → AllByRecursion IsPiece ps → AllByRecursion (Shows (fold put w.target.words ps)) ps → DidBoth w ps
   both w ps open_ may sound shows =
       let first = writes ps w open_ may in
       let second = reads ps (world_after w (asked_all false n ps)) first.after sound (subst (λ (m : Memory). AllByRecursion (Shows m) ps) (sym first.words) shows) in
@@ -143,12 +143,12 @@ no_difference zero bit address v = refl
 no_difference (suc k) bit address v = same_byte k bit address v v refl ∙ no_difference k (bit + 8) (address + 1) v
 
 -- where each read gave the value of its piece nothing differs
-none_differs : (ps : List Piece) → first_difference ps (slice_index (map (λ (p : Piece). p.value) ps)) ≡ None
+none_differs : (ps : List WordOrByte) → first_difference ps (slice_index (map (λ (p : WordOrByte). p.value) ps)) ≡ None
 none_differs [] = refl
 none_differs (p ∷ ps) =
-    ap (λ (o : Option Difference). first_of o (first_difference ps (λ i. slice_index (map (λ (q : Piece). q.value) (p ∷ ps)) (i + 1)))) (no_difference p.size 0 p.address p.value)
-    ∙ same_found ps (λ i. slice_index (map (λ (q : Piece). q.value) (p ∷ ps)) (i + 1)) (slice_index (map (λ (q : Piece). q.value) ps))
-    (λ i. let more : i + 1 ≡ suc i = omega arith in ap (slice_index (map (λ (q : Piece). q.value) (p ∷ ps))) more)
+    ap (λ (o : Option Difference). first_of o (first_difference ps (λ i. slice_index (map (λ (q : WordOrByte). q.value) (p ∷ ps)) (i + 1)))) (no_difference p.size 0 p.address p.value)
+    ∙ same_found ps (λ i. slice_index (map (λ (q : WordOrByte). q.value) (p ∷ ps)) (i + 1)) (slice_index (map (λ (q : WordOrByte). q.value) ps))
+    (λ i. let more : i + 1 ≡ suc i = omega arith in ap (slice_index (map (λ (q : WordOrByte). q.value) (p ∷ ps))) more)
     ∙ none_differs ps
 
 -- ---- the port
@@ -172,7 +172,7 @@ can_parts t n large can narrow = by_clear t.sticky refl can
     by_clear false clear h = by_power (acknowledges t 0x1000_0000) refl clear h
     by_clear true clear h = absurd cc
 
-sound_all : (m : Memory) (ps : List Piece) → AllByRecursion (MayPut m) ps → AllByRecursion IsPiece ps
+sound_all : (m : Memory) (ps : List WordOrByte) → AllByRecursion (MayPut m) ps → AllByRecursion IsPiece ps
 sound_all m [] h = tt
 sound_all m (p ∷ ps) h = (h.0.sound, sound_all m ps h.1)
 
@@ -180,7 +180,7 @@ sound_all m (p ∷ ps) h = (h.0.sound, sound_all m ps h.1)
 
 pub loads_lay : (w : World) (n : ℕ) (image : Bytes) → CanLoad w n image → Laid w n image
 loads_lay w n image can =
-    let ps : List Piece = pieces image in
+    let ps : List WordOrByte = pieces image in
     let may = pieces_may image w.target.words can.bytes in
     let lays : fold put w.target.words ps ≡ laid w.target.words image = laid_by_pieces image w.target.words (bytes_fit image w.target.words can.bytes) in
     let there = laid_there image w.target.words can.rising can.bytes in
@@ -192,9 +192,9 @@ loads_lay w n image can =
       goes = did.goes;
       words = did.words ∙ lays;
       same =
-          same_found ps (λ i. slice_index (results w (load_calls n ps)) (length ps + i)) (slice_index (map (λ (p : Piece). p.value) ps))
+          same_found ps (λ i. slice_index (results w (load_calls n ps)) (length ps + i)) (slice_index (map (λ (p : WordOrByte). p.value) ps))
           (λ i. ap (λ (l : List ℕ). slice_index l (length ps + i)) did.found
-          ∙ ap (λ (k : ℕ). slice_index (results w (asked_all false n ps) ++ map (λ (p : Piece). p.value) ps) (k + i)) (sym count)
-          ∙ index_past (results w (asked_all false n ps)) (map (λ (p : Piece). p.value) ps) i)
+          ∙ ap (λ (k : ℕ). slice_index (results w (asked_all false n ps) ++ map (λ (p : WordOrByte). p.value) ps) (k + i)) (sym count)
+          ∙ index_past (results w (asked_all false n ps)) (map (λ (p : WordOrByte). p.value) ps) i)
           ∙ none_differs ps;
     }

@@ -12,7 +12,7 @@ use Rattle.access_calls.specs.declared.stop.Stop.{Stop}
 use Rattle.image_load.specs.Loading.{AskedPart, LoadEndIs}
 use Rattle.image_load.specs.Pieces.{IsPiece}
 use Rattle.image_load.specs.declared.ends.LoadEnd.{LoadEnd}
-use Rattle.image_load.specs.declared.piece.Piece.{Piece}
+use Rattle.image_load.specs.declared.piece.WordOrByte.{WordOrByte}
 
 -- These calls were asked after the old ones; at an error the first of them.
 abbrev pub AsksCalls : {T : Type 0} → List Ask → Result T Stop → List Ask → List Ask → Type 0
@@ -32,7 +32,7 @@ pub record EndsLoad {S T : Type 0} (begun : S → BenchState → Type 0) (report
   pub keeps : KeepsAccess begun reported identity old new
 
 -- The pieces may be loaded: each is in order, they are at most 262,144, and the first call may be asked.
-pub record MayLoadPieces (pieces : List Piece) (a : AccessView) : Type 0 where
+pub record MayLoadPieces (pieces : List WordOrByte) (a : AccessView) : Type 0 where
   pub pieces_are : All IsPiece pieces
   pub many : length pieces ≤ 262144
   pub may : MayAsk 1000000 a

@@ -12,7 +12,7 @@ use Rattle.image_load.specs.Pieces.{first_difference, load_calls}
 use Rattle.image_load.specs.declared.ends.LoadEnd.{LoadEnd}
 use Rattle.image_load.specs.declared.ends.LoadEnd.TheVariants as e
 use Rattle.image_load.specs.declared.piece.Difference.{Difference}
-use Rattle.image_load.specs.declared.piece.Piece.{Piece}
+use Rattle.image_load.specs.declared.piece.WordOrByte.{WordOrByte}
 
 -- ---- what was asked
 
@@ -42,7 +42,7 @@ LoadedAs (Err (e.Differs address wanted found)) first = first ≡ Some (record {
 LoadedAs (Err (e.Stop s)) first = ⊤
 
 -- The same by the results of the calls of a load, which follow the old ones.
-abbrev pub ReadsBack : {A : Type 0} → World → List Ask → ℕ → List Piece → Result A LoadEnd → Type 0
+abbrev pub ReadsBack : {A : Type 0} → World → List Ask → ℕ → List WordOrByte → Result A LoadEnd → Type 0
 ReadsBack w old ap ps result = LoadedAs result (first_difference ps (read_back w old (load_calls ap ps) (length ps)))
 
 -- ---- where it stopped

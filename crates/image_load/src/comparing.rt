@@ -2,7 +2,7 @@
 ghost use Rattle.std.specs.Prelude.{◌≡◌, ◌+◌, ◌≤◌, ◌^◌, ◌<◌};
 ghost use Rattle.image_load.specs.Pieces.{byte_from_bit, difference};
 
-use crate::piece::{Difference, Piece};
+use crate::piece::{Difference, WordOrByte};
 
 // The byte of a number that begins at a bit.
 fn byte_at(number: u32, bit: u32) -> u8
@@ -13,7 +13,7 @@ fn byte_at(number: u32, bit: u32) -> u8
 }
 
 // The first byte of a piece that was read as another one.
-pub(crate) fn difference(piece: Piece, found: u32) -> Option<Difference>
+pub(crate) fn difference(piece: WordOrByte, found: u32) -> Option<Difference>
     requires size { piece.size ≤ 4 }
     requires fits { piece.address + piece.size ≤ 2 ^ 32 }
     ensures { result ≡ difference piece.size 0 piece.address piece.value found }

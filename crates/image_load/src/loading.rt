@@ -12,7 +12,7 @@ ghost use Rattle.image_load.specs.Pieces.{IsPiece, asked_all, first_difference, 
 
 use crate::comparing::difference;
 use crate::ends::{LoadEnd, Loaded};
-use crate::piece::{Difference, Piece, pieces_of};
+use crate::piece::{Difference, WordOrByte, pieces_of};
 use access_calls::{Access, Stop};
 use dap_base::OutOfMemory;
 use hex_image::Image;
@@ -21,7 +21,7 @@ use target_calls::{Asked, Slot};
 use target_machine::Unit;
 
 // The memory access that reads or writes a piece.
-fn unit_of(read: bool, ap: u8, piece: Piece) -> Unit
+fn unit_of(read: bool, ap: u8, piece: WordOrByte) -> Unit
     requires { IsPiece piece }
     ensures asks { unit_ask result false ≡ piece_ask read ap piece }
     ensures narrow { IsSoundNarrow result }
@@ -51,7 +51,12 @@ fn ask<A: Access>(unit: Unit, access: &mut A) -> Result<Slot, Stop>
 
 // Asks for all pieces, as writes or as reads. Answers the place of the first result, 0 where there is no piece: the others follow it.
 #[tactic(auto, using(access_calls::proofs::KeepLemmas::goes_trans, access_calls::proofs::KeepLemmas::goes_same))]
-fn ask_all<A: Access>(read: bool, ap: u8, pieces: &[Piece], access: &mut A) -> Result<u32, Stop>
+fn ask_all<A: Access>(
+    read: bool,
+    ap: u8,
+    pieces: &[WordOrByte],
+    access: &mut A,
+) -> Result<u32, Stop>
     requires pieces { All IsPiece pieces.now }
     requires may { MayAskMore (length pieces.now) 9000000 (A.reported access.old) }
     ensures first { IfOk result (λ first. 0 < length pieces.now → first ≡ length (A.reported access.old).asks.calls) }
@@ -71,7 +76,7 @@ fn ask_all<A: Access>(read: bool, ap: u8, pieces: &[Piece], access: &mut A) -> R
 
 // The first byte that was read as another one, by the results from a place on, all of which have come.
 #[tactic(auto, using(access_calls::proofs::KeepLemmas::goes_trans, access_calls::proofs::KeepLemmas::goes_same))]
-fn compare_all<A: Access>(pieces: &[Piece], first: u32, access: &mut A) -> Option<Difference>
+fn compare_all<A: Access>(pieces: &[WordOrByte], first: u32, access: &mut A) -> Option<Difference>
     requires pieces { All IsPiece pieces.now }
     requires few { first + length pieces.now ≤ 9000000 }
     requires known { first + length pieces.now ≤ (A.reported access.old).known }
@@ -100,7 +105,7 @@ fn compare_all<A: Access>(pieces: &[Piece], first: u32, access: &mut A) -> Optio
 
 // Asks for all writes, and then for all reads. Answers the place of the result of the first read, 0 where there is no piece.
 #[tactic(auto, using(crate::proofs::CallLemmas::count_all, access_calls::proofs::KeepLemmas::goes_trans, access_calls::proofs::KeepLemmas::goes_same))]
-fn ask_both<A: Access>(ap: u8, pieces: &[Piece], access: &mut A) -> Result<u32, Stop>
+fn ask_both<A: Access>(ap: u8, pieces: &[WordOrByte], access: &mut A) -> Result<u32, Stop>
     requires may { MayLoadPieces pieces.now (A.reported access.old) }
     ensures first { IfOk result (λ first. 0 < length pieces.now → first ≡ length (A.reported access.old).asks.calls + length pieces.now) }
     ensures none { IfOk result (λ first. length pieces.now ≡ 0 → first ≡ 0) }
@@ -113,7 +118,7 @@ fn ask_both<A: Access>(ap: u8, pieces: &[Piece], access: &mut A) -> Result<u32, 
 
 // Writes pieces in order, reads them back in the same order, and finishes.
 #[tactic(auto, using(access_calls::proofs::KeepLemmas::goes_trans, access_calls::proofs::KeepLemmas::goes_same))]
-fn load_pieces<A: Access>(ap: u8, pieces: &[Piece], access: &mut A) -> Result<(), LoadEnd>
+fn load_pieces<A: Access>(ap: u8, pieces: &[WordOrByte], access: &mut A) -> Result<(), LoadEnd>
     requires may { MayLoadPieces pieces.now (A.reported access.old) }
     ensures asks { AsksLoad result (load_calls ap pieces.now) (A.reported access.old).asks.calls (A.reported access.new).asks.calls }
     ensures loads { InEachWorld A.begun A.reported access.old access.new

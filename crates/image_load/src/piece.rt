@@ -8,7 +8,7 @@ use std::alloc::{AllocError, Global};
 
 /// A word of four bytes, or one byte.
 #[derive(Clone, Copy, Debug, PartialEq, Eq)]
-pub(crate) struct Piece {
+pub(crate) struct WordOrByte {
     /// 4 or 1.
     pub size: u8,
     /// A multiple of the size.
@@ -26,11 +26,11 @@ pub(crate) struct Difference {
 }
 
 // One byte of an image.
-fn byte_piece(byte: (u32, u8)) -> Piece
+fn byte_piece(byte: (u32, u8)) -> WordOrByte
     ensures answer { result ≡ byte_piece byte }
     ensures sound { IsPiece result }
 {
-    Piece {
+    WordOrByte {
         size: 1,
         address: byte.0,
         value: u32::from(byte.1),
@@ -38,13 +38,13 @@ fn byte_piece(byte: (u32, u8)) -> Piece
 }
 
 // The word with which bytes begin, where their first four are those of a word.
-fn word_at(bytes: &[(u32, u8)]) -> Option<Piece>
+fn word_at(bytes: &[(u32, u8)]) -> Option<WordOrByte>
     ensures answer { result ≡ leading_word bytes.now }
     ensures sound { IfSome result IsPiece }
 {
     match bytes {
         [a, b, c, d, ..] if a.0 % 4 == 0 && b.0 == a.0 + 1 && c.0 == a.0 + 2 && d.0 == a.0 + 3 => {
-            Some(Piece {
+            Some(WordOrByte {
                 size: 4,
                 address: a.0,
                 value: u32::from_le_bytes([a.1, b.1, c.1, d.1]),
@@ -67,7 +67,7 @@ fn bytes_of(alloc: Global, image: &Image) -> Result<Vec<(u32, u8)>, AllocError>
 }
 
 // The pieces of bytes.
-fn pieces_in(alloc: Global, bytes: &[(u32, u8)]) -> Result<Vec<Piece>, AllocError>
+fn pieces_in(alloc: Global, bytes: &[(u32, u8)]) -> Result<Vec<WordOrByte>, AllocError>
     ensures answer { IfOk result (λ ps. ps.items ≡ pieces bytes.now) }
     ensures sound { IfOk result (λ ps. All IsPiece ps.items) }
     ensures few { IfOk result (λ ps. length ps.items ≤ length bytes.now) }
@@ -90,7 +90,7 @@ fn pieces_in(alloc: Global, bytes: &[(u32, u8)]) -> Result<Vec<Piece>, AllocErro
 }
 
 /// The pieces of an image, in rising order.
-pub(crate) fn pieces_of(alloc: Global, image: &Image) -> Result<Vec<Piece>, AllocError>
+pub(crate) fn pieces_of(alloc: Global, image: &Image) -> Result<Vec<WordOrByte>, AllocError>
     ensures answer { IfOk result (λ ps. ps.items ≡ pieces image.now) }
     ensures sound { IfOk result (λ ps. All IsPiece ps.items) }
     ensures few { IfOk result (λ ps. length ps.items ≤ length image.now) }

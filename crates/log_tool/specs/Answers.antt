@@ -1,15 +1,15 @@
 -- What is written, and the exit statuses.
 use Rattle.std.specs.Prelude.{ℕ, List, ◌++◌, codes}
 use Rattle.check_lines.specs.RefusalLines.{no_sequence_line, refusal_line, too_long_line}
-use Rattle.log_tool.specs.declared.asking.Answer.{Answer}
-use Rattle.log_tool.specs.declared.asking.Answer.TheVariants as answers
+use Rattle.log_tool.specs.declared.asking.LogAnswer.{LogAnswer}
+use Rattle.log_tool.specs.declared.asking.LogAnswer.TheVariants as answers
 use Rattle.log_tool.specs.declared.log.RunStatus.{RunStatus}
 use Rattle.log_tool.specs.declared.log.RunStatus.TheVariants as came
-use Rattle.log_tool.specs.declared.status.Status.{Status}
-use Rattle.log_tool.specs.declared.status.Status.TheVariants as status
+use Rattle.log_tool.specs.declared.status.LogStatus.{LogStatus}
+use Rattle.log_tool.specs.declared.status.LogStatus.TheVariants as status
 
 -- the status as the number with which the program ends
-abbrev pub log_exit_code : Status → ℕ
+abbrev pub log_exit_code : LogStatus → ℕ
 log_exit_code status.Done = 0
 log_exit_code status.Refused = 1
 log_exit_code status.Usage = 2
@@ -26,7 +26,7 @@ abbrev pub log_usage_line : List ℕ
 log_usage_line = codes "usage dapseq_log --device NAME --sequence NAME [--variant NAME] [--pname NAME] [--turns N] [--fail] < JOB\n"
 
 -- the text of an answer
-unfoldable pub log_answer_text : Answer → List ℕ
+unfoldable pub log_answer_text : LogAnswer → List ℕ
 log_answer_text answers.Usage = log_usage_line
 log_answer_text answers.TooLong = too_long_line
 log_answer_text answers.NoSequence = no_sequence_line
@@ -36,13 +36,13 @@ log_answer_text (answers.Log log) = log.log.text ++ log.last
 -- ---- statuses
 
 -- the status of a run whose log is written
-abbrev pub of_run : RunStatus → Status
+abbrev pub of_run : RunStatus → LogStatus
 of_run came.Done = status.Done
 of_run came.Failed = status.Failed
 of_run came.Stopped = status.Stopped
 
 -- the status where an answer is written
-unfoldable pub log_answer_status : Answer → Status
+unfoldable pub log_answer_status : LogAnswer → LogStatus
 log_answer_status answers.Usage = status.Usage
 log_answer_status answers.TooLong = status.Refused
 log_answer_status answers.NoSequence = status.Refused

@@ -3,34 +3,34 @@ ghost use Rattle.std.specs.Prelude.{◌≡◌, ◌++◌};
 ghost use Rattle.text_lines.specs.Puts.{PutsText};
 ghost use Rattle.log_tool.specs.Answers.{log_answer_status, log_answer_text, log_usage_line, of_run};
 
-use crate::asking::Answer;
+use crate::asking::LogAnswer;
 use crate::log::{RunLog, RunStatus};
-use crate::status::Status;
+use crate::status::LogStatus;
 use check_lines::{write_no_sequence, write_refusal, write_too_long};
 use dap_base::Sink;
 use std::alloc::Global;
 use text_lines::{TextError, put_text};
 
 // The status of a run whose log is written.
-fn of_run(status: RunStatus) -> Status
+fn of_run(status: RunStatus) -> LogStatus
     ensures { result ≡ of_run status }
 {
     match status {
-        RunStatus::Done => Status::Done,
-        RunStatus::Failed => Status::Failed,
-        RunStatus::Stopped => Status::Stopped,
+        RunStatus::Done => LogStatus::Done,
+        RunStatus::Failed => LogStatus::Failed,
+        RunStatus::Stopped => LogStatus::Stopped,
     }
 }
 
 /// The status where an answer is written.
 #[tactic(auto, unfolding(crate::specs::Answers::log_answer_status))]
-pub fn status_of(answer: &Answer) -> Status
+pub fn status_of(answer: &LogAnswer) -> LogStatus
     ensures { result ≡ log_answer_status answer.now }
 {
     match answer {
-        Answer::Usage => Status::Usage,
-        Answer::TooLong | Answer::NoSequence | Answer::Refused(_) => Status::Refused,
-        Answer::Log(log) => of_run(log.status),
+        LogAnswer::Usage => LogStatus::Usage,
+        LogAnswer::TooLong | LogAnswer::NoSequence | LogAnswer::Refused(_) => LogStatus::Refused,
+        LogAnswer::Log(log) => of_run(log.status),
     }
 }
 
@@ -56,14 +56,18 @@ fn write_log<K: Sink>(log: &RunLog, sink: &mut K) -> Result<(), TextError>
 
 /// Writes the text of an answer. At an error a part of it was written, from its front.
 #[tactic(auto, unfolding(crate::specs::Answers::log_answer_text))]
-pub fn write_answer<K: Sink>(alloc: Global, answer: &Answer, sink: &mut K) -> Result<(), TextError>
+pub fn write_answer<K: Sink>(
+    alloc: Global,
+    answer: &LogAnswer,
+    sink: &mut K,
+) -> Result<(), TextError>
     ensures puts { PutsText (log_answer_text answer.now) result TextError.Failed K.written K.faults sink.old sink.new }
 {
     match answer {
-        Answer::Usage => write_usage(sink),
-        Answer::TooLong => write_too_long(sink),
-        Answer::NoSequence => write_no_sequence(sink),
-        Answer::Refused(refusal) => write_refusal(alloc, refusal, sink),
-        Answer::Log(log) => write_log(log, sink),
+        LogAnswer::Usage => write_usage(sink),
+        LogAnswer::TooLong => write_too_long(sink),
+        LogAnswer::NoSequence => write_no_sequence(sink),
+        LogAnswer::Refused(refusal) => write_refusal(alloc, refusal, sink),
+        LogAnswer::Log(log) => write_log(log, sink),
     }
 }

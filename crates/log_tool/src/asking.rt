@@ -10,13 +10,13 @@ use crate::log::{RunLog, log_of};
 use dap_base::{OutOfMemory, Source, Words};
 use job_check::{Own, Refusal, RunRefusal, valid_run};
 use job_source::{Unread, read_job};
-use log_words::{Asked, WordsError, asked_of};
+use log_words::{LogCommand, WordsError, asked_of};
 use std::alloc::Global;
 use tool_calls::Unasked;
 
 /// What is answered.
 #[derive(Drop)]
-pub enum Answer {
+pub enum LogAnswer {
     /// The words ask for nothing.
     Usage,
     /// The source has more bytes than a job may have.
@@ -30,36 +30,40 @@ pub enum Answer {
 }
 
 // What is answered where no sequence runs.
-fn refused_by(refusal: RunRefusal) -> Result<Answer, OutOfMemory>
+fn refused_by(refusal: RunRefusal) -> Result<LogAnswer, OutOfMemory>
     ensures { IfOk result (λ answer. answer_of_run_refusal refusal ≡ Some answer) }
 {
     match refusal {
-        RunRefusal::Refused(refusal) => Ok(Answer::Refused(refusal)),
-        RunRefusal::NoSequence => Ok(Answer::NoSequence),
+        RunRefusal::Refused(refusal) => Ok(LogAnswer::Refused(refusal)),
+        RunRefusal::NoSequence => Ok(LogAnswer::NoSequence),
         RunRefusal::OutOfMemory => Err(OutOfMemory),
     }
 }
 
 // What is asked for of the bytes of a job.
-fn ask_of_bytes(alloc: Global, asked: &Asked, bytes: &[u8]) -> Result<Answer, OutOfMemory>
+fn ask_of_bytes(alloc: Global, asked: &LogCommand, bytes: &[u8]) -> Result<LogAnswer, OutOfMemory>
     ensures { IfOk result (AsksOfJobBytes bytes.now asked.now) }
 {
     let sequence = asked.sequence.as_str();
     match valid_run(alloc, bytes, Own::Nothing, &asked.selection, sequence) {
-        Ok(valid) => Ok(Answer::Log(log_of(alloc, asked, &valid)?)),
+        Ok(valid) => Ok(LogAnswer::Log(log_of(alloc, asked, &valid)?)),
         Err(refusal) => refused_by(refusal),
     }
 }
 
 // What the source asks for.
-fn ask_of_source<S: Source>(alloc: Global, asked: &Asked, source: &mut S) -> Result<Answer, Unasked>
+fn ask_of_source<S: Source>(
+    alloc: Global,
+    asked: &LogCommand,
+    source: &mut S,
+) -> Result<LogAnswer, Unasked>
     ensures asked { (given : List (List ℕ)) → words_asked.WordsAskForLog given asked.now
         → IfOk result (λ answer. (bytes : List ℕ) × AreBytesOf (S.left source.old) bytes × AsksForLog given bytes answer) }
     ensures reads { ReadsJob result (S.left source.old) (S.left source.new) (S.faults source.old) (S.faults source.new) }
 {
     let bytes = match read_job(alloc, source) {
         Ok(bytes) => bytes,
-        Err(Unread::TooLong) => return Ok(Answer::TooLong),
+        Err(Unread::TooLong) => return Ok(LogAnswer::TooLong),
         Err(Unread::Failed) => return Err(Unasked::ReadFault),
         Err(Unread::OutOfMemory) => return Err(Unasked::OutOfMemory),
     };
@@ -70,7 +74,7 @@ fn ask_of_source<S: Source>(alloc: Global, asked: &Asked, source: &mut S) -> Res
 }
 
 /// What the words and the source ask for. Where the words ask for nothing, the source is not read.
-pub fn ask<S: Source>(alloc: Global, words: &Words, source: &mut S) -> Result<Answer, Unasked>
+pub fn ask<S: Source>(alloc: Global, words: &Words, source: &mut S) -> Result<LogAnswer, Unasked>
     ensures asked { IfOk result (λ answer. (bytes : List ℕ) × AreBytesOf (S.left source.old) bytes × AsksForLog words.now bytes answer) }
     ensures taken { OnOk result (IsLogLine words.now → AreTaken (S.left source.old) (S.left source.new)) }
     ensures unread { (IsLogLine words.now → ⊥) → source.new ≡ source.old }
@@ -79,7 +83,7 @@ pub fn ask<S: Source>(alloc: Global, words: &Words, source: &mut S) -> Result<An
 {
     match asked_of(alloc, words) {
         Ok(asked) => ask_of_source(alloc, &asked, source),
-        Err(WordsError::Usage) => Ok(Answer::Usage),
+        Err(WordsError::Usage) => Ok(LogAnswer::Usage),
         Err(WordsError::OutOfMemory) => Err(Unasked::OutOfMemory),
     }
 }

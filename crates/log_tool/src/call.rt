@@ -8,25 +8,25 @@ ghost use Rattle.job_source.specs.Source.{AreTaken};
 ghost use Rattle.tool_calls.specs.Calls.{failed_status, source_fault_line, moment, Blames, Does, Finishes, IsDisturbed, CallIsDone, PutsAs};
 
 use crate::answering::{status_of, write_answer};
-use crate::asking::{Answer, ask};
-use crate::status::Status;
+use crate::asking::{LogAnswer, ask};
+use crate::status::LogStatus;
 use dap_base::{Sink, Source, Words};
 use std::alloc::Global;
 use text_lines::TextError;
 use tool_calls::Unasked;
 
 // The status where a text was not written whole.
-fn failed_status(end: TextError) -> Status
+fn failed_status(end: TextError) -> LogStatus
     ensures { result ≡ failed_status log_fault_statuses end }
 {
     match end {
-        TextError::Failed => Status::WriteFault,
-        TextError::OutOfMemory => Status::OutOfMemory,
+        TextError::Failed => LogStatus::WriteFault,
+        TextError::OutOfMemory => LogStatus::OutOfMemory,
     }
 }
 
 // Writes an answer.
-fn answer<K: Sink>(alloc: Global, answer: &Answer, sink: &mut K) -> Status
+fn answer<K: Sink>(alloc: Global, answer: &LogAnswer, sink: &mut K) -> LogStatus
     ensures { PutsAs log_fault_statuses (log_answer_text answer.now) (log_answer_status answer.now) result K.written K.faults sink.old sink.new }
 {
     match write_answer(alloc, answer, sink) {
@@ -36,24 +36,24 @@ fn answer<K: Sink>(alloc: Global, answer: &Answer, sink: &mut K) -> Status
 }
 
 // Reports that the source failed.
-fn read_fault<K: Sink>(sink: &mut K) -> Status
-    ensures puts { PutsAs log_fault_statuses source_fault_line Status.ReadFault result K.written K.faults sink.old sink.new }
-    ensures ends { (result ≡ Status.ReadFault) ⊎ (result ≡ Status.WriteFault) }
+fn read_fault<K: Sink>(sink: &mut K) -> LogStatus
+    ensures puts { PutsAs log_fault_statuses source_fault_line LogStatus.ReadFault result K.written K.faults sink.old sink.new }
+    ensures ends { (result ≡ LogStatus.ReadFault) ⊎ (result ≡ LogStatus.WriteFault) }
 {
     match sink.put(b"end readfault\n") {
-        Ok(()) => Status::ReadFault,
-        Err(_) => Status::WriteFault,
+        Ok(()) => LogStatus::ReadFault,
+        Err(_) => LogStatus::WriteFault,
     }
 }
 
 // Writes what is asked for, or what is written where that is not known.
-fn finish<K: Sink>(alloc: Global, asked: &Result<Answer, Unasked>, sink: &mut K) -> Status
+fn finish<K: Sink>(alloc: Global, asked: &Result<LogAnswer, Unasked>, sink: &mut K) -> LogStatus
     ensures { Finishes log_program asked.now result K.written K.faults sink.old sink.new }
 {
     match asked {
         Ok(asked) => answer(alloc, asked, sink),
         Err(Unasked::ReadFault) => read_fault(sink),
-        Err(Unasked::OutOfMemory) => Status::OutOfMemory,
+        Err(Unasked::OutOfMemory) => LogStatus::OutOfMemory,
     }
 }
 
@@ -77,32 +77,32 @@ pub fn dapseq_log<S: Source, K: Sink>(
     words: &Words,
     source: &mut S,
     sink: &mut K,
-) -> Status
+) -> LogStatus
     // What the words and the bytes ask for was written.
     ensures asked { let at = moment S.left S.faults K.written K.faults in
         Does log_program (record { words = words.now; old = at source.old sink.old; new = at source.new sink.new; end = result }) }
     // It was written whole with its own status, unless the source or the sink failed or memory was refused.
     ensures success { let at = moment S.left S.faults K.written K.faults in
-        IsQuiet (S.faults source.old) (S.faults source.new) → IsQuiet (K.faults sink.old) (K.faults sink.new) → result ≢ Status.OutOfMemory
+        IsQuiet (S.faults source.old) (S.faults source.new) → IsQuiet (K.faults sink.old) (K.faults sink.new) → result ≢ LogStatus.OutOfMemory
         → CallIsDone log_program (record { words = words.now; old = at source.old sink.old; new = at source.new sink.new; end = result }) }
 
     // The status of a run comes only where a sequence of the job runs, and is that of its run. Where one runs, it is no other without a
     // fault outside.
     ensures run { IsOfRun result → SourceRunsTo words.now (S.left source.old) result }
-    ensures run_only { (bytes : List ℕ) (end : Status) → S.left source.old ≡ Some bytes → RunsWithStatus words.now bytes end
+    ensures run_only { (bytes : List ℕ) (end : LogStatus) → S.left source.old ≡ Some bytes → RunsWithStatus words.now bytes end
         → (result ≡ end) ⊎ IsDisturbed log_fault_statuses result }
 
     // The words alone decide on the usage, and whether the source is read: to its end, or one byte too far.
-    ensures usage { result ≡ Status.Usage → IsLogUsage words.now }
-    ensures usage_only { IsLogUsage words.now → (result ≡ Status.Usage) ⊎ (result ≡ Status.WriteFault) ⊎ (result ≡ Status.OutOfMemory) }
+    ensures usage { result ≡ LogStatus.Usage → IsLogUsage words.now }
+    ensures usage_only { IsLogUsage words.now → (result ≡ LogStatus.Usage) ⊎ (result ≡ LogStatus.WriteFault) ⊎ (result ≡ LogStatus.OutOfMemory) }
     ensures unread { (IsLogLine words.now → ⊥) → source.new ≡ source.old }
-    ensures taken { IsLogLine words.now → IsQuiet (S.faults source.old) (S.faults source.new) → result ≢ Status.OutOfMemory
+    ensures taken { IsLogLine words.now → IsQuiet (S.faults source.old) (S.faults source.new) → result ≢ LogStatus.OutOfMemory
         → AreTaken (S.left source.old) (S.left source.new) }
 
     // Each fault has its cause, and a fault outside is reported.
-    ensures read { result ≡ Status.ReadFault → Rose (S.faults source.old) (S.faults source.new) }
-    ensures source_counted { (S.faults source.new ≡ S.faults source.old) ⊎ (result ≡ Status.ReadFault) ⊎ (result ≡ Status.WriteFault) }
-    ensures sink { Blames Status.WriteFault result (K.faults sink.old) (K.faults sink.new) }
+    ensures read { result ≡ LogStatus.ReadFault → Rose (S.faults source.old) (S.faults source.new) }
+    ensures source_counted { (S.faults source.new ≡ S.faults source.old) ⊎ (result ≡ LogStatus.ReadFault) ⊎ (result ≡ LogStatus.WriteFault) }
+    ensures sink { Blames LogStatus.WriteFault result (K.faults sink.old) (K.faults sink.new) }
 {
     let asked = ask(alloc, words, source);
     let status = finish(alloc, &asked, sink);

@@ -7,11 +7,11 @@ ghost use Rattle.probe_core.specs.declared.job.BenchJob.{BenchJob};
 ghost use Rattle.probe_core.specs.declared.job.Config.{Config};
 ghost use Rattle.target_machine.specs.Start.{start};
 ghost use Rattle.log_tool.specs.Asked.{AsksForLog};
-ghost use Rattle.log_tool.specs.declared.asking.Answer.{Answer};
+ghost use Rattle.log_tool.specs.declared.asking.LogAnswer.{LogAnswer};
 
 /// Words and bytes ask for one answer at most.
 pub fn one_answer()
-    ensures { (words : List (List ℕ)) (bytes : List ℕ) (a b : Answer) → AsksForLog words bytes a → AsksForLog words bytes b → a ≡ b }
+    ensures { (words : List (List ℕ)) (bytes : List ℕ) (a b : LogAnswer) → AsksForLog words bytes a → AsksForLog words bytes b → a ≡ b }
 {}
 
 /// A logged run begins on the target on which a run of `dapseq` begins, whatever the settings of its probe.

@@ -11,4 +11,4 @@ mod status;
 mod text;
 
 pub use call::dapseq_log;
-pub use status::Status;
+pub use status::LogStatus;

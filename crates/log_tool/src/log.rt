@@ -9,11 +9,11 @@ ghost use Rattle.logged_runs.specs.Answers.{IsLoggedRun, IsSeenOfRun};
 ghost use Rattle.log_tool.specs.Logs.{IsLogOf, Subject, has_nonzero_result, last_lines, subject_of, subject_status};
 
 use crate::ending::{at_text, end_text};
-use crate::text::Text;
+use crate::text::LongText;
 use dap_base::OutOfMemory;
 use job_check::ValidRun;
 use log_lines::Log;
-use log_words::Asked;
+use log_words::LogCommand;
 use logged_runs::{Logged, LoggedEnding, run_logged};
 use seq_check::Checked;
 use sequence_rules::Globals;
@@ -37,13 +37,13 @@ pub struct RunLog {
     /// What was seen.
     pub log: Log,
     /// The lines after it: how the run ended, where it stopped, and what it covered.
-    pub last: Text,
+    pub last: LongText,
     /// How the run came out.
     pub status: RunStatus,
 }
 
 // Runs the sequence of the job on its target.
-fn run_of(alloc: Global, asked: &Asked, valid: &ValidRun) -> Result<Logged, OutOfMemory>
+fn run_of(alloc: Global, asked: &LogCommand, valid: &ValidRun) -> Result<Logged, OutOfMemory>
     requires settings { AreSettings valid.now.job.settings }
     requires bench { IsBenchJob valid.now.job.bench }
     ensures run { let s = subject_of valid.now asked.now.sequence in IfOk result (λ run. (left : TargetState) × IsLoggedRun s.program s.target left run) }
@@ -68,11 +68,11 @@ fn last_of(
     run: &Logged,
     checked: &Checked,
     sequence: &str,
-) -> Result<Text, OutOfMemory>
+) -> Result<LongText, OutOfMemory>
     ensures { (s : Subject) (left : TargetState) (turns : ℕ) → IsLoggedRun s.program s.target left run.now → IsSeenOfRun turns s.program s.target run.now
         → s.program.set ≡ checked_trees checked.now → s.program.start ≡ sequence.now → IfOk result (λ t. t ≡ last_lines s) }
 {
-    let mut text = Text::new(alloc);
+    let mut text = LongText::new(alloc);
     text.push(end_text(alloc, run.ending)?.as_bytes())?;
     text.push(at_text(alloc, &run.at)?.as_bytes())?;
     text.push(&run.coverage.text(checked, sequence)?)?;
@@ -108,7 +108,7 @@ fn status_of(fail: bool, run: &Logged) -> RunStatus
 }
 
 /// The log of the run of the sequence that is asked for, on the target of its job. `OutOfMemory` where memory is refused.
-pub fn log_of(alloc: Global, asked: &Asked, valid: &ValidRun) -> Result<RunLog, OutOfMemory>
+pub fn log_of(alloc: Global, asked: &LogCommand, valid: &ValidRun) -> Result<RunLog, OutOfMemory>
     requires settings { AreSettings valid.now.job.settings }
     requires bench { IsBenchJob valid.now.job.bench }
     ensures { IfOk result (IsLogOf asked.now.turns asked.now.fail (subject_of valid.now asked.now.sequence)) }

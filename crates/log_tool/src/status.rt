@@ -4,7 +4,7 @@ ghost use Rattle.log_tool.specs.Answers.{log_exit_code};
 
 /// How a call of `dapseq_log` ended.
 #[derive(Clone, Copy, Debug, PartialEq, Eq)]
-pub enum Status {
+pub enum LogStatus {
     /// The run came to its end.
     Done,
     /// The job was refused.
@@ -23,20 +23,20 @@ pub enum Status {
     Failed,
 }
 
-impl Status {
+impl LogStatus {
     /// The number with which the program ends: 0, 1, 2, 3, 5, 6, 7 and 10, in the order of the variants.
     pub fn code(&self) -> u8
         ensures { result ≡ log_exit_code self.now }
     {
         match self {
-            Status::Done => 0,
-            Status::Refused => 1,
-            Status::Usage => 2,
-            Status::Stopped => 3,
-            Status::ReadFault => 5,
-            Status::WriteFault => 6,
-            Status::OutOfMemory => 7,
-            Status::Failed => 10,
+            LogStatus::Done => 0,
+            LogStatus::Refused => 1,
+            LogStatus::Usage => 2,
+            LogStatus::Stopped => 3,
+            LogStatus::ReadFault => 5,
+            LogStatus::WriteFault => 6,
+            LogStatus::OutOfMemory => 7,
+            LogStatus::Failed => 10,
         }
     }
 }

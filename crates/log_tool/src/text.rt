@@ -7,11 +7,11 @@ use std::marker::Model;
 
 /// A text of any length, seen by contracts as its bytes.
 #[derive(Drop)]
-pub struct Text {
+pub struct LongText {
     bytes: Vec<u8>,
 }
 
-impl Model for Text {
+impl Model for LongText {
     ghost use Rattle.std.specs.Prelude.{ℕ, List};
 
     ghost Value = { List ℕ };
@@ -19,12 +19,12 @@ impl Model for Text {
     ghost view = { λ t. t.bytes.items };
 }
 
-impl Text {
+impl LongText {
     /// The empty text. Nothing is allocated.
-    pub fn new(alloc: Global) -> Text
+    pub fn new(alloc: Global) -> LongText
         ensures { result ≡ [] }
     {
-        Text {
+        LongText {
             bytes: Vec::new(alloc),
         }
     }

@@ -1,7 +1,7 @@
 -- Words ask for one thing, that of their values.
 use Rattle.std.proofs.Common.{◌≡◌, ℕ, Bool, List, [], codes, unwrap_or, Option, None, Some, sym, ap, ◌∙◌}
 use Rattle.std.specs.Str.Parse.{digits_value}
-use Rattle.log_words.specs.declared.answer.Asked.{Asked}
+use Rattle.log_words.specs.declared.answer.LogCommand.{LogCommand}
 use Rattle.word_options.specs.Line.{given_value, is_set}
 use Rattle.log_words.specs.Line.{log_command_line}
 use Rattle.log_words.specs.Asks.{IsTurns, IsLogRequest, WordsAskForLog}
@@ -17,7 +17,7 @@ turns_are None n is = is
 turns_are (Some text) n is = sym is.value
 
 -- what is asked for, by the value of each name
-asked_from : (List ℕ → Option (List ℕ)) → Asked
+asked_from : (List ℕ → Option (List ℕ)) → LogCommand
 asked_from value = record {
   selection = record { device = unwrap_or (value (codes "device")) []; variant = value (codes "variant"); pname = value (codes "pname") };
   sequence = unwrap_or (value (codes "sequence")) [];
@@ -26,11 +26,11 @@ asked_from value = record {
 }
 
 -- what is asked for, of its parts
-abbrev made : List ℕ → Option (List ℕ) → Option (List ℕ) → List ℕ → ℕ → Bool → Asked
+abbrev made : List ℕ → Option (List ℕ) → Option (List ℕ) → List ℕ → ℕ → Bool → LogCommand
 made device variant pname sequence turns fail =
     record { selection = record { device = device; variant = variant; pname = pname }; sequence = sequence; turns = turns; fail = fail }
 
-is_from : (value : List ℕ → Option (List ℕ)) (a : Asked) → IsLogRequest value a → a ≡ asked_from value
+is_from : (value : List ℕ → Option (List ℕ)) (a : LogCommand) → IsLogRequest value a → a ≡ asked_from value
 unfolding asked_from
 is_from value a is =
     let s = a.selection in
@@ -42,5 +42,5 @@ is_from value a is =
     ∙ ap (λ f. made (unwrap_or (value (codes "device")) []) (value (codes "variant")) (value (codes "pname")) (unwrap_or (value (codes "sequence")) []) (turns_from (value (codes "turns"))) f) is.fail))))
 
 -- one thing
-pub one_asked : (words : List (List ℕ)) (a b : Asked) → WordsAskForLog words a → WordsAskForLog words b → a ≡ b
+pub one_asked : (words : List (List ℕ)) (a b : LogCommand) → WordsAskForLog words a → WordsAskForLog words b → a ≡ b
 one_asked words a b is other = is_from (given_value log_command_line words) a is.found ∙ sym (is_from (given_value log_command_line words) b other.found)

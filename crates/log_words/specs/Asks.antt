@@ -1,7 +1,7 @@
 -- What words ask for.
 use Rattle.std.specs.Prelude.{◌≡◌, ℕ, ◌≤◌, List, length, Option, Some, None, codes}
 use Rattle.std.specs.Str.Parse.{IsNumeral, digits_value}
-use Rattle.log_words.specs.declared.answer.Asked.{Asked}
+use Rattle.log_words.specs.declared.answer.LogCommand.{LogCommand}
 use Rattle.word_options.specs.Line.{WordsAskFor, is_set}
 use Rattle.log_words.specs.Line.{log_command_line}
 
@@ -18,7 +18,7 @@ IsTurns None n = n ≡ 2
 IsTurns (Some text) n = IsTurnsText text n
 
 -- what the values of the options ask for, by the value of each name
-pub record IsLogRequest (value : List ℕ → Option (List ℕ)) (a : Asked) : Type 0 where
+pub record IsLogRequest (value : List ℕ → Option (List ℕ)) (a : LogCommand) : Type 0 where
   pub device : value (codes "device") ≡ Some a.selection.device
   pub variant : a.selection.variant ≡ value (codes "variant")
   pub pname : a.selection.pname ≡ value (codes "pname")
@@ -27,5 +27,5 @@ pub record IsLogRequest (value : List ℕ → Option (List ℕ)) (a : Asked) : T
   pub fail : a.fail ≡ is_set (value (codes "fail"))
 
 -- clap takes the words, and finds these values in them
-abbrev pub WordsAskForLog : List (List ℕ) → Asked → Type 0
+abbrev pub WordsAskForLog : List (List ℕ) → LogCommand → Type 0
 WordsAskForLog = WordsAskFor log_command_line IsLogRequest

@@ -4,7 +4,7 @@ use sequence_resolve::Selection;
 
 /// What the words ask for.
 #[derive(Debug, Drop)]
-pub struct Asked {
+pub struct LogCommand {
     /// The names after `--device`, `--variant` and `--pname`.
     pub selection: Selection,
     /// The name after `--sequence`.

@@ -6,6 +6,6 @@ mod line;
 mod top;
 mod turns;
 
-pub use answer::Asked;
+pub use answer::LogCommand;
 pub use top::asked_of;
 pub use word_options::WordsError;

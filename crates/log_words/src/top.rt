@@ -4,7 +4,7 @@ ghost use Rattle.clap.specs.Words.{first_value, found_of};
 ghost use Rattle.log_words.specs.Asks.{IsLogRequest, WordsAskForLog};
 ghost use Rattle.word_options.specs.declared.answer.WordsError.TheVariants as errors;
 
-use crate::answer::Asked;
+use crate::answer::LogCommand;
 use crate::line::{DEVICE, FAIL, PNAME, SEQUENCE, TURNS, VARIANT, matches_in};
 use crate::turns::turns_of;
 use clap::ArgMatches;
@@ -14,7 +14,7 @@ use std::alloc::Global;
 use word_options::{WordsError, is_set, needed_value, texts_of, value_of};
 
 // What the values of the options ask for.
-fn asked_by(alloc: Global, matches: &ArgMatches<'_>) -> Result<Asked, WordsError>
+fn asked_by(alloc: Global, matches: &ArgMatches<'_>) -> Result<LogCommand, WordsError>
     ensures answer { IfOk result (IsLogRequest (first_value (found_of matches.now))) }
     ensures usage { IfErr result (λ e. e ≡ errors.Usage → (a : _) → IsLogRequest (first_value (found_of matches.now)) a → ⊥) }
 {
@@ -23,7 +23,7 @@ fn asked_by(alloc: Global, matches: &ArgMatches<'_>) -> Result<Asked, WordsError
     };
     let device = needed_value(alloc, matches, DEVICE)?;
     let sequence = needed_value(alloc, matches, SEQUENCE)?;
-    Ok(Asked {
+    Ok(LogCommand {
         selection: Selection {
             device,
             variant: value_of(alloc, matches, VARIANT)?,
@@ -43,7 +43,7 @@ fn asked_by(alloc: Global, matches: &ArgMatches<'_>) -> Result<Asked, WordsError
 ///
 /// `Usage` exactly where `clap` refuses the words for another cause than memory, where the device or the sequence is not given, or where
 /// the turns are no such number. The answers of `clap` to `--help` and `-h` are such refusals. `OutOfMemory` where memory is refused.
-pub fn asked_of(alloc: Global, words: &Words) -> Result<Asked, WordsError>
+pub fn asked_of(alloc: Global, words: &Words) -> Result<LogCommand, WordsError>
     ensures answer { IfOk result (WordsAskForLog words.now) }
     ensures only { (a : _) → WordsAskForLog words.now a → MatchResult result (λ r. r ≡ a) (λ e. e ≡ errors.OutOfMemory) }
     ensures usage { IfErr result (λ e. e ≡ errors.Usage → (a : _) → WordsAskForLog words.now a → ⊥) }

@@ -15,7 +15,7 @@ use Rattle.sequence_resolve.specs.declared.place.DevicePlace as code
 use Rattle.sequence_resolve.specs.Places.{DevicePlace, places_of}
 use Rattle.sequence_resolve.specs.Levels.{LevelAt, path_of}
 use Rattle.sequence_resolve.specs.Views.{place_view}
-use Rattle.pack_faults.specs.declared.request.Request.{Request}
+use Rattle.pack_faults.specs.declared.request.PackRequest.{PackRequest}
 use Rattle.pack_faults.specs.declared.groups.Group.{Group}
 use Rattle.pack_faults.specs.declared.known.KnownSet.{KnownSet}
 use Rattle.pack_faults.specs.declared.shared.PnameSet.{PnameSet}
@@ -37,7 +37,7 @@ on_ok (Err e) P Q h f = tt
 few_more : (d : ℕ) (old more new : List SetRef) → new ≡ old ++ more → d ≤ length old → d ≤ length new
 few_more d old more new e le = let size : length new ≡ length old + length more = ap length e ∙ length-append old more in omega arith
 
-pub added_new : (pack : Pack) (r : Request) (place : code.DevicePlace) (variant : Option (Bor Variant)) (each : List PnameSet) (old : DeviceSets) (known : List KnownSet) (new : List SetRef)
+pub added_new : (pack : Pack) (r : PackRequest) (place : code.DevicePlace) (variant : Option (Bor Variant)) (each : List PnameSet) (old : DeviceSets) (known : List KnownSet) (new : List SetRef)
     → AreFine pack old → All IsKnown known → Grown old.known known → AreSetsOf r known (path_of pack (place_view place) (option_map (λ v. v.now) variant)) each
     → new ≡ old.sets ++ map (set_ref place variant) each
     → AreAdded pack r (path_of pack (place_view place) (option_map (λ v. v.now) variant)) (sets_at pack r (place_view place) (option_map (λ v. v.now) variant)) old (Some each)
@@ -56,7 +56,7 @@ added_new pack r place variant each old known new fine all grown are e = record 
   };
 }
 
-pub added_shared : (pack : Pack) (r : Request) (place : code.DevicePlace) (variant : Option (Bor Variant)) (shared : Option (List PnameSet)) (each : List PnameSet) (old : DeviceSets) (new : List SetRef)
+pub added_shared : (pack : Pack) (r : PackRequest) (place : code.DevicePlace) (variant : Option (Bor Variant)) (shared : Option (List PnameSet)) (each : List PnameSet) (old : DeviceSets) (new : List SetRef)
     → IsFineWithShared pack r (path_of pack (place_view place) (option_map (λ v. v.now) variant)) shared old → shared ≡ Some each → new ≡ old.sets ++ map (set_ref place variant) each
     → AreAdded pack r (path_of pack (place_view place) (option_map (λ v. v.now) variant)) (sets_at pack r (place_view place) (option_map (λ v. v.now) variant)) old shared
     (record { sets = new; devices = old.devices; known = old.known })
@@ -68,14 +68,14 @@ added_shared pack r place variant shared each old new ready is e =
 
 -- ---- along other levels
 
-pub ready_along : (pack : Pack) (r : Request) (levels other : List LevelAt) (shared : Option (List PnameSet)) (f : DeviceSets) → trimmed levels ≡ trimmed other
+pub ready_along : (pack : Pack) (r : PackRequest) (levels other : List LevelAt) (shared : Option (List PnameSet)) (f : DeviceSets) → trimmed levels ≡ trimmed other
     → IsFineWithShared pack r levels shared f → IsFineWithShared pack r other shared f
 ready_along pack r levels other shared f same ready = record {
   fine = ready.fine;
   along = subst (λ (ls : List LevelAt). AreShared r f.known ls shared) same ready.along;
 }
 
-pub added_along : (pack : Pack) (r : Request) (levels other : List LevelAt) (added : List SetAt) (old : DeviceSets) (shared : Option (List PnameSet)) (new : DeviceSets)
+pub added_along : (pack : Pack) (r : PackRequest) (levels other : List LevelAt) (added : List SetAt) (old : DeviceSets) (shared : Option (List PnameSet)) (new : DeviceSets)
     → trimmed levels ≡ trimmed other → AreAdded pack r levels added old shared new → AreAdded pack r other added old shared new
 added_along pack r levels other added old shared new same are = record {
   sets = are.sets;
@@ -85,7 +85,7 @@ added_along pack r levels other added old shared new same are = record {
 }
 
 -- what others share stays
-pub added_apart : (pack : Pack) (r : Request) (levels other : List LevelAt) (added : List SetAt) (old : DeviceSets) (own shared : Option (List PnameSet)) (new : DeviceSets)
+pub added_apart : (pack : Pack) (r : PackRequest) (levels other : List LevelAt) (added : List SetAt) (old : DeviceSets) (own shared : Option (List PnameSet)) (new : DeviceSets)
     → IsFineWithShared pack r other shared old → AreAdded pack r levels added old own new → AreAdded pack r other added old shared new
 added_apart pack r levels other added old own shared new ready are = record {
   sets = are.sets;
@@ -96,14 +96,14 @@ added_apart pack r levels other added old own shared new ready are = record {
 
 -- ---- one after another
 
-pub added_as : (pack : Pack) (r : Request) (levels : List LevelAt) (added other : List SetAt) (old : DeviceSets) (shared : Option (List PnameSet)) (new : DeviceSets)
+pub added_as : (pack : Pack) (r : PackRequest) (levels : List LevelAt) (added other : List SetAt) (old : DeviceSets) (shared : Option (List PnameSet)) (new : DeviceSets)
     → added ≡ other → AreAdded pack r levels added old shared new → AreAdded pack r levels other old shared new
 added_as pack r levels added other old shared new same are = subst (λ (ss : List SetAt). AreAdded pack r levels ss old shared new) same are
 
-pub added_none : (pack : Pack) (r : Request) (levels : List LevelAt) (old : DeviceSets) (shared : Option (List PnameSet)) → IsFineWithShared pack r levels shared old → AreAdded pack r levels [] old shared old
+pub added_none : (pack : Pack) (r : PackRequest) (levels : List LevelAt) (old : DeviceSets) (shared : Option (List PnameSet)) → IsFineWithShared pack r levels shared old → AreAdded pack r levels [] old shared old
 added_none pack r levels old shared ready = record { sets = sym (append-nil (map set_view old.sets)); devices = refl; grown = grown_itself old.known; ready = ready }
 
-pub added_then : (pack : Pack) (r : Request) (levels : List LevelAt) (first second : List SetAt) (a b c : DeviceSets) (one two : Option (List PnameSet))
+pub added_then : (pack : Pack) (r : PackRequest) (levels : List LevelAt) (first second : List SetAt) (a b c : DeviceSets) (one two : Option (List PnameSet))
     → AreAdded pack r levels first a one b → AreAdded pack r levels second b two c → AreAdded pack r levels (first ++ second) a two c
 added_then pack r levels first second a b c one two p q = record {
   sets = q.sets ∙ ap (λ ss. ss ++ second) p.sets ∙ append_assoc (map set_view a.sets) first second;
@@ -114,7 +114,7 @@ added_then pack r levels first second a b c one two p q = record {
 
 -- ---- variants
 
-sets_with-append : (pack : Pack) (r : Request) (place : DevicePlace) (vs ws : List (Option Variant)) → sets_with pack r place (vs ++ ws) ≡ sets_with pack r place vs ++ sets_with pack r place ws
+sets_with-append : (pack : Pack) (r : PackRequest) (place : DevicePlace) (vs ws : List (Option Variant)) → sets_with pack r place (vs ++ ws) ≡ sets_with pack r place vs ++ sets_with pack r place ws
 sets_with-append pack r place [] ws = refl
 sets_with-append pack r place (v ∷ vs) ws =
     ap (λ ss. sets_at pack r place v ++ ss) (sets_with-append pack r place vs ws) ∙ sym (append_assoc (sets_at pack r place v) (sets_with pack r place vs) (sets_with pack r place ws))
@@ -130,11 +130,11 @@ map_some-append : (vs ws : List Variant) → map (λ v. Some v) (vs ++ ws) ≡ m
 map_some-append [] ws = refl
 map_some-append (v ∷ vs) ws = ap (λ os. Some v ∷ os) (map_some-append vs ws)
 
-one_with : (pack : Pack) (r : Request) (place : DevicePlace) (v : Variant) (b : Bool) → sets_with pack r place (map (λ v. Some v) (cond b (v ∷ []) [])) ≡ cond b (sets_at pack r place (Some v)) []
+one_with : (pack : Pack) (r : PackRequest) (place : DevicePlace) (v : Variant) (b : Bool) → sets_with pack r place (map (λ v. Some v) (cond b (v ∷ []) [])) ≡ cond b (sets_at pack r place (Some v)) []
 one_with pack r place v true = append-nil (sets_at pack r place (Some v))
 one_with pack r place v false = refl
 
-pub variants_more : (pack : Pack) (r : Request) (place : DevicePlace) (is : Variant → Bool) (vs : List Variant) (i : ℕ) (v : Variant) → i < length vs → v ≡ get_or vs i v
+pub variants_more : (pack : Pack) (r : PackRequest) (place : DevicePlace) (is : Variant → Bool) (vs : List Variant) (i : ℕ) (v : Variant) → i < length vs → v ≡ get_or vs i v
     → sets_with pack r place (map (λ v. Some v) (filter is (take i vs))) ++ cond (is v) (sets_at pack r place (Some v)) []
     ≡ sets_with pack r place (map (λ v. Some v) (filter is (take (i + 1) vs)))
 variants_more pack r place is vs i v lt at =
@@ -144,11 +144,11 @@ variants_more pack r place is vs i v lt at =
     ∙ sets_with-append pack r place (map (λ v. Some v) (filter is (take i vs))) (map (λ v. Some v) (filter is (v ∷ [])))
     ∙ ap (λ ss. sets_with pack r place (map (λ v. Some v) (filter is (take i vs))) ++ ss) (one_with pack r place v (is v)))
 
-pub every_variant : (pack : Pack) (r : Request) (place : DevicePlace) → r.variant ≡ None
+pub every_variant : (pack : Pack) (r : PackRequest) (place : DevicePlace) → r.variant ≡ None
     → sets_at pack r place None ++ sets_with pack r place (map (λ v. Some v) (filter (λ v. is_requested r.variant v.name) place.device.variants)) ≡ device_sets pack r place
 every_variant pack r place none = ap (sets_with pack r place) (variants_none r.variant place.device.variants none)
 
-pub one_variant : (pack : Pack) (r : Request) (place : DevicePlace) (name : List ℕ) → r.variant ≡ Some name
+pub one_variant : (pack : Pack) (r : PackRequest) (place : DevicePlace) (name : List ℕ) → r.variant ≡ Some name
     → sets_with pack r place (map (λ v. Some v) (filter (λ v. is_requested r.variant v.name) place.device.variants)) ≡ device_sets pack r place
 one_variant pack r place name some = ap (sets_with pack r place) (variants_some r.variant name place.device.variants some)
 
@@ -164,7 +164,7 @@ count_one p x = let e = sum_by-cons (λ y. cond (p y) 1 0) x [] in e ∙ plus (c
   plus n = omega arith
 
 -- a device was counted where the sets have grown
-pub counted_one : (pack : Pack) (r : Request) (levels : List LevelAt) (place : DevicePlace) (old new : DeviceSets) (shared : Option (List PnameSet)) (n before after : ℕ)
+pub counted_one : (pack : Pack) (r : PackRequest) (levels : List LevelAt) (place : DevicePlace) (old new : DeviceSets) (shared : Option (List PnameSet)) (n before after : ℕ)
     → AreFine pack old → AreAdded pack r levels (device_sets pack r place) old shared new → before ≡ length old.sets → after ≡ length new.sets → n ≡ new.devices + cond (nat_lt before after) 1 0
     → DevicesAreCounted pack r (place ∷ []) old (record { sets = new.sets; devices = n; known = new.known })
 counted_one pack r levels place old new shared n before after fine are p q e =
@@ -188,10 +188,10 @@ counted_one pack r levels place old new shared n before after fine are p q e =
       };
     }
 
-pub counted_none : (pack : Pack) (r : Request) (old : DeviceSets) → AreFine pack old → DevicesAreCounted pack r [] old old
+pub counted_none : (pack : Pack) (r : PackRequest) (old : DeviceSets) → AreFine pack old → DevicesAreCounted pack r [] old old
 counted_none pack r old fine = record { sets = sym (append-nil (map set_view old.sets)); devices = (let e : old.devices + 0 ≡ old.devices = omega arith in sym e); fine = fine }
 
-pub devices_sets-append : (pack : Pack) (r : Request) (ps qs : List DevicePlace) → devices_sets pack r (ps ++ qs) ≡ devices_sets pack r ps ++ devices_sets pack r qs
+pub devices_sets-append : (pack : Pack) (r : PackRequest) (ps qs : List DevicePlace) → devices_sets pack r (ps ++ qs) ≡ devices_sets pack r ps ++ devices_sets pack r qs
 devices_sets-append pack r [] qs = refl
 devices_sets-append pack r (p ∷ ps) qs =
     ap (λ ss. device_sets pack r p ++ ss) (devices_sets-append pack r ps qs) ∙ sym (append_assoc (device_sets pack r p) (devices_sets pack r ps) (devices_sets pack r qs))
@@ -206,7 +206,7 @@ count_append p (x ∷ xs) ys =
     let rest = count_append p xs ys in
     omega (arith, new, old, rest)
 
-pub counted_then : (pack : Pack) (r : Request) (ps qs : List DevicePlace) (a b c : DeviceSets) → DevicesAreCounted pack r ps a b → DevicesAreCounted pack r qs b c → DevicesAreCounted pack r (ps ++ qs) a c
+pub counted_then : (pack : Pack) (r : PackRequest) (ps qs : List DevicePlace) (a b c : DeviceSets) → DevicesAreCounted pack r ps a b → DevicesAreCounted pack r qs b c → DevicesAreCounted pack r (ps ++ qs) a c
 counted_then pack r ps qs a b c p q = record {
   sets =
       q.sets ∙ ap (λ ss. ss ++ devices_sets pack r qs) p.sets ∙ append_assoc (map set_view a.sets) (devices_sets pack r ps) (devices_sets pack r qs)
@@ -215,7 +215,7 @@ counted_then pack r ps qs a b c p q = record {
   fine = q.fine;
 }
 
-pub counted_as : (pack : Pack) (r : Request) (ps qs : List DevicePlace) (a b : DeviceSets) → ps ≡ qs → DevicesAreCounted pack r ps a b → DevicesAreCounted pack r qs a b
+pub counted_as : (pack : Pack) (r : PackRequest) (ps qs : List DevicePlace) (a b : DeviceSets) → ps ≡ qs → DevicesAreCounted pack r ps a b → DevicesAreCounted pack r qs a b
 counted_as pack r ps qs a b same are = subst (λ (xs : List DevicePlace). DevicesAreCounted pack r xs a b) same are
 
 places_append : (family : Family) (sub : Option SubFamily) (ds es : List Device) → places_of family sub (ds ++ es) ≡ places_of family sub ds ++ places_of family sub es

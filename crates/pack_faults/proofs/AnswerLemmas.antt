@@ -13,7 +13,7 @@ use Rattle.seq_check.specs.Valid.{IsValid}
 use Rattle.set_faults.specs.declared.phase.SetFaults.{SetFaults}
 use Rattle.set_faults.specs.Answers.{AreSetFaults}
 use Rattle.set_faults.proofs.PhaseLemmas as faults
-use Rattle.pack_faults.specs.declared.request.Request.{Request}
+use Rattle.pack_faults.specs.declared.request.PackRequest.{PackRequest}
 use Rattle.pack_faults.specs.declared.answer.Found.{Found}
 use Rattle.pack_faults.specs.declared.answer.PackFaults.{PackFaults}
 use Rattle.pack_faults.specs.declared.checking.Checking.{Checking}
@@ -157,7 +157,7 @@ same_answer x y p q r s t =
     let five : record y { unreached = x.unreached } ≡ y = ap (λ v. record y { unreached = v }) t in
     one ∙ two ∙ three ∙ four ∙ five
 
-pub one_answer : (pack : Pack) (request : Request) (x y : PackFaults) → ArePackFaults pack request x → ArePackFaults pack request y → x ≡ y
+pub one_answer : (pack : Pack) (request : PackRequest) (x y : PackFaults) → ArePackFaults pack request x → ArePackFaults pack request y → x ≡ y
 one_answer pack request x y p q =
     let list : p.checked ≡ q.checked = one_list pack (sets_of pack request) p.checked q.checked p.are q.are in
     same_answer x y (p.devices ∙ sym q.devices) (p.sets ∙ sym q.sets)
@@ -206,7 +206,7 @@ all_none pack [] cs are valid = ap lists_of are
 all_none pack (s ∷ sets) cs are valid =
     ap lists_of are.3 ∙ ap (λ fs. fs ++ lists_of are.1) (none_at pack s are.0 are.2 valid.0) ∙ all_none pack sets are.1 are.4 valid.1
 
-pub empty_where_valid : (pack : Pack) (request : Request) (answer : PackFaults) → ArePackFaults pack request answer → (answer.faults ≡ []) ↔ AreValid pack (sets_of pack request)
+pub empty_where_valid : (pack : Pack) (request : PackRequest) (answer : PackFaults) → ArePackFaults pack request answer → (answer.faults ≡ []) ↔ AreValid pack (sets_of pack request)
 empty_where_valid pack request answer p =
     let lists = map (λ c. c.found) p.checked in
     let there : answer.faults ≡ [] → AreValid pack (sets_of pack request) =

@@ -4,7 +4,7 @@ use Rattle.std.proofs.lemmas.List.{length-append, length-map}
 use Rattle.device_tree.specs.declared.pack.Variant.{Variant}
 use Rattle.device_tree.specs.declared.pack.Pack.{Pack}
 use Rattle.sequence_resolve.specs.Places as spec
-use Rattle.pack_faults.specs.declared.request.Request.{Request}
+use Rattle.pack_faults.specs.declared.request.PackRequest.{PackRequest}
 use Rattle.pack_faults.specs.declared.sets.SetRef.{SetRef}
 use Rattle.pack_faults.specs.Sets.{SetAt, is_requested, variants_of, processors_of, sets_at, sets_with, device_sets, is_empty, has_set}
 use Rattle.pack_faults.specs.Views.{set_view, names_view}
@@ -40,7 +40,7 @@ variants_none requested variants is =
     (ap (λ vs. None ∷ map (λ v. Some v) vs) (variants_all variants))
 
 -- a device without a variant, and then with each
-pub each_variant : (pack : Pack) (r : Request) (place : spec.DevicePlace) (old mid new : List SetAt) (variants : List Variant) → r.variant ≡ None → variants ≡ place.device.variants
+pub each_variant : (pack : Pack) (r : PackRequest) (place : spec.DevicePlace) (old mid new : List SetAt) (variants : List Variant) → r.variant ≡ None → variants ≡ place.device.variants
     → mid ≡ old ++ sets_at pack r place None → new ≡ mid ++ sets_with pack r place (map (λ v. Some v) (filter (λ v. is_requested r.variant v.name) variants))
     → new ≡ old ++ device_sets pack r place
 each_variant pack r place old mid new variants none all first rest =
@@ -48,7 +48,7 @@ each_variant pack r place old mid new variants none all first rest =
     rest ∙ ap (λ ss. ss ++ sets_with pack r place vs) first ∙ append_assoc old (sets_at pack r place None) (sets_with pack r place vs)
     ∙ ap (λ xs. old ++ sets_with pack r place xs) (variants_none r.variant variants none) ∙ ap (λ xs. old ++ sets_with pack r place (variants_of r.variant xs)) all
 
-pub one_variant : (pack : Pack) (r : Request) (place : spec.DevicePlace) (name : List ℕ) (old new : List SetAt) (variants : List Variant) → r.variant ≡ Some name → variants ≡ place.device.variants
+pub one_variant : (pack : Pack) (r : PackRequest) (place : spec.DevicePlace) (name : List ℕ) (old new : List SetAt) (variants : List Variant) → r.variant ≡ Some name → variants ≡ place.device.variants
     → new ≡ old ++ sets_with pack r place (map (λ v. Some v) (filter (λ v. is_requested r.variant v.name) variants)) → new ≡ old ++ device_sets pack r place
 one_variant pack r place name old new variants some all e =
     e ∙ ap (λ xs. old ++ sets_with pack r place xs) (variants_some r.variant name variants some) ∙ ap (λ xs. old ++ sets_with pack r place (variants_of r.variant xs)) all
@@ -60,7 +60,7 @@ grown [] m n e = le-ltb m n (omega arith)
 grown (d ∷ ds) m n e = lt-ltb m n (omega arith)
 
 -- a device is counted where the sets have grown
-pub has_grown : (pack : Pack) (r : Request) (place : spec.DevicePlace) (old new : List SetRef) → map set_view new ≡ map set_view old ++ device_sets pack r place
+pub has_grown : (pack : Pack) (r : PackRequest) (place : spec.DevicePlace) (old new : List SetRef) → map set_view new ≡ map set_view old ++ device_sets pack r place
     → nat_lt (length old) (length new) ≡ has_set pack r place
 has_grown pack r place old new e =
     let ds = device_sets pack r place in

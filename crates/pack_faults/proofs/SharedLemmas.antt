@@ -19,7 +19,7 @@ use Rattle.sequence_resolve.specs.Levels.{LevelAt, path_of, deepest}
 use Rattle.sequence_resolve.specs.Effective.{Candidate, candidates_at, candidates, AreWinners}
 use Rattle.sequence_resolve.specs.Resolving.{IsSetAlong}
 use Rattle.sequence_resolve.specs.Views.{place_view}
-use Rattle.pack_faults.specs.declared.request.Request.{Request}
+use Rattle.pack_faults.specs.declared.request.PackRequest.{PackRequest}
 use Rattle.pack_faults.specs.declared.known.KnownSet.{KnownSet}
 use Rattle.pack_faults.specs.declared.shared.PnameSet.{PnameSet}
 use Rattle.pack_faults.specs.declared.sets.SetRef.{SetRef}
@@ -125,7 +125,7 @@ numbered_of_same : (known : List KnownSet) (ls ms : List LevelAt) (pname : Optio
     → IsKnownSetOf known ls pname n → IsKnownSetOf known ms pname n
 numbered_of_same known ls ms pname n p q s = record { one = s.one; there = s.there; is = set_of_same ls ms pname s.one.set p q s.is }
 
-pub to_trimmed : (r : Request) (known : List KnownSet) (ls : List LevelAt) (sets : List PnameSet) → AreSetsOf r known ls sets → AreSetsOf r known (trimmed ls) sets
+pub to_trimmed : (r : PackRequest) (known : List KnownSet) (ls : List LevelAt) (sets : List PnameSet) → AreSetsOf r known ls sets → AreSetsOf r known (trimmed ls) sets
 to_trimmed r known ls sets are = record {
   pnames = are.pnames ∙ ap (processors_of r.pname) (sym (pnames_trimmed [] ls));
   each =
@@ -133,7 +133,7 @@ to_trimmed r known ls sets are = record {
       (λ m is. numbered_of_same known ls (trimmed ls) (pname_view m) m.number (sym (candidates_trimmed (pname_view m) 0 ls)) (sym (deepest_trimmed [] ls)) is) sets are.each;
 }
 
-pub from_trimmed : (r : Request) (known : List KnownSet) (ls : List LevelAt) (sets : List PnameSet) → AreSetsOf r known (trimmed ls) sets → AreSetsOf r known ls sets
+pub from_trimmed : (r : PackRequest) (known : List KnownSet) (ls : List LevelAt) (sets : List PnameSet) → AreSetsOf r known (trimmed ls) sets → AreSetsOf r known ls sets
 from_trimmed r known ls sets are = record {
   pnames = are.pnames ∙ ap (processors_of r.pname) (pnames_trimmed [] ls);
   each =
@@ -170,7 +170,7 @@ each_grown old new ls sets grown all =
     All-weaker (λ (m : PnameSet). IsKnownSetOf old ls (pname_view m) m.number) (λ (m : PnameSet). IsKnownSetOf new ls (pname_view m) m.number)
     (λ m is. numbered_grown old new ls (pname_view m) m.number grown is) sets all
 
-pub shared_grown : (r : Request) (old new : List KnownSet) (ls : List LevelAt) (shared : Option (List PnameSet)) → Grown old new → AreShared r old ls shared → AreShared r new ls shared
+pub shared_grown : (r : PackRequest) (old new : List KnownSet) (ls : List LevelAt) (shared : Option (List PnameSet)) → Grown old new → AreShared r old ls shared → AreShared r new ls shared
 shared_grown r old new ls None grown are = tt
 shared_grown r old new ls (Some sets) grown are = record { pnames = are.pnames; each = each_grown old new ls sets grown are.each }
 
@@ -213,14 +213,14 @@ views_of place variant [] = refl
 views_of place variant (m ∷ each) = ap (λ ss. set_at (place_view place) (option_map (λ v. v.now) variant) (pname_view m) ∷ ss) (views_of place variant each)
 
 -- the sets that were pushed are those of the definition
-pub pushed_sets : (pack : Pack) (r : Request) (known : List KnownSet) (place : code.DevicePlace) (variant : Option (Bor Variant)) (each : List PnameSet) (old new : List SetRef)
+pub pushed_sets : (pack : Pack) (r : PackRequest) (known : List KnownSet) (place : code.DevicePlace) (variant : Option (Bor Variant)) (each : List PnameSet) (old new : List SetRef)
     → AreSetsOf r known (path_of pack (place_view place) (option_map (λ v. v.now) variant)) each → new ≡ old ++ map (set_ref place variant) each
     → map set_view new ≡ map set_view old ++ sets_at pack r (place_view place) (option_map (λ v. v.now) variant)
 pushed_sets pack r known place variant each old new are e =
     ap (map set_view) e ∙ map-append set_view old (map (set_ref place variant) each) ∙ ap (λ ss. map set_view old ++ ss) (views_of place variant each)
     ∙ ap (λ ns. map set_view old ++ map (set_at (place_view place) (option_map (λ v. v.now) variant)) ns) are.pnames
 
-pub pushed_found : (pack : Pack) (r : Request) (known : List KnownSet) (place : code.DevicePlace) (variant : Option (Bor Variant)) (each : List PnameSet) (old new : List SetRef)
+pub pushed_found : (pack : Pack) (r : PackRequest) (known : List KnownSet) (place : code.DevicePlace) (variant : Option (Bor Variant)) (each : List PnameSet) (old new : List SetRef)
     → AreSetsOf r known (path_of pack (place_view place) (option_map (λ v. v.now) variant)) each → new ≡ old ++ map (set_ref place variant) each
     → All (HasNumberOfSet pack known) old → All (HasNumberOfSet pack known) new
 pushed_found pack r known place variant each old new are e all =

@@ -11,7 +11,7 @@ use Rattle.set_faults.specs.declared.phase.Phase.TheVariants as phases
 use Rattle.set_faults.specs.declared.phase.SetFaults.{SetFaults}
 use Rattle.set_faults.specs.Answers.{AreSetFaults}
 use Rattle.set_lines.specs.Lines.{line_of}
-use Rattle.pack_faults.specs.declared.request.Request.{Request}
+use Rattle.pack_faults.specs.declared.request.PackRequest.{PackRequest}
 use Rattle.pack_faults.specs.declared.answer.Found.{Found}
 use Rattle.pack_faults.specs.declared.answer.PackFaults.{PackFaults}
 use Rattle.pack_faults.specs.Sets.{SetAt, sets_of, devices_of, has_set, set_name}
@@ -50,7 +50,7 @@ is_unfinished phases.Depth = false
 is_unfinished other = true
 
 -- the faults of the sets that are requested, each once, with exactly the sets that have it
-pub record ArePackFaults (pack : Pack) (r : Request) (answer : PackFaults) : Type 0 where
+pub record ArePackFaults (pack : Pack) (r : PackRequest) (answer : PackFaults) : Type 0 where
   pub checked : List Checked
   pub are : AreChecked pack (sets_of pack r) checked
   pub devices : answer.devices ≡ count_by (has_set pack r) (devices_of pack r)

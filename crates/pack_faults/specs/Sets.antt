@@ -8,7 +8,7 @@ use Rattle.device_tree.specs.declared.pack.Variant.{Variant}
 use Rattle.device_tree.specs.declared.pack.Pack.{Pack}
 use Rattle.sequence_resolve.specs.Places.{DevicePlace, places_in}
 use Rattle.sequence_resolve.specs.Levels.{LevelAt, path_of}
-use Rattle.pack_faults.specs.declared.request.Request.{Request}
+use Rattle.pack_faults.specs.declared.request.PackRequest.{PackRequest}
 use Rattle.pack_faults.specs.declared.request.SetName.{SetName}
 use Rattle.pack_faults.specs.declared.request.PackRefusal.{PackRefusal}
 use Rattle.pack_faults.specs.declared.request.PackRefusal.TheVariants as refusals
@@ -31,7 +31,7 @@ abbrev pub is_device : Option (List ℕ) → DevicePlace → Bool
 is_device requested place = is_requested requested place.device.name
 
 -- the devices that are requested, in the order of the pack
-abbrev pub devices_of : Pack → Request → List DevicePlace
+abbrev pub devices_of : Pack → PackRequest → List DevicePlace
 devices_of pack r = filter (is_device r.device) (places_in pack.families)
 
 -- a device without a variant, and then each of its variants; where one is requested, that one alone
@@ -69,25 +69,25 @@ abbrev pub set_at : DevicePlace → Option Variant → Option (List ℕ) → Set
 set_at place variant pname = record { place = place; variant = variant; pname = pname }
 
 -- the sets of a device with this variant or none
-abbrev pub sets_at : Pack → Request → DevicePlace → Option Variant → List SetAt
+abbrev pub sets_at : Pack → PackRequest → DevicePlace → Option Variant → List SetAt
 sets_at pack r place variant = map (set_at place variant) (processors_of r.pname (pnames_along [] (path_of pack place variant)))
 
 -- the sets of a device with these
-abbrev pub sets_with : Pack → Request → DevicePlace → List (Option Variant) → List SetAt
+abbrev pub sets_with : Pack → PackRequest → DevicePlace → List (Option Variant) → List SetAt
 sets_with pack r place [] = []
 sets_with pack r place (v ∷ vs) = sets_at pack r place v ++ sets_with pack r place vs
 
 -- the sets of a device
-abbrev pub device_sets : Pack → Request → DevicePlace → List SetAt
+abbrev pub device_sets : Pack → PackRequest → DevicePlace → List SetAt
 device_sets pack r place = sets_with pack r place (variants_of r.variant place.device.variants)
 
 -- the sets of these devices
-abbrev pub devices_sets : Pack → Request → List DevicePlace → List SetAt
+abbrev pub devices_sets : Pack → PackRequest → List DevicePlace → List SetAt
 devices_sets pack r [] = []
 devices_sets pack r (p ∷ ps) = device_sets pack r p ++ devices_sets pack r ps
 
 -- the sets that are requested
-abbrev pub sets_of : Pack → Request → List SetAt
+abbrev pub sets_of : Pack → PackRequest → List SetAt
 sets_of pack r = devices_sets pack r (devices_of pack r)
 
 -- whether a list has no items
@@ -96,7 +96,7 @@ is_empty [] = true
 is_empty (x ∷ xs) = false
 
 -- whether a device has a set that is requested
-abbrev pub has_set : Pack → Request → DevicePlace → Bool
+abbrev pub has_set : Pack → PackRequest → DevicePlace → Bool
 has_set pack r place = not (is_empty (device_sets pack r place))
 
 -- the names of a set
@@ -116,7 +116,7 @@ lacks_variant (Some name) places = not (list_any (has_variant name) places)
 
 -- Why there is no set. A device is requested that the pack has not, or else a variant that no such device has. Or else a processor is requested
 -- that none of the sequences for these devices and variants is for.
-abbrev pub refusal : Pack → Request → Option PackRefusal
+abbrev pub refusal : Pack → PackRequest → Option PackRefusal
 refusal pack r =
     if is_some r.device && is_empty (devices_of pack r) then Some refusals.NoDevice
     else if lacks_variant r.variant (devices_of pack r) then Some refusals.NoVariant

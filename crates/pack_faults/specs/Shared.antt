@@ -14,7 +14,7 @@ use Rattle.sequence_resolve.specs.declared.place.DevicePlace as code
 use Rattle.sequence_resolve.specs.Places.{DevicePlace, places_of}
 use Rattle.sequence_resolve.specs.Levels.{LevelAt, one, levels_if_some, path_of, deepest}
 use Rattle.sequence_resolve.specs.Effective.{Candidate, candidates, AreWinners, entry_of}
-use Rattle.pack_faults.specs.declared.request.Request.{Request}
+use Rattle.pack_faults.specs.declared.request.PackRequest.{PackRequest}
 use Rattle.pack_faults.specs.declared.groups.Group.{Group}
 use Rattle.pack_faults.specs.declared.known.KnownSet.{KnownSet}
 use Rattle.pack_faults.specs.declared.shared.PnameSet.{PnameSet}
@@ -70,12 +70,12 @@ abbrev pub pname_view : PnameSet → Option (List ℕ)
 pname_view m = option_map (λ name. name.now) m.pname
 
 -- the requested processors of these levels, each with the number of its set
-pub record AreSetsOf (r : Request) (known : List KnownSet) (path : List LevelAt) (sets : List PnameSet) : Type 0 where
+pub record AreSetsOf (r : PackRequest) (known : List KnownSet) (path : List LevelAt) (sets : List PnameSet) : Type 0 where
   pub pnames : map pname_view sets ≡ processors_of r.pname (pnames_along [] path)
   pub each : All (λ m. IsKnownSetOf known path (pname_view m) m.number) sets
 
 -- the same, where there are some
-abbrev pub AreShared : Request → List KnownSet → List LevelAt → Option (List PnameSet) → Type 0
+abbrev pub AreShared : PackRequest → List KnownSet → List LevelAt → Option (List PnameSet) → Type 0
 AreShared r known path None = ⊤
 AreShared r known path (Some sets) = AreSetsOf r known path sets
 
@@ -100,12 +100,12 @@ pub record AreFine (pack : Pack) (f : DeviceSets) : Type 0 where
   pub found : All (HasNumberOfSet pack f.known) f.sets
 
 -- the same, with the sets that are shared along these levels
-pub record IsFineWithShared (pack : Pack) (r : Request) (levels : List LevelAt) (shared : Option (List PnameSet)) (f : DeviceSets) : Type 0 where
+pub record IsFineWithShared (pack : Pack) (r : PackRequest) (levels : List LevelAt) (shared : Option (List PnameSet)) (f : DeviceSets) : Type 0 where
   pub fine : AreFine pack f
   pub along : AreShared r f.known (trimmed levels) shared
 
 -- these sets were added, and no device was counted
-pub record AreAdded (pack : Pack) (r : Request) (levels : List LevelAt) (added : List SetAt) (old : DeviceSets)
+pub record AreAdded (pack : Pack) (r : PackRequest) (levels : List LevelAt) (added : List SetAt) (old : DeviceSets)
     (shared : Option (List PnameSet)) (new : DeviceSets) : Type 0 where
   pub sets : map set_view new.sets ≡ map set_view old.sets ++ added
   pub devices : new.devices ≡ old.devices
@@ -113,7 +113,7 @@ pub record AreAdded (pack : Pack) (r : Request) (levels : List LevelAt) (added :
   pub ready : IsFineWithShared pack r levels shared new
 
 -- the sets of these devices were added, and those of them that have one were counted
-pub record DevicesAreCounted (pack : Pack) (r : Request) (places : List DevicePlace) (old new : DeviceSets) : Type 0 where
+pub record DevicesAreCounted (pack : Pack) (r : PackRequest) (places : List DevicePlace) (old new : DeviceSets) : Type 0 where
   pub sets : map set_view new.sets ≡ map set_view old.sets ++ devices_sets pack r places
   pub devices : new.devices ≡ old.devices + count_by (has_set pack r) places
   pub fine : AreFine pack new

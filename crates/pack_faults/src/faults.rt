@@ -11,7 +11,7 @@ use crate::answer::PackFaults;
 use crate::checking::faults_of_sets;
 use crate::merging::list_of;
 use crate::refusals::requested_sets;
-use crate::request::{PackRefusal, Request, SetName};
+use crate::request::{PackRefusal, PackRequest, SetName};
 use crate::sets::SetRef;
 use crate::texts::{copy_of, text_of};
 use dap_base::{ItemList, NameText, OutOfMemory};
@@ -87,7 +87,11 @@ fn count_unfinished(phases: &[Phase]) -> usize
 ///
 /// `NoDevice` comes exactly where a device is requested that the pack has not. Else `NoVariant` comes where none of the devices has the
 /// requested variant, and else `NoPname` where no sequence for them has the requested `Pname`. `OutOfMemory` where memory is refused.
-pub fn pack_faults(alloc: Global, pack: &Pack, request: &Request) -> Result<PackFaults, PackRefusal>
+pub fn pack_faults(
+    alloc: Global,
+    pack: &Pack,
+    request: &PackRequest,
+) -> Result<PackFaults, PackRefusal>
     ensures answer { IfOk result (ArePackFaults pack.now request.now) }
     ensures only { (other : PackFaults) → ArePackFaults pack.now request.now other → IfOk result (λ answer. answer ≡ other) }
     ensures answer_fault { IfErr result (λ e. (e ≡ refusals.OutOfMemory) ⊎ (refusal pack.now request.now ≡ Some e)) }

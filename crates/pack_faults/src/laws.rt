@@ -1,7 +1,7 @@
 //! Laws of the faults of packs, as the contracts of functions that do nothing.
 ghost use Rattle.std.specs.Prelude.{◌≡◌, ◌↔◌, Bool, true, []};
 ghost use Rattle.device_tree.specs.declared.pack.Pack.{Pack};
-ghost use Rattle.pack_faults.specs.declared.request.Request.{Request};
+ghost use Rattle.pack_faults.specs.declared.request.PackRequest.{PackRequest};
 ghost use Rattle.pack_faults.specs.declared.answer.Found.{Found};
 ghost use Rattle.pack_faults.specs.declared.answer.PackFaults.{PackFaults};
 ghost use Rattle.pack_faults.specs.Sets.{sets_of};
@@ -15,10 +15,10 @@ pub fn same_is_equal()
 
 /// A pack has one answer.
 pub fn one_answer()
-    ensures { (pack : Pack) (request : Request) (x y : PackFaults) → ArePackFaults pack request x → ArePackFaults pack request y → x ≡ y }
+    ensures { (pack : Pack) (request : PackRequest) (x y : PackFaults) → ArePackFaults pack request x → ArePackFaults pack request y → x ≡ y }
 {}
 
 /// There is no fault exactly where each of the sets is valid.
 pub fn empty_where_valid()
-    ensures { (pack : Pack) (request : Request) (answer : PackFaults) → ArePackFaults pack request answer → (answer.faults ≡ []) ↔ AreValid pack (sets_of pack request) }
+    ensures { (pack : Pack) (request : PackRequest) (answer : PackFaults) → ArePackFaults pack request answer → (answer.faults ≡ []) ↔ AreValid pack (sets_of pack request) }
 {}

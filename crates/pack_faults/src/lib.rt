@@ -23,6 +23,6 @@ pub use answer::{Found, PackFault, PackFaults};
 pub use faults::pack_faults;
 pub use known::KnownSet;
 pub use refusals::requested_sets;
-pub use request::{PackRefusal, Request, SetName};
+pub use request::{PackRefusal, PackRequest, SetName};
 pub use sets::{DeviceSets, SetRef};
 pub use texts::copy_of;

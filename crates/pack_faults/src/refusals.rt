@@ -9,7 +9,7 @@ ghost use Rattle.pack_faults.specs.Views.{set_view};
 
 use crate::devices::requested_devices;
 use crate::groups::groups_of;
-use crate::request::{PackRefusal, Request};
+use crate::request::{PackRefusal, PackRequest};
 use crate::sets::{DeviceSets, sets_of_groups};
 use device_tree::Pack;
 use sequence_resolve::DevicePlace;
@@ -52,7 +52,7 @@ fn lacks_variant(places: &[DevicePlace], requested: Option<&str>) -> bool
 pub fn requested_sets<'a>(
     alloc: Global,
     pack: &'a Pack,
-    request: &Request,
+    request: &PackRequest,
 ) -> Result<DeviceSets<'a>, PackRefusal>
     ensures sets { IfOk result (λ d. map set_view d.sets ≡ sets_of pack.now request.now) }
     ensures devices { IfOk result (λ d. d.devices ≡ count_by (has_set pack.now request.now) (devices_of pack.now request.now)) }

@@ -3,7 +3,7 @@ use dap_base::{NameText, OutOfMemory};
 
 /// Whose sets are requested of a pack. What is `None` is requested of all.
 #[derive(Debug, Drop)]
-pub struct Request {
+pub struct PackRequest {
     /// The name of a device; of several with that name, each is meant.
     pub device: Option<NameText>,
     /// The name of a variant. Then a device itself, without a variant, is not meant.

@@ -11,7 +11,7 @@ ghost use Rattle.pack_faults.specs.Views.{set_view};
 use crate::devices::is_requested;
 use crate::groups::Group;
 use crate::known::KnownSet;
-use crate::request::Request;
+use crate::request::PackRequest;
 use crate::shared::{PnameSet, is_bare, sets_along};
 use dap_base::{ItemList, NameText, OutOfMemory};
 use device_tree::{Pack, Variant};
@@ -65,7 +65,7 @@ fn push_each<'a>(
 fn push_new<'a>(
     alloc: Global,
     pack: &'a Pack,
-    request: &Request,
+    request: &PackRequest,
     place: DevicePlace<'a>,
     variant: Option<&'a Variant>,
     found: &mut DeviceSets<'a>,
@@ -93,7 +93,7 @@ fn sets_in<'s, 'a>(shared: &'s Shared<'a>) -> Option<&'s [PnameSet<'a>]>
 fn push_sets<'a>(
     alloc: Global,
     pack: &'a Pack,
-    request: &Request,
+    request: &PackRequest,
     place: DevicePlace<'a>,
     variant: Option<&'a Variant>,
     shared: &mut Shared<'a>,
@@ -114,7 +114,7 @@ fn push_sets<'a>(
 fn push_variant<'a>(
     alloc: Global,
     pack: &'a Pack,
-    request: &Request,
+    request: &PackRequest,
     place: DevicePlace<'a>,
     variant: &'a Variant,
     shared: &mut Shared<'a>,
@@ -135,7 +135,7 @@ fn push_variant<'a>(
 fn push_requested<'a>(
     alloc: Global,
     pack: &'a Pack,
-    request: &Request,
+    request: &PackRequest,
     place: DevicePlace<'a>,
     variant: &'a Variant,
     shared: &mut Shared<'a>,
@@ -156,7 +156,7 @@ fn push_requested<'a>(
 fn push_variants<'a>(
     alloc: Global,
     pack: &'a Pack,
-    request: &Request,
+    request: &PackRequest,
     place: DevicePlace<'a>,
     shared: &mut Shared<'a>,
     found: &mut DeviceSets<'a>,
@@ -175,7 +175,7 @@ fn push_variants<'a>(
 fn push_every<'a>(
     alloc: Global,
     pack: &'a Pack,
-    request: &Request,
+    request: &PackRequest,
     place: DevicePlace<'a>,
     shared: &mut Shared<'a>,
     found: &mut DeviceSets<'a>,
@@ -193,7 +193,7 @@ fn push_every<'a>(
 fn push_device<'a>(
     alloc: Global,
     pack: &'a Pack,
-    request: &Request,
+    request: &PackRequest,
     place: DevicePlace<'a>,
     shared: &mut Shared<'a>,
     found: &mut DeviceSets<'a>,
@@ -212,7 +212,7 @@ fn push_device<'a>(
 fn push_own<'a>(
     alloc: Global,
     pack: &'a Pack,
-    request: &Request,
+    request: &PackRequest,
     place: DevicePlace<'a>,
     found: &mut DeviceSets<'a>,
 ) -> Result<(), OutOfMemory>
@@ -228,7 +228,7 @@ fn push_own<'a>(
 fn push_in_group<'a>(
     alloc: Global,
     pack: &'a Pack,
-    request: &Request,
+    request: &PackRequest,
     place: DevicePlace<'a>,
     shared: &mut Shared<'a>,
     found: &mut DeviceSets<'a>,
@@ -255,7 +255,7 @@ fn add_if(count: usize, is_one: bool) -> usize
 fn push_counted<'a>(
     alloc: Global,
     pack: &'a Pack,
-    request: &Request,
+    request: &PackRequest,
     place: DevicePlace<'a>,
     shared: &mut Shared<'a>,
     found: &mut DeviceSets<'a>,
@@ -275,7 +275,7 @@ fn push_counted<'a>(
 fn push_if_requested<'a>(
     alloc: Global,
     pack: &'a Pack,
-    request: &Request,
+    request: &PackRequest,
     place: DevicePlace<'a>,
     shared: &mut Shared<'a>,
     found: &mut DeviceSets<'a>,
@@ -296,7 +296,7 @@ fn push_if_requested<'a>(
 fn push_group<'a>(
     alloc: Global,
     pack: &'a Pack,
-    request: &Request,
+    request: &PackRequest,
     group: &Group<'a>,
     found: &mut DeviceSets<'a>,
 ) -> Result<(), OutOfMemory>
@@ -319,7 +319,7 @@ fn push_group<'a>(
 pub fn sets_of_groups<'a>(
     alloc: Global,
     pack: &'a Pack,
-    request: &Request,
+    request: &PackRequest,
     groups: &[Group<'a>],
 ) -> Result<DeviceSets<'a>, OutOfMemory>
     ensures sets { IfOk result (λ d. map set_view d.sets ≡ devices_sets pack.now request.now

@@ -11,7 +11,7 @@ ghost use Rattle.pack_faults.specs.Views.{options_view};
 
 use crate::known::{KnownSet, check_new, known_equal};
 use crate::pnames::processors_of;
-use crate::request::Request;
+use crate::request::PackRequest;
 use crate::texts::text_of;
 use dap_base::{ItemList, NameText, OutOfMemory};
 use device_tree::{Level, Pack, Variant};
@@ -118,7 +118,7 @@ fn sets_for<'a>(
 pub fn sets_along<'a>(
     alloc: Global,
     pack: &'a Pack,
-    request: &Request,
+    request: &PackRequest,
     place: &DevicePlace<'a>,
     variant: Option<&'a Variant>,
     known: &mut ItemList<KnownSet>,

@@ -13,7 +13,7 @@ use Rattle.set_warnings.specs.declared.warning.Warning.{Warning}
 use Rattle.set_warnings.specs.Answers.{AreSetWarnings}
 use Rattle.set_warnings.proofs.SetLemmas as of_sets
 use Rattle.pack_faults.specs.declared.request.PackRefusal.{PackRefusal}
-use Rattle.pack_faults.specs.declared.request.Request.{Request}
+use Rattle.pack_faults.specs.declared.request.PackRequest.{PackRequest}
 use Rattle.pack_faults.specs.declared.known.KnownSet.{KnownSet}
 use Rattle.pack_faults.specs.declared.sets.SetRef.{SetRef}
 use Rattle.pack_faults.specs.Sets.{SetAt, sets_of}
@@ -23,7 +23,7 @@ use Rattle.pack_faults.proofs.SharedLemmas.{set_along_path}
 use Rattle.pack_warnings.specs.declared.answer.FoundWarning.{FoundWarning}
 use Rattle.pack_warnings.specs.declared.answer.PackWarning.{PackWarning}
 use Rattle.pack_warnings.specs.declared.lined.WarnedSet.{WarnedSet}
-use Rattle.pack_warnings.specs.declared.lined.LinedSet.{LinedSet}
+use Rattle.pack_warnings.specs.declared.lined.LinedWarnings.{LinedWarnings}
 use Rattle.pack_warnings.specs.Merged.{with_each_warning, with_sets_from, merged_warnings}
 use Rattle.pack_warnings.specs.Answers.{warning_found_in, AreFound, AreFoundIn, ArePackWarnings, AreMerged}
 use Rattle.pack_warnings.specs.Lined.{IsWarned, found_of, lined_set_view, IsWarnedAt, IsFoundAt}
@@ -78,8 +78,8 @@ warned_at (x ∷ known) (w ∷ warned) (suc n) k there sets =
     warned_at known warned n k there later
 
 -- its warnings stand there with their lines
-lined_at : (warned : List WarnedSet) (lined : List LinedSet) (n : ℕ) (w : WarnedSet) → slice_get warned n ≡ Some w → map lined_set_view lined ≡ map found_of warned
-    → (l : LinedSet) × (slice_get lined n ≡ Some l) × (lined_set_view l ≡ found_of w)
+lined_at : (warned : List WarnedSet) (lined : List LinedWarnings) (n : ℕ) (w : WarnedSet) → slice_get warned n ≡ Some w → map lined_set_view lined ≡ map found_of warned
+    → (l : LinedWarnings) × (slice_get lined n ≡ Some l) × (lined_set_view l ≡ found_of w)
 lined_at [] lined n w there views = absurd cc
 lined_at (x ∷ warned) [] n w there views = absurd cc
 lined_at (x ∷ warned) (l ∷ lined) zero w there views =
@@ -93,7 +93,7 @@ is_warned : (warned : List WarnedSet) (n : ℕ) (w : WarnedSet) → All IsWarned
 is_warned warned n w all there =
     subst IsWarned (get_or_from_slice_get warned n w w there) (All-get_or IsWarned warned n w (slice_get_within warned n w there) all)
 
-all_found : (pack : Pack) (warned : List WarnedSet) (lined : List LinedSet) (sets : List SetRef) → All IsWarned warned → map lined_set_view lined ≡ map found_of warned
+all_found : (pack : Pack) (warned : List WarnedSet) (lined : List LinedWarnings) (sets : List SetRef) → All IsWarned warned → map lined_set_view lined ≡ map found_of warned
     → All (IsWarnedAt pack warned) sets → All (IsFoundAt pack lined) sets
 all_found pack warned lined sets all views are = All-weaker (IsWarnedAt pack warned) (IsFoundAt pack lined) at sets are where
   at : (s : SetRef) → IsWarnedAt pack warned s → IsFoundAt pack lined s
@@ -118,7 +118,7 @@ all_warned pack known warned sets same are = All-weaker (HasNumberOfSet pack kno
       record { one = found.0; there = found.1; is = subst (IsSetAlong pack (set_view s).place (set_view s).variant (set_view s).pname) (sym found.2) along }
 
 -- as many sets as before
-pub lined_within : (warned : List WarnedSet) (lined slice : List LinedSet) (sets : List SetRef) → map lined_set_view lined ≡ map found_of warned → slice ≡ lined
+pub lined_within : (warned : List WarnedSet) (lined slice : List LinedWarnings) (sets : List SetRef) → map lined_set_view lined ≡ map found_of warned → slice ≡ lined
     → All (λ (s : SetRef). s.number < length warned) sets → All (λ (s : SetRef). s.number < length slice) sets
 lined_within warned lined slice sets views is within =
     let size : length warned ≡ length slice =
@@ -133,14 +133,14 @@ warned_within known warned slice sets same is within =
     subst (λ n. All (λ (s : SetRef). s.number < n) sets) size within
 
 -- the list of the warnings of warned sets, and of known ones
-pub list_of_warned : (warned : List WarnedSet) (lined slice : List LinedSet) (sets : List SetRef) (items : List PackWarning) (made : Result (List PackWarning) OutOfMemory)
+pub list_of_warned : (warned : List WarnedSet) (lined slice : List LinedWarnings) (sets : List SetRef) (items : List PackWarning) (made : Result (List PackWarning) OutOfMemory)
     → All IsWarned warned → map lined_set_view lined ≡ map found_of warned → slice ≡ lined → IfOk made (λ list. list ≡ items)
     → ((pack : Pack) → All (IsFoundAt pack slice) sets → AreMerged pack (map set_view sets) items)
     → IfOk made (λ list. (pack : Pack) → All (IsWarnedAt pack warned) sets → AreMerged pack (map set_view sets) list)
 list_of_warned warned lined slice sets items (Err e) all views is same merged = tt
 list_of_warned warned lined slice sets items (Ok list) all views is same merged = λ pack are.
     subst (λ (ws : List PackWarning). AreMerged pack (map set_view sets) ws) (sym same)
-    (merged pack (subst (λ (ls : List LinedSet). All (IsFoundAt pack ls) sets) (sym is) (all_found pack warned lined sets all views are)))
+    (merged pack (subst (λ (ls : List LinedWarnings). All (IsFoundAt pack ls) sets) (sym is) (all_found pack warned lined sets all views are)))
 
 pub list_of_known : (known : List KnownSet) (warned slice : List WarnedSet) (sets : List SetRef) (made : Result (List PackWarning) OutOfMemory)
     → map (λ s. s.set.now) warned ≡ map (λ k. k.set) known → slice ≡ warned
@@ -164,9 +164,9 @@ one_lists pack [] xs ys p q = p ∙ sym q
 one_lists pack (s ∷ sets) xs ys p q =
     p.3 ∙ ap (λ c. c ∷ p.1) (one_found pack s p.0 q.0 p.2 q.2) ∙ ap (λ cs. q.0 ∷ cs) (one_lists pack sets p.1 q.1 p.4 q.4) ∙ sym q.3
 
-pub one_answer : (pack : Pack) (r : Request) (x y : List PackWarning) → ArePackWarnings pack r x → ArePackWarnings pack r y → x ≡ y
+pub one_answer : (pack : Pack) (r : PackRequest) (x y : List PackWarning) → ArePackWarnings pack r x → ArePackWarnings pack r y → x ≡ y
 one_answer pack r x y p q = p.is ∙ ap (λ (ls : List (List FoundWarning)). merged_warnings ls) (one_lists pack (sets_of pack r) p.lists q.lists p.are q.are) ∙ sym q.is
 
-pub only_answer : (pack : Pack) (r : Request) (made : Result (List PackWarning) PackRefusal) → IfOk made (ArePackWarnings pack r) → (other : List PackWarning) → ArePackWarnings pack r other → IfOk made (λ x. x ≡ other)
+pub only_answer : (pack : Pack) (r : PackRequest) (made : Result (List PackWarning) PackRefusal) → IfOk made (ArePackWarnings pack r) → (other : List PackWarning) → ArePackWarnings pack r other → IfOk made (λ x. x ≡ other)
 only_answer pack r (Ok x) are other is = one_answer pack r x other are is
 only_answer pack r (Err e) are other is = tt

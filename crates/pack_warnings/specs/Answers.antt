@@ -5,7 +5,7 @@ use Rattle.sequence_resolve.specs.declared.entry.SeqSet.{SeqSet}
 use Rattle.sequence_resolve.specs.Resolving.{IsSetAlong}
 use Rattle.set_warnings.specs.declared.warning.Warning.{Warning}
 use Rattle.set_warnings.specs.Answers.{AreSetWarnings}
-use Rattle.pack_faults.specs.declared.request.Request.{Request}
+use Rattle.pack_faults.specs.declared.request.PackRequest.{PackRequest}
 use Rattle.pack_faults.specs.Sets.{SetAt, sets_of}
 use Rattle.set_lines.specs.Lines.{line_of}
 use Rattle.pack_warnings.specs.declared.answer.FoundWarning.{FoundWarning}
@@ -31,7 +31,7 @@ AreFoundIn pack (s ∷ ss) lists =
     (found : List FoundWarning) × (more : List (List FoundWarning)) × AreFound pack s found × (lists ≡ found ∷ more) × AreFoundIn pack ss more
 
 -- the warnings of the sets that are requested, each once, with exactly the sets that have it
-pub record ArePackWarnings (pack : Pack) (r : Request) (warnings : List PackWarning) : Type 0 where
+pub record ArePackWarnings (pack : Pack) (r : PackRequest) (warnings : List PackWarning) : Type 0 where
   pub lists : List (List FoundWarning)
   pub are : AreFoundIn pack (sets_of pack r) lists
   pub is : warnings ≡ merged_warnings lists

@@ -10,7 +10,7 @@ use Rattle.pack_faults.specs.Views.{set_view}
 use Rattle.pack_warnings.specs.declared.answer.FoundWarning.{FoundWarning}
 use Rattle.pack_warnings.specs.declared.lined.WarnedSet.{WarnedSet}
 use Rattle.pack_warnings.specs.declared.lined.LinedWarning.{LinedWarning}
-use Rattle.pack_warnings.specs.declared.lined.LinedSet.{LinedSet}
+use Rattle.pack_warnings.specs.declared.lined.LinedWarnings.{LinedWarnings}
 use Rattle.pack_warnings.specs.Answers.{warning_found_in, AreFound}
 
 -- the warnings are all warnings of the set, whose names are distinct
@@ -27,7 +27,7 @@ abbrev pub lined_warning_view : LinedWarning → FoundWarning
 lined_warning_view l = record { warning = l.warning.now; line = option_map (λ w. w.now) l.line }
 
 -- warnings and their lines
-abbrev pub lined_set_view : LinedSet → List FoundWarning
+abbrev pub lined_set_view : LinedWarnings → List FoundWarning
 lined_set_view l = map lined_warning_view l.warnings
 
 -- a set stands at its number, with its warnings
@@ -37,7 +37,7 @@ pub record IsWarnedAt (pack : Pack) (warned : List WarnedSet) (s : SetRef) : Typ
   pub is : IsSetAlong pack (set_view s).place (set_view s).variant (set_view s).pname one.set.now
 
 -- the warnings of a set stand at its number
-pub record IsFoundAt (pack : Pack) (found : List LinedSet) (s : SetRef) : Type 0 where
-  pub one : LinedSet
+pub record IsFoundAt (pack : Pack) (found : List LinedWarnings) (s : SetRef) : Type 0 where
+  pub one : LinedWarnings
   pub there : slice_get found s.number ≡ Some one
   pub is : AreFound pack (set_view s) (lined_set_view one)

@@ -29,7 +29,7 @@ pub struct LinedWarning<'w> {
 
 /// The warnings of a set.
 #[derive(Drop)]
-pub struct LinedSet<'w> {
+pub struct LinedWarnings<'w> {
     pub warnings: ItemList<LinedWarning<'w>>,
 }
 
@@ -79,19 +79,19 @@ fn lined_warnings<'w>(
     Ok(lined)
 }
 
-fn lined_set<'w>(alloc: Global, warned: &'w WarnedSet) -> Result<LinedSet<'w>, OutOfMemory>
+fn lined_set<'w>(alloc: Global, warned: &'w WarnedSet) -> Result<LinedWarnings<'w>, OutOfMemory>
     requires { IsWarned warned.now }
     ensures { IfOk result (λ lined. lined_set_view lined ≡ found_of warned.now) }
 {
     let warnings = lined_warnings(alloc, warned.set, warned.warnings.as_slice())?;
-    Ok(LinedSet { warnings })
+    Ok(LinedWarnings { warnings })
 }
 
 /// The warnings of each of these sets, with their lines.
 pub fn lined_sets<'w>(
     alloc: Global,
     warned: &'w [WarnedSet],
-) -> Result<ItemList<LinedSet<'w>>, OutOfMemory>
+) -> Result<ItemList<LinedWarnings<'w>>, OutOfMemory>
     requires { All IsWarned warned.now }
     ensures { IfOk result (λ sets. map lined_set_view sets ≡ map found_of warned.now) }
 {

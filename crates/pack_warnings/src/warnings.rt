@@ -11,17 +11,17 @@ ghost use Rattle.pack_warnings.specs.Answers.{ArePackWarnings, AreMerged};
 ghost use Rattle.pack_warnings.specs.Lined.{IsWarned, IsWarnedAt, IsFoundAt};
 
 use crate::answer::PackWarning;
-use crate::lined::{LinedSet, WarnedSet, lined_sets, warned_sets};
+use crate::lined::{LinedWarnings, WarnedSet, lined_sets, warned_sets};
 use crate::merging::{Warnings, add_warnings, list_of};
 use dap_base::{ItemList, OutOfMemory};
 use device_tree::Pack;
-use pack_faults::{KnownSet, PackRefusal, Request, SetRef, requested_sets};
+use pack_faults::{KnownSet, PackRefusal, PackRequest, SetRef, requested_sets};
 use std::alloc::Global;
 
 // The warnings of these sets. Those that were found in each stand at its number.
 fn warnings_in<'w>(
     alloc: Global,
-    found: &[LinedSet<'w>],
+    found: &[LinedWarnings<'w>],
     sets: &[SetRef],
 ) -> Result<Warnings<'w>, OutOfMemory>
     requires { All (λ s. s.number < length found.now) sets.now }
@@ -67,7 +67,7 @@ fn warnings_of_sets(
 fn list_in(
     alloc: Global,
     pack: &Pack,
-    request: &Request,
+    request: &PackRequest,
 ) -> Result<ItemList<PackWarning>, PackRefusal>
     ensures answer { IfOk result (ArePackWarnings pack.now request.now) }
     ensures answer_fault { IfErr result (λ e. (e ≡ refusals.OutOfMemory) ⊎ (refusal pack.now request.now ≡ Some e)) }
@@ -84,7 +84,7 @@ fn list_in(
 pub fn pack_warnings(
     alloc: Global,
     pack: &Pack,
-    request: &Request,
+    request: &PackRequest,
 ) -> Result<ItemList<PackWarning>, PackRefusal>
     // The list is that of the warnings of the sets.
     ensures answer { IfOk result (ArePackWarnings pack.now request.now) }

@@ -19,7 +19,7 @@ ghost use Rattle.packed_access.specs.Frame.{AsksWhole, CanIssue, SenderSteps};
 ghost use Rattle.packed_access.specs.Views.{SenderHasAsked, SenderHasBegun};
 
 use crate::access::PackedAccess;
-use crate::seen::Seen;
+use crate::seen::Viewed;
 use crate::sender::{Sender, count_points};
 use access_calls::{Access, Stop};
 use bench_flights::Flights;
@@ -95,14 +95,14 @@ impl<F: Flights> Sender<F> {
         unit: &Unit,
         forgive: bool,
     ) -> Result<bool, Stop>
-        requires ready { CanIssue most_entries (⟦<Self as Seen>⟧.view self.old) }
+        requires ready { CanIssue most_entries (⟦<Self as Viewed>⟧.view self.old) }
         requires sound { IsSound unit.now }
-        ensures gives { AsksFor result (⟦<Self as Seen>⟧.view self.old) (⟦<Self as Seen>⟧.view self.new)
+        ensures gives { AsksFor result (⟦<Self as Viewed>⟧.view self.old) (⟦<Self as Viewed>⟧.view self.new)
             (λ m0 ask. (IsSetTo config.idle config.retry m0) × (ask ≡ unit_ask unit.now forgive)) SenderHasBegun }
         ensures small { (m0 : BenchState) (calls : List Ask) (ask : Ask) → IsSetTo config.idle config.retry m0 → ask ≡ unit_ask unit.now forgive
-            → SenderHasAsked (⟦<Self as Seen>⟧.view self.old) calls ask m0 → IfOk result (λ small. small ≡ small_now (start_world (target_of m0.probe) None) calls ask) }
-        ensures step { SenderSteps result (⟦<Self as Seen>⟧.view self.old) (⟦<Self as Seen>⟧.view self.new) }
-        ensures asks { AsksWhole result (⟦<Self as Seen>⟧.view self.old) (⟦<Self as Seen>⟧.view self.new) }
+            → SenderHasAsked (⟦<Self as Viewed>⟧.view self.old) calls ask m0 → IfOk result (λ small. small ≡ small_now (start_world (target_of m0.probe) None) calls ask) }
+        ensures step { SenderSteps result (⟦<Self as Viewed>⟧.view self.old) (⟦<Self as Viewed>⟧.view self.new) }
+        ensures asks { AsksWhole result (⟦<Self as Viewed>⟧.view self.old) (⟦<Self as Viewed>⟧.view self.new) }
     {
         match *unit {
             Unit::Poll { mask, value, turns } => {

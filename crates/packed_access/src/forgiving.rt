@@ -27,7 +27,7 @@ ghost use Rattle.packed_access.specs.Views.{IsTried, SenderHasAsked, SenderHasBe
 
 use crate::log::CallLog;
 use crate::planned::port_of;
-use crate::seen::Seen;
+use crate::seen::Viewed;
 use crate::sender::{Sender, count_points};
 use access_calls::Stop;
 use bench_flights::Flights;
@@ -93,21 +93,21 @@ impl<F: Flights> Sender<F> {
         value: u32,
         forgive: bool,
     ) -> Result<Option<u32>, Stop>
-        requires ready { CanTry 8 (⟦<Self as Seen>⟧.view self.old) }
+        requires ready { CanTry 8 (⟦<Self as Viewed>⟧.view self.old) }
         requires calm { self.old.managed.unsettled ≡ None }
         requires sound { IsSoundMemory size read address value }
         ensures on { (m0 : BenchState) (k : Kept) (t : TargetState) (made : List RegAccess) (rest : List Action)
-            → IsTried (⟦<Self as Seen>⟧.view self.old) forgive (unit.Memory size read ap address value) k t made rest m0
+            → IsTried (⟦<Self as Viewed>⟧.view self.old) forgive (unit.Memory size read ap address value) k t made rest m0
             → list_any (is_end (unit.Memory size read ap address value)) (making made) ≡ false
             → rest ≡ memory_actions (after t (making made)) large size read ap address value
             → IfOk result (λ w. CameTo F.planner forgive w (F.state self.new.flights) self.new.log (unit.Memory size read ap address value) k t m0) }
         ensures broke { (m0 : BenchState) (k : Kept) (t : TargetState) (made : List RegAccess) (rest : List Action)
-            → IsTried (⟦<Self as Seen>⟧.view self.old) forgive (unit.Memory size read ap address value) k t made rest m0
+            → IsTried (⟦<Self as Viewed>⟧.view self.old) forgive (unit.Memory size read ap address value) k t made rest m0
             → list_any (is_end (unit.Memory size read ap address value)) (making made) ≡ false
             → rest ≡ memory_actions (after t (making made)) large size read ap address value
-            → IfErr result (SenderIsBroken (⟦<Self as Seen>⟧.view self.new) self.old.log.calls m0) }
+            → IfErr result (SenderIsBroken (⟦<Self as Viewed>⟧.view self.new) self.old.log.calls m0) }
         ensures packets { F.planner ≡ Managed → OnOk result (StepsTo (λ m o. CanFly m → SendsFew 3 m o) (F.state self.old.flights) (F.state self.new.flights)) }
-        ensures tries { Tries result 8 (⟦<Self as Seen>⟧.view self.old) (⟦<Self as Seen>⟧.view self.new) }
+        ensures tries { Tries result 8 (⟦<Self as Viewed>⟧.view self.old) (⟦<Self as Viewed>⟧.view self.new) }
         ensures managed { self.new.managed ≡ selected self.old.managed (select_value ap 0) }
     {
         let csw = match self.try_port(ap, 0, access_ap(true, CSW, 0), false, forgive) {
@@ -149,20 +149,20 @@ impl<F: Flights> Sender<F> {
         value: u32,
         forgive: bool,
     ) -> Result<Attempt, Stop>
-        requires ready { CanTry 11 (⟦<Self as Seen>⟧.view self.old) }
+        requires ready { CanTry 11 (⟦<Self as Viewed>⟧.view self.old) }
         requires calm { self.old.managed.unsettled ≡ None }
         requires sound { IsSoundMemory size read address value }
         requires wide { needs_cfg self.old.managed (unit.Memory size read ap address value) ≡ true }
         ensures on { (m0 : BenchState) (t : TargetState) (rest : List Action) → length self.old.managed.ports ≡ 256
-            → IsTried (⟦<Self as Seen>⟧.view self.old) forgive (unit.Memory size read ap address value) self.old.managed t [] rest m0
+            → IsTried (⟦<Self as Viewed>⟧.view self.old) forgive (unit.Memory size read ap address value) self.old.managed t [] rest m0
             → IfOk result (λ r. IsDoneBy F.planner forgive r.small r.word r.reads self.new.managed (F.state self.new.flights) self.new.log
             (unit.Memory size read ap address value) self.old.managed t m0) }
         ensures broke { (m0 : BenchState) (t : TargetState) (rest : List Action) → length self.old.managed.ports ≡ 256
-            → IsTried (⟦<Self as Seen>⟧.view self.old) forgive (unit.Memory size read ap address value) self.old.managed t [] rest m0
-            → IfErr result (SenderIsBroken (⟦<Self as Seen>⟧.view self.new) self.old.log.calls m0) }
+            → IsTried (⟦<Self as Viewed>⟧.view self.old) forgive (unit.Memory size read ap address value) self.old.managed t [] rest m0
+            → IfErr result (SenderIsBroken (⟦<Self as Viewed>⟧.view self.new) self.old.log.calls m0) }
         ensures reads { IfOk result (λ r. r.reads ≤ 2) }
         ensures packets { F.planner ≡ Managed → OnOk result (StepsTo (λ m o. CanFly m → SendsFew 4 m o) (F.state self.old.flights) (F.state self.new.flights)) }
-        ensures tries { Tries result 11 (⟦<Self as Seen>⟧.view self.old) (⟦<Self as Seen>⟧.view self.new) }
+        ensures tries { Tries result 11 (⟦<Self as Viewed>⟧.view self.old) (⟦<Self as Viewed>⟧.view self.new) }
         ensures calm { self.new.managed.unsettled ≡ None }
     {
         let cfg = match self.try_port(ap, CFG / 16, access_ap(true, CFG % 16, 0), false, forgive) {
@@ -185,18 +185,18 @@ impl<F: Flights> Sender<F> {
 
     // Makes the accesses of a unit.
     fn try_unit(&mut self, unit: &Unit, forgive: bool) -> Result<Attempt, Stop>
-        requires ready { CanTry 11 (⟦<Self as Seen>⟧.view self.old) }
+        requires ready { CanTry 11 (⟦<Self as Viewed>⟧.view self.old) }
         requires unit { CanTryUnit self.old.managed unit.now }
         ensures on { (m0 : BenchState) (t : TargetState) (rest : List Action) → may_forgive (Access unit.now) ≡ true → length self.old.managed.ports ≡ 256
-            → IsTried (⟦<Self as Seen>⟧.view self.old) forgive unit.now self.old.managed t [] rest m0
+            → IsTried (⟦<Self as Viewed>⟧.view self.old) forgive unit.now self.old.managed t [] rest m0
             → IfOk result (λ r. IsDoneBy F.planner forgive r.small r.word r.reads self.new.managed (F.state self.new.flights) self.new.log
             unit.now self.old.managed t m0) }
         ensures broke { (m0 : BenchState) (t : TargetState) (rest : List Action) → length self.old.managed.ports ≡ 256
-            → IsTried (⟦<Self as Seen>⟧.view self.old) forgive unit.now self.old.managed t [] rest m0
-            → IfErr result (SenderIsBroken (⟦<Self as Seen>⟧.view self.new) self.old.log.calls m0) }
+            → IsTried (⟦<Self as Viewed>⟧.view self.old) forgive unit.now self.old.managed t [] rest m0
+            → IfErr result (SenderIsBroken (⟦<Self as Viewed>⟧.view self.new) self.old.log.calls m0) }
         ensures reads { IfOk result (λ r. r.reads ≤ 2) }
         ensures packets { F.planner ≡ Managed → OnOk result (StepsTo (λ m o. CanFly m → SendsFew 4 m o) (F.state self.old.flights) (F.state self.new.flights)) }
-        ensures tries { Tries result 11 (⟦<Self as Seen>⟧.view self.old) (⟦<Self as Seen>⟧.view self.new) }
+        ensures tries { Tries result 11 (⟦<Self as Viewed>⟧.view self.old) (⟦<Self as Viewed>⟧.view self.new) }
         ensures calm { self.new.managed.unsettled ≡ None }
     {
         match *unit {
@@ -234,13 +234,13 @@ impl<F: Flights> Sender<F> {
 
     // Asks a unit that is made alone, and forgives a fault or not. Answers whether its access port has no large addresses.
     pub(crate) fn ask_alone(&mut self, unit: &Unit, forgive: bool) -> Result<bool, Stop>
-        requires ready { CanIssue most_entries (⟦<Self as Seen>⟧.view self.old) }
+        requires ready { CanIssue most_entries (⟦<Self as Viewed>⟧.view self.old) }
         requires alone { IsMadeAlone F.planner forgive unit.now }
-        ensures gives { AsksFor result (⟦<Self as Seen>⟧.view self.old) (⟦<Self as Seen>⟧.view self.new) (λ m0 ask. ask ≡ unit_ask unit.now forgive) SenderHasBegun }
-        ensures small { (m0 : BenchState) (calls : List Ask) (ask : Ask) → ask ≡ unit_ask unit.now forgive → SenderHasAsked (⟦<Self as Seen>⟧.view self.old) calls ask m0
+        ensures gives { AsksFor result (⟦<Self as Viewed>⟧.view self.old) (⟦<Self as Viewed>⟧.view self.new) (λ m0 ask. ask ≡ unit_ask unit.now forgive) SenderHasBegun }
+        ensures small { (m0 : BenchState) (calls : List Ask) (ask : Ask) → ask ≡ unit_ask unit.now forgive → SenderHasAsked (⟦<Self as Viewed>⟧.view self.old) calls ask m0
             → IfOk result (λ small. small ≡ small_now (start_world (target_of m0.probe) None) calls ask) }
-        ensures step { SenderSteps result (⟦<Self as Seen>⟧.view self.old) (⟦<Self as Seen>⟧.view self.new) }
-        ensures asks { AsksWhole result (⟦<Self as Seen>⟧.view self.old) (⟦<Self as Seen>⟧.view self.new) }
+        ensures step { SenderSteps result (⟦<Self as Viewed>⟧.view self.old) (⟦<Self as Viewed>⟧.view self.new) }
+        ensures asks { AsksWhole result (⟦<Self as Viewed>⟧.view self.old) (⟦<Self as Viewed>⟧.view self.new) }
     {
         let count = self.log.count();
         // there is something to settle only after an earlier call

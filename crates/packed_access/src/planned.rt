@@ -20,7 +20,7 @@ ghost use Rattle.packed_access.specs.Frame.{AsksWhole, CanIssue, Further, IsSoun
 ghost use Rattle.packed_access.specs.Views.{IsPaid, IsToIssue, SenderHasBegun};
 
 use crate::issuing::list_accesses;
-use crate::seen::Seen;
+use crate::seen::Viewed;
 use crate::sender::{Sender, count_points};
 use access_calls::Stop;
 use bench_flights::Flights;
@@ -43,18 +43,18 @@ impl<F: Flights> Sender<F> {
     #[tactic(auto, using(crate::proofs::FrameLemmas::keeps_on, crate::proofs::PlanLemmas::cfg_planned))]
     pub(crate) fn read_cfg(&mut self, unit: &Unit) -> Result<bool, Stop>
         requires unknown { needs_cfg self.old.managed unit.now ≡ true }
-        requires ready { CanIssue 2 (⟦<Self as Seen>⟧.view self.old) }
-        ensures gives { Reads result (⟦<Self as Seen>⟧.view self.old) (⟦<Self as Seen>⟧.view self.new)
+        requires ready { CanIssue 2 (⟦<Self as Viewed>⟧.view self.old) }
+        ensures gives { Reads result (⟦<Self as Viewed>⟧.view self.old) (⟦<Self as Viewed>⟧.view self.new)
             (λ rest. strict_entries (length self.old.log.calls) Leads (cfg_plan self.old.managed (port_of unit.now)) ++ rest)
             (λ m0. learned_cfg self.old.managed (port_of unit.now)
             (gives (target_issued F.planner self.old.log m0) (cfg_plan self.old.managed (port_of unit.now)))) }
         ensures spare { (m0 : BenchState) (rest : List Entry) (left : ℕ)
-            → IsToIssue (⟦<Self as Seen>⟧.view self.old) (strict_entries (length self.old.log.calls) Leads (cfg_plan self.old.managed (port_of unit.now)) ++ rest) m0
-            → IsPaid (⟦<Self as Seen>⟧.view self.old) left m0 → OnOk result (IsPaid (⟦<Self as Seen>⟧.view self.new) left m0) }
+            → IsToIssue (⟦<Self as Viewed>⟧.view self.old) (strict_entries (length self.old.log.calls) Leads (cfg_plan self.old.managed (port_of unit.now)) ++ rest) m0
+            → IsPaid (⟦<Self as Viewed>⟧.view self.old) left m0 → OnOk result (IsPaid (⟦<Self as Viewed>⟧.view self.new) left m0) }
         ensures large { (m0 : BenchState) (rest : List Entry)
-            → IsToIssue (⟦<Self as Seen>⟧.view self.old) (strict_entries (length self.old.log.calls) Leads (cfg_plan self.old.managed (port_of unit.now)) ++ rest) m0
+            → IsToIssue (⟦<Self as Viewed>⟧.view self.old) (strict_entries (length self.old.log.calls) Leads (cfg_plan self.old.managed (port_of unit.now)) ++ rest) m0
             → IfOk result (λ large. large ≡ has_bit (gives (target_issued F.planner self.old.log m0) (cfg_plan self.old.managed (port_of unit.now))) cfg_la) }
-        ensures issues { IssuesFew result 2 (⟦<Self as Seen>⟧.view self.old) (⟦<Self as Seen>⟧.view self.new) }
+        ensures issues { IssuesFew result 2 (⟦<Self as Viewed>⟧.view self.old) (⟦<Self as Viewed>⟧.view self.new) }
         ensures empty { OnOk result (F.accesses self.new.flights ≡ []) }
         ensures places { OnOk result (self.new.log.places ≡ self.old.log.places) }
         ensures asks { OnOk result (asks_of self.new.log
@@ -72,15 +72,15 @@ impl<F: Flights> Sender<F> {
     #[tactic(auto, using(crate::proofs::FrameLemmas::keeps_on, crate::proofs::PlanLemmas::first_planned))]
     fn read_csw(&mut self, unit: &Unit) -> Result<(), Stop>
         requires unknown { needs_csw self.old.managed unit.now ≡ true }
-        requires ready { CanIssue 2 (⟦<Self as Seen>⟧.view self.old) }
-        ensures gives { Reads result (⟦<Self as Seen>⟧.view self.old) (⟦<Self as Seen>⟧.view self.new)
+        requires ready { CanIssue 2 (⟦<Self as Viewed>⟧.view self.old) }
+        ensures gives { Reads result (⟦<Self as Viewed>⟧.view self.old) (⟦<Self as Viewed>⟧.view self.new)
             (λ rest. strict_entries (length self.old.log.calls) Leads (first_plan self.old.managed (port_of unit.now)) ++ rest)
             (λ m0. learned self.old.managed (port_of unit.now)
             (gives (target_issued F.planner self.old.log m0) (first_plan self.old.managed (port_of unit.now)))) }
         ensures spare { (m0 : BenchState) (rest : List Entry) (left : ℕ)
-            → IsToIssue (⟦<Self as Seen>⟧.view self.old) (strict_entries (length self.old.log.calls) Leads (first_plan self.old.managed (port_of unit.now)) ++ rest) m0
-            → IsPaid (⟦<Self as Seen>⟧.view self.old) left m0 → OnOk result (IsPaid (⟦<Self as Seen>⟧.view self.new) left m0) }
-        ensures issues { IssuesFew result 2 (⟦<Self as Seen>⟧.view self.old) (⟦<Self as Seen>⟧.view self.new) }
+            → IsToIssue (⟦<Self as Viewed>⟧.view self.old) (strict_entries (length self.old.log.calls) Leads (first_plan self.old.managed (port_of unit.now)) ++ rest) m0
+            → IsPaid (⟦<Self as Viewed>⟧.view self.old) left m0 → OnOk result (IsPaid (⟦<Self as Viewed>⟧.view self.new) left m0) }
+        ensures issues { IssuesFew result 2 (⟦<Self as Viewed>⟧.view self.old) (⟦<Self as Viewed>⟧.view self.new) }
         ensures empty { OnOk result (F.accesses self.new.flights ≡ []) }
         ensures places { OnOk result (self.new.log.places ≡ self.old.log.places) }
         ensures asks { OnOk result (asks_of self.new.log
@@ -98,12 +98,12 @@ impl<F: Flights> Sender<F> {
     // Issues the plan of the last call's unit, which is no poll.
     #[tactic(auto, using(crate::proofs::FrameLemmas::keeps_on, crate::proofs::PlanLemmas::planned))]
     fn issue_unit(&mut self, unit: &Unit) -> Result<(), Stop>
-        requires ready { CanIssue 5 (⟦<Self as Seen>⟧.view self.old) }
+        requires ready { CanIssue 5 (⟦<Self as Viewed>⟧.view self.old) }
         requires sound { IsSound unit.now }
-        ensures gives { Issues result (⟦<Self as Seen>⟧.view self.old) (⟦<Self as Seen>⟧.view self.new)
+        ensures gives { Issues result (⟦<Self as Viewed>⟧.view self.old) (⟦<Self as Viewed>⟧.view self.new)
             (λ rest. strict_entries (length self.old.log.calls) Leads (leads self.old.managed unit.now)
             ++ (strict_entries (length self.old.log.calls) Ends (last_access unit.now ∷ []) ++ rest)) }
-        ensures further { Further result (made self.old.managed unit.now) (⟦<Self as Seen>⟧.view self.old) (⟦<Self as Seen>⟧.view self.new) }
+        ensures further { Further result (made self.old.managed unit.now) (⟦<Self as Viewed>⟧.view self.old) (⟦<Self as Viewed>⟧.view self.new) }
         ensures entries { OnOk result (length self.new.log.entries ≤ length self.old.log.entries + 5) }
         ensures pending { OnOk result (self.new.log.confirmed < length self.new.log.entries) }
     {
@@ -119,14 +119,14 @@ impl<F: Flights> Sender<F> {
     // Issues the last call's unit, which is no poll, with a read of CSW before it where that is not known.
     #[tactic(auto, using(crate::proofs::FrameLemmas::keeps_on))]
     pub(crate) fn issue_by_csw(&mut self, unit: &Unit) -> Result<(), Stop>
-        requires ready { CanIssue 7 (⟦<Self as Seen>⟧.view self.old) }
+        requires ready { CanIssue 7 (⟦<Self as Viewed>⟧.view self.old) }
         requires sound { IsSoundAccess unit.now }
-        ensures gives { Plans result (⟦<Self as Seen>⟧.view self.old) (⟦<Self as Seen>⟧.view self.new)
+        ensures gives { Plans result (⟦<Self as Viewed>⟧.view self.old) (⟦<Self as Viewed>⟧.view self.new)
             (λ m0. by_csw (target_issued F.planner self.old.log m0) self.old.managed unit.now) }
         ensures kept { (m0 : BenchState)
-            → IsToIssue (⟦<Self as Seen>⟧.view self.old) (steps_left self.old.log (by_csw (target_issued F.planner self.old.log m0) self.old.managed unit.now).steps) m0
+            → IsToIssue (⟦<Self as Viewed>⟧.view self.old) (steps_left self.old.log (by_csw (target_issued F.planner self.old.log m0) self.old.managed unit.now).steps) m0
             → OnOk result (self.new.managed ≡ (by_csw (target_issued F.planner self.old.log m0) self.old.managed unit.now).kept) }
-        ensures issues { IssuesFew result 7 (⟦<Self as Seen>⟧.view self.old) (⟦<Self as Seen>⟧.view self.new) }
+        ensures issues { IssuesFew result 7 (⟦<Self as Viewed>⟧.view self.old) (⟦<Self as Viewed>⟧.view self.new) }
         ensures pending { OnOk result (self.new.log.confirmed < length self.new.log.entries) }
         ensures asks { OnOk result (asks_of self.new.log
             ≡ asks_of (with_needs self.old.log (one_if (needs_csw self.old.managed unit.now)) (length self.old.log.calls - 1))) }
@@ -147,12 +147,12 @@ impl<F: Flights> Sender<F> {
         requested: u32,
         turns: u32,
     ) -> Result<(), Stop>
-        requires ready { CanIssue most_entries (⟦<Self as Seen>⟧.view self.old) }
+        requires ready { CanIssue most_entries (⟦<Self as Viewed>⟧.view self.old) }
         requires sound { IsSound (unit.Poll mask requested turns) }
-        ensures gives { AsksFor result (⟦<Self as Seen>⟧.view self.old) (⟦<Self as Seen>⟧.view self.new)
+        ensures gives { AsksFor result (⟦<Self as Viewed>⟧.view self.old) (⟦<Self as Viewed>⟧.view self.new)
             (λ m0 ask. (IsSetTo config.idle config.retry m0) × (ask.call ≡ Access (unit.Poll mask requested turns))) SenderHasBegun }
-        ensures step { SenderSteps result (⟦<Self as Seen>⟧.view self.old) (⟦<Self as Seen>⟧.view self.new) }
-        ensures asks { AsksWhole result (⟦<Self as Seen>⟧.view self.old) (⟦<Self as Seen>⟧.view self.new) }
+        ensures step { SenderSteps result (⟦<Self as Viewed>⟧.view self.old) (⟦<Self as Viewed>⟧.view self.new) }
+        ensures asks { AsksWhole result (⟦<Self as Viewed>⟧.view self.old) (⟦<Self as Viewed>⟧.view self.new) }
     {
         self.send()?;
         let points = self.poll_last(config, mask, requested, turns)?;

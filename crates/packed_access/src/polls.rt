@@ -18,7 +18,7 @@ ghost use Rattle.packed_access.specs.Polls.{HasPoll};
 ghost use Rattle.packed_access.specs.Frame.{CanAdd, Exchanges};
 ghost use Rattle.packed_access.specs.Views.{IsAtEnd, IsToIssueNext, SenderIsSparing, access_view};
 
-use crate::seen::Seen;
+use crate::seen::Viewed;
 use crate::sender::Sender;
 use access_calls::Stop;
 use batch_packer::FlightEnd;
@@ -91,27 +91,27 @@ impl<F: Flights> Sender<F> {
         requested: u32,
         turns: u32,
     ) -> Result<u64, Stop>
-        requires ready { CanAdd 1 (⟦<Self as Seen>⟧.view self.old) }
+        requires ready { CanAdd 1 (⟦<Self as Viewed>⟧.view self.old) }
         requires sound { IsSound (unit.Poll mask requested turns) }
         requires rest { F.accesses self.old.flights ≡ [] }
         requires last { self.old.log.came + 1 ≡ length self.old.log.calls }
         ensures on { (m0 : BenchState) (calls : List Ask) (ask : Ask)
             → HasPoll F.planner (F.state self.old.flights) self.old.log self.old.managed calls ask mask requested turns config.idle config.retry m0
-            → OnOk result (IsToIssueNext (⟦<Self as Seen>⟧.view self.new) [] m0) }
+            → OnOk result (IsToIssueNext (⟦<Self as Viewed>⟧.view self.new) [] m0) }
         ensures spare { (m0 : BenchState) (calls : List Ask) (ask : Ask) (paid : ℕ)
             → HasPoll F.planner (F.state self.old.flights) self.old.log self.old.managed calls ask mask requested turns config.idle config.retry m0
-            → SenderIsSparing (⟦<Self as Seen>⟧.view self.old) (paid + 1) m0
-            → IfOk result (λ points. SenderIsSparing (⟦<Self as Seen>⟧.view self.new) (paid + points) m0) }
+            → SenderIsSparing (⟦<Self as Viewed>⟧.view self.old) (paid + 1) m0
+            → IfOk result (λ points. SenderIsSparing (⟦<Self as Viewed>⟧.view self.new) (paid + points) m0) }
         ensures points { F.planner ≡ Managed → (m0 : BenchState) (calls : List Ask) (ask : Ask)
             → HasPoll F.planner (F.state self.old.flights) self.old.log self.old.managed calls ask mask requested turns config.idle config.retry m0
             → IfOk result (λ points. points ≡ poll_cost self.old.managed (target_by F.planner (target_of m0.probe) calls) mask requested turns) }
         ensures broke { (m0 : BenchState) (calls : List Ask) (ask : Ask)
             → HasPoll F.planner (F.state self.old.flights) self.old.log self.old.managed calls ask mask requested turns config.idle config.retry m0
-            → IfErr result (IsAtEnd (⟦<Self as Seen>⟧.view self.new) m0) }
+            → IfErr result (IsAtEnd (⟦<Self as Viewed>⟧.view self.new) m0) }
         ensures stops { (m0 : BenchState) (calls : List Ask) (ask : Ask) (answered : Option ℕ)
             → HasPoll F.planner (F.state self.old.flights) self.old.log self.old.managed calls ask mask requested turns config.idle config.retry m0
-            → IsLeft (access_view (⟦<Self as Seen>⟧.view self.new)) answered → IfErr result (StopsAfterLines m0 answered self.old.log.calls self.new.log.lines) }
-        ensures exchanges { Exchanges result (⟦<Self as Seen>⟧.view self.old) (⟦<Self as Seen>⟧.view self.new) }
+            → IsLeft (access_view (⟦<Self as Viewed>⟧.view self.new)) answered → IfErr result (StopsAfterLines m0 answered self.old.log.calls self.new.log.lines) }
+        ensures exchanges { Exchanges result (⟦<Self as Viewed>⟧.view self.old) (⟦<Self as Viewed>⟧.view self.new) }
         ensures known { OnOk result (self.new.log.known ≡ length self.new.log.calls) }
         ensures whole { OnOk result (self.new.log.whole ≡ length self.new.log.calls) }
         ensures entries { OnOk result (length self.new.log.entries ≡ length self.old.log.entries + 1) }

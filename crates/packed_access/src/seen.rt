@@ -5,12 +5,12 @@ use crate::sender::Sender;
 use bench_flights::Flights;
 
 /// What contracts see of a value: one view of it.
-pub(crate) trait Seen {
+pub(crate) trait Viewed {
     /// The view.
     ghost view: { Self → SenderView };
 }
 
-impl<F: Flights> Seen for Sender<F> {
+impl<F: Flights> Viewed for Sender<F> {
     ghost view = { λ s. record {
       planner = F.planner;
       bench = F.reported s.flights;

@@ -21,7 +21,7 @@ ghost use Rattle.packed_access.specs.Gives.{TriesNext};
 ghost use Rattle.packed_access.specs.Frame.{CanAdd, CanTry, Tries};
 ghost use Rattle.packed_access.specs.Views.{HasSpace, IsTried, SenderIsBroken};
 
-use crate::seen::Seen;
+use crate::seen::Viewed;
 use crate::sender::Sender;
 use access_calls::Stop;
 use bench_flights::Flights;
@@ -33,11 +33,11 @@ use target_machine::{ProbeCall, RegAccess};
 impl<F: Flights> Sender<F> {
     // Pushes accesses of the last call, for which there is room, as the same to their unit.
     fn push_all(&mut self, unit: u32, part: Part, accesses: &[RegAccess])
-        requires ready { CanAdd (length accesses.now) (⟦<Self as Seen>⟧.view self.old) }
+        requires ready { CanAdd (length accesses.now) (⟦<Self as Viewed>⟧.view self.old) }
         requires taken { AllByRecursion IsTaken accesses.now }
         requires few { length (F.accesses self.old.flights) + length accesses.now ≤ 4 }
         requires managed { 0 < length accesses.now → F.planner ≡ Managed }
-        requires space { HasSpace (⟦<Self as Seen>⟧.view self.old) }
+        requires space { HasSpace (⟦<Self as Viewed>⟧.view self.old) }
         requires unit { IsOfCall (length self.old.log.calls) (record { unit = unit; part = part }) }
         requires later { self.old.log.came ≤ lines_before_kept (record { unit = unit; part = part }) }
         ensures accesses { F.accesses self.new.flights ≡ F.accesses self.old.flights ++ accesses.now }
@@ -62,15 +62,15 @@ impl<F: Flights> Sender<F> {
         ends: bool,
         forgive: bool,
     ) -> Result<Option<u32>, Stop>
-        requires ready { CanTry (length leads.now + 2) (⟦<Self as Seen>⟧.view self.old) }
+        requires ready { CanTry (length leads.now + 2) (⟦<Self as Viewed>⟧.view self.old) }
         requires managed { 0 < length leads.now → F.planner ≡ Managed }
         requires one { IsOneTransfer (leads.now ++ last ∷ []) }
         requires taken { AllByRecursion IsTaken leads.now }
         requires last { IsTaken last }
-        ensures gives { TriesNext result (⟦<Self as Seen>⟧.view self.old) (⟦<Self as Seen>⟧.view self.new) forgive leads.now last ends }
-        ensures tries { Tries result (length leads.now + 2) (⟦<Self as Seen>⟧.view self.old) (⟦<Self as Seen>⟧.view self.new) }
+        ensures gives { TriesNext result (⟦<Self as Viewed>⟧.view self.old) (⟦<Self as Viewed>⟧.view self.new) forgive leads.now last ends }
+        ensures tries { Tries result (length leads.now + 2) (⟦<Self as Viewed>⟧.view self.old) (⟦<Self as Viewed>⟧.view self.new) }
         ensures packets { F.planner ≡ Managed → IfOk result (λ w. StepsTo (λ m o. CanFly m → WentFew w m o) (F.state self.old.flights) (F.state self.new.flights)) }
-        ensures space { IfOk result (λ w. IfSome w (λ _. HasSpace (⟦<Self as Seen>⟧.view self.new))) }
+        ensures space { IfOk result (λ w. IfSome w (λ _. HasSpace (⟦<Self as Viewed>⟧.view self.new))) }
         ensures unskipped { IfOk result (λ w. IfSome w (λ _. length self.new.log.entries ≤ length self.old.log.entries + (length leads.now + 1))) }
         ensures managed { self.new.managed ≡ self.old.managed }
     {
@@ -106,18 +106,18 @@ impl<F: Flights> Sender<F> {
     // Makes accesses that lead to the one that the last call's unit is for, each in a flight of its own. Answers whether
     // they came: none of them faults.
     fn try_leads(&mut self, leads: &[RegAccess], forgive: bool) -> Result<bool, Stop>
-        requires ready { CanTry (length leads.now + 2) (⟦<Self as Seen>⟧.view self.old) }
+        requires ready { CanTry (length leads.now + 2) (⟦<Self as Viewed>⟧.view self.old) }
         requires taken { AllByRecursion IsTaken leads.now }
         ensures on { (m0 : BenchState) (asked : AccessUnit) (k : Kept) (t : TargetState) (made : List RegAccess)
             (last : RegAccess) (ends : Bool) (rest more : List Action)
-            → IsTried (⟦<Self as Seen>⟧.view self.old) forgive asked k t made rest m0 → AreNextAccesses asked t made leads.now last ends rest more
+            → IsTried (⟦<Self as Viewed>⟧.view self.old) forgive asked k t made rest m0 → AreNextAccesses asked t made leads.now last ends rest more
             → IfOk result (λ came. LeadsCame came F.planner forgive (F.state self.new.flights) self.new.log asked k t made leads.now last more m0) }
         ensures broke { (m0 : BenchState) (asked : AccessUnit) (k : Kept) (t : TargetState) (made : List RegAccess)
             (last : RegAccess) (ends : Bool) (rest more : List Action)
-            → IsTried (⟦<Self as Seen>⟧.view self.old) forgive asked k t made rest m0 → AreNextAccesses asked t made leads.now last ends rest more
-            → IfErr result (SenderIsBroken (⟦<Self as Seen>⟧.view self.new) self.old.log.calls m0) }
-        ensures tries { Tries result (length leads.now + 2) (⟦<Self as Seen>⟧.view self.old) (⟦<Self as Seen>⟧.view self.new) }
-        ensures space { IfOk result (λ came. came ≡ true → HasSpace (⟦<Self as Seen>⟧.view self.new)) }
+            → IsTried (⟦<Self as Viewed>⟧.view self.old) forgive asked k t made rest m0 → AreNextAccesses asked t made leads.now last ends rest more
+            → IfErr result (SenderIsBroken (⟦<Self as Viewed>⟧.view self.new) self.old.log.calls m0) }
+        ensures tries { Tries result (length leads.now + 2) (⟦<Self as Viewed>⟧.view self.old) (⟦<Self as Viewed>⟧.view self.new) }
+        ensures space { IfOk result (λ came. came ≡ true → HasSpace (⟦<Self as Viewed>⟧.view self.new)) }
         ensures entries { IfOk result (λ came. length self.new.log.entries ≤ length self.old.log.entries + (length leads.now + (if came then 0 else 1))) }
         ensures managed { self.new.managed ≡ self.old.managed }
     {
@@ -139,14 +139,14 @@ impl<F: Flights> Sender<F> {
         ends: bool,
         forgive: bool,
     ) -> Result<Option<u32>, Stop>
-        requires ready { CanTry 5 (⟦<Self as Seen>⟧.view self.old) }
+        requires ready { CanTry 5 (⟦<Self as Viewed>⟧.view self.old) }
         requires one { IsOneTransfer (leads.now ++ last ∷ []) }
         requires taken { AllByRecursion IsTaken leads.now }
         requires last { IsTaken last }
-        ensures gives { TriesNext result (⟦<Self as Seen>⟧.view self.old) (⟦<Self as Seen>⟧.view self.new) forgive leads.now last ends }
-        ensures tries { Tries result (length leads.now + 2) (⟦<Self as Seen>⟧.view self.old) (⟦<Self as Seen>⟧.view self.new) }
+        ensures gives { TriesNext result (⟦<Self as Viewed>⟧.view self.old) (⟦<Self as Viewed>⟧.view self.new) forgive leads.now last ends }
+        ensures tries { Tries result (length leads.now + 2) (⟦<Self as Viewed>⟧.view self.old) (⟦<Self as Viewed>⟧.view self.new) }
         ensures packets { F.planner ≡ Managed → IfOk result (λ w. StepsTo (λ m o. CanFly m → WentFew w m o) (F.state self.old.flights) (F.state self.new.flights)) }
-        ensures space { IfOk result (λ w. IfSome w (λ _. HasSpace (⟦<Self as Seen>⟧.view self.new))) }
+        ensures space { IfOk result (λ w. IfSome w (λ _. HasSpace (⟦<Self as Viewed>⟧.view self.new))) }
         ensures managed { self.new.managed ≡ self.old.managed }
     {
         if !F::plans_alone() {
@@ -168,14 +168,14 @@ impl<F: Flights> Sender<F> {
         ends: bool,
         forgive: bool,
     ) -> Result<Option<u32>, Stop>
-        requires ready { CanTry 5 (⟦<Self as Seen>⟧.view self.old) }
+        requires ready { CanTry 5 (⟦<Self as Viewed>⟧.view self.old) }
         requires calm { self.old.managed.unsettled ≡ None }
         requires bank { bank < 16 }
         requires taken { IsTaken access }
-        ensures gives { TriesNext result (⟦<Self as Seen>⟧.view self.old) (⟦<Self as Seen>⟧.view self.new) forgive (select_of ap bank ∷ []) access ends }
-        ensures tries { Tries result 3 (⟦<Self as Seen>⟧.view self.old) (⟦<Self as Seen>⟧.view self.new) }
+        ensures gives { TriesNext result (⟦<Self as Viewed>⟧.view self.old) (⟦<Self as Viewed>⟧.view self.new) forgive (select_of ap bank ∷ []) access ends }
+        ensures tries { Tries result 3 (⟦<Self as Viewed>⟧.view self.old) (⟦<Self as Viewed>⟧.view self.new) }
         ensures packets { F.planner ≡ Managed → IfOk result (λ w. StepsTo (λ m o. CanFly m → WentFew w m o) (F.state self.old.flights) (F.state self.new.flights)) }
-        ensures space { IfOk result (λ w. IfSome w (λ _. HasSpace (⟦<Self as Seen>⟧.view self.new))) }
+        ensures space { IfOk result (λ w. IfSome w (λ _. HasSpace (⟦<Self as Viewed>⟧.view self.new))) }
         ensures managed { self.new.managed ≡ selected self.old.managed (select_value ap bank) }
     {
         let write = select(ap, bank);

@@ -2,8 +2,8 @@
 use Rattle.std.proofs.Common.{◌≡◌, ◌+◌, ℕ, zero, suc, List, [], ◌∷◌, ◌++◌, Option, Some, drop, slice_get, refl, append_assoc, arith}
 use Rattle.dap_messages.specs.declared.request.Request.{Request}
 use Rattle.packet_words.specs.declared.fate.Fate.{Fate}
-use Rattle.register_words.specs.declared.known.Known.{Known}
-use Rattle.register_words.specs.declared.access.Access.{Access}
+use Rattle.register_words.specs.declared.known.KnownRegisters.{KnownRegisters}
+use Rattle.register_words.specs.declared.access.RegisterAccess.{RegisterAccess}
 use Rattle.packet_words.specs.Accesses.{request_access, requests_accesses}
 use Rattle.packet_words.specs.Requests.{RequestsLeft, after_request, after_requests, block_requests, fate_of, left_after_request, request_line, request_lines}
 
@@ -20,7 +20,7 @@ abbrev word_request : ℕ → ℕ → Request
 word_request byte word = record { byte = byte; word = word }
 
 -- one word more is written
-pub block_text : (line next all : List ℕ) (known later : Known) (left rest : RequestsLeft) (byte : ℕ) (words : List ℕ) (i word : ℕ) (fate : Fate)
+pub block_text : (line next all : List ℕ) (known later : KnownRegisters) (left rest : RequestsLeft) (byte : ℕ) (words : List ℕ) (i word : ℕ) (fate : Fate)
     → slice_get words i ≡ Some word → fate ≡ fate_of left (word_request byte word) → next ≡ line ++ request_line known (word_request byte word) fate
     → later ≡ after_request known (word_request byte word) fate → rest ≡ left_after_request left (word_request byte word)
     → line ++ request_lines known left (block_requests byte (drop i words)) ≡ all
@@ -30,7 +30,7 @@ block_text line next all known later left rest byte words i word fate at fate_is
     simp (next_is, later_is, rest_is, fate_is, append_assoc) h
 
 -- one access more
-pub block_accesses : (made next all : List Access) (known later : Known) (left rest : RequestsLeft) (byte : ℕ) (words : List ℕ) (i word : ℕ) (fate : Fate)
+pub block_accesses : (made next all : List RegisterAccess) (known later : KnownRegisters) (left rest : RequestsLeft) (byte : ℕ) (words : List ℕ) (i word : ℕ) (fate : Fate)
     → slice_get words i ≡ Some word → fate ≡ fate_of left (word_request byte word) → next ≡ made ++ request_access known (word_request byte word) fate
     → later ≡ after_request known (word_request byte word) fate → rest ≡ left_after_request left (word_request byte word)
     → made ++ requests_accesses known left (block_requests byte (drop i words)) ≡ all
@@ -40,7 +40,7 @@ block_accesses made next all known later left rest byte words i word fate at fat
     simp (next_is, later_is, rest_is, fate_is, append_assoc) h
 
 -- what is known after one word more
-pub block_known : (known later end : Known) (left rest : RequestsLeft) (byte : ℕ) (words : List ℕ) (i word : ℕ) (fate : Fate)
+pub block_known : (known later end : KnownRegisters) (left rest : RequestsLeft) (byte : ℕ) (words : List ℕ) (i word : ℕ) (fate : Fate)
     → slice_get words i ≡ Some word → fate ≡ fate_of left (word_request byte word)
     → later ≡ after_request known (word_request byte word) fate → rest ≡ left_after_request left (word_request byte word)
     → after_requests known left (block_requests byte (drop i words)) ≡ end

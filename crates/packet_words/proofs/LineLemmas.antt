@@ -9,7 +9,7 @@ use Rattle.hex.proofs.HexLemmas.{decode_of-encode_lower}
 use Rattle.dap_messages.specs.declared.error.MessageError.{MessageError}
 use Rattle.dap_messages.specs.Commands.{Packet}
 use Rattle.dap_messages.specs.PacketReading.{packet_read}
-use Rattle.register_words.specs.declared.known.Known.{Known}
+use Rattle.register_words.specs.declared.known.KnownRegisters.{KnownRegisters}
 use Rattle.packet_words.specs.Laws.{AreBytes}
 use Rattle.packet_words.specs.Requests.{first_read_word}
 use Rattle.packet_words.specs.Exchange.{exchange, no_packet_line, replied_line, reply_line, said_of, trace_lines, unreplied_line}
@@ -73,7 +73,7 @@ same_digit_line xs ys s t p q e =
 -- ---- the lines of a trace
 
 -- the words begin with an `e`
-starts : (known : Known) (number size : ℕ) (r : Result Packet MessageError) (reply : Option (List ℕ)) → first_read_word (said_of known number size r reply).text ≡ Some 101
+starts : (known : KnownRegisters) (number size : ℕ) (r : Result Packet MessageError) (reply : Option (List ℕ)) → first_read_word (said_of known number size r reply).text ≡ Some 101
 unfolding replied_line unreplied_line no_packet_line
 starts known number size (Ok p) None = refl
 starts known number size (Ok p) (Some reply) = refl
@@ -117,7 +117,7 @@ same_reply (Some a) (Some b) x y p q s t e =
     ap Some (same_digit_line a b x y p q rest).0
 
 -- equal words are of equal packets and replies
-pub equal_words : (known other_known : Known) (m n : ℕ) (p q : List ℕ) (a b : Option (List ℕ)) → IsBytes p → IsBytes q → AreBytes a → AreBytes b
+pub equal_words : (known other_known : KnownRegisters) (m n : ℕ) (p q : List ℕ) (a b : Option (List ℕ)) → IsBytes p → IsBytes q → AreBytes a → AreBytes b
     → (exchange known m p a).text ≡ (exchange other_known n q b).text → (p ≡ q) × (a ≡ b)
 equal_words known other_known m n p q a b bytes_p bytes_q bytes_a bytes_b e =
     let x = (said_of known m (length p) (packet_read p) a).text in

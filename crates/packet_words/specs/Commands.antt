@@ -13,7 +13,7 @@ use Rattle.dap_messages.specs.Words.{words_in}
 use Rattle.dap_replies.specs.ReplyReading.{id_byte}
 use Rattle.dap_replies.specs.ReplyViews.{Shown}
 use Rattle.text_lines.specs.Hex.{hex2, hex8, hex16}
-use Rattle.register_words.specs.declared.known.Known.{Known}
+use Rattle.register_words.specs.declared.known.KnownRegisters.{KnownRegisters}
 use Rattle.register_words.specs.Known.{nothing_known, after_abort}
 use Rattle.register_words.specs.Flags.{abort_flags, pin_names, line_name}
 use Rattle.packet_words.specs.Requests.{RequestsLeft, request_lines, after_requests}
@@ -93,21 +93,21 @@ requests_left None = record { read = false; done = 0; words = [] }
 requests_left (Some reply) = record { read = true; done = reply.count; words = words_in reply.bytes }
 
 -- the lines of a command: its own, and one for each of its requests
-abbrev pub command_lines : Known → CommandValue → Option Shown → List ℕ
+abbrev pub command_lines : KnownRegisters → CommandValue → Option Shown → List ℕ
 command_lines known c reply = packet_command_line c reply ++ request_lines known (requests_left reply) (requests_of c)
 
 -- ---- what is known after a command
 
 -- after a transfer or a block that ended early nothing is known
-abbrev pub after_response : Known → ℕ → Known
+abbrev pub after_response : KnownRegisters → ℕ → KnownRegisters
 after_response known response = if response == 0x01 then known else nothing_known
 
 -- after pins were driven nothing is known
-abbrev pub after_pins : Known → ℕ → Known
+abbrev pub after_pins : KnownRegisters → ℕ → KnownRegisters
 after_pins known select = if select == 0 then known else nothing_known
 
 -- What is known after a command whose requests were gone through: after a line sequence nothing is, nor without a reply.
-unfoldable pub after_known : Known → CommandValue → Option Shown → Known
+unfoldable pub after_known : KnownRegisters → CommandValue → Option Shown → KnownRegisters
 after_known known c None = nothing_known
 after_known known (Info id) (Some reply) = known
 after_known known (Configure idle retry matches) (Some reply) = known
@@ -120,5 +120,5 @@ after_known known (Clock clock) (Some reply) = known
 after_known known (Line count bits) (Some reply) = nothing_known
 
 -- what is known after a command
-abbrev pub after_command : Known → CommandValue → Option Shown → Known
+abbrev pub after_command : KnownRegisters → CommandValue → Option Shown → KnownRegisters
 after_command known c reply = after_known (after_requests known (requests_left reply) (requests_of c)) c reply

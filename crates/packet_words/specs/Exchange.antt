@@ -12,7 +12,7 @@ use Rattle.dap_messages.specs.PacketReading.{packet_read, place_of}
 use Rattle.dap_replies.specs.ReplyReading.{reply_read}
 use Rattle.dap_replies.specs.ReplyViews.{Shown}
 use Rattle.text_lines.specs.Hex.{hex2}
-use Rattle.register_words.specs.declared.known.Known.{Known}
+use Rattle.register_words.specs.declared.known.KnownRegisters.{KnownRegisters}
 use Rattle.register_words.specs.Known.{nothing_known}
 use Rattle.packet_words.specs.Commands.{leading_byte, command_lines, after_command}
 use Rattle.packet_words.specs.Replies.{own_bytes}
@@ -20,7 +20,7 @@ use Rattle.packet_words.specs.Replies.{own_bytes}
 -- What is said of a packet or a reply: the text, what is known after it, and whether it is one.
 pub record Said : Type 0 where
   pub text : List ℕ
-  pub known : Known
+  pub known : KnownRegisters
   pub good : Bool
 
 -- a text before what is said
@@ -45,12 +45,12 @@ message_fault_words fault = message_fault_name fault ++ codes " at " ++ decimal 
 -- ---- commands and their replies
 
 -- the lines of commands whose replies are not known
-abbrev pub unanswered_lines : Known → List CommandValue → List ℕ
+abbrev pub unanswered_lines : KnownRegisters → List CommandValue → List ℕ
 unanswered_lines known [] = []
 unanswered_lines known (c ∷ commands) = command_lines known c None ++ unanswered_lines (after_command known c None) commands
 
 -- commands without a reply
-abbrev pub unanswered : Known → List CommandValue → Bool → Said
+abbrev pub unanswered : KnownRegisters → List CommandValue → Bool → Said
 unanswered known commands good = record { text = unanswered_lines known commands; known = nothing_known; good = good }
 
 -- the line of a reply that is none: its fault, and the bytes in which the place counts
@@ -58,7 +58,7 @@ unfoldable pub misanswer_line : MessageError → List ℕ → List ℕ
 misanswer_line fault bytes = codes "  no reply: " ++ message_fault_words fault ++ codes " of " ++ encode_lower bytes ++ codes "\n"
 
 -- commands of which these bytes are no reply, with the fault of the bytes
-abbrev pub misanswered : Known → List CommandValue → MessageError → List ℕ → Said
+abbrev pub misanswered : KnownRegisters → List CommandValue → MessageError → List ℕ → Said
 misanswered known commands fault bytes = record {
   text = misanswer_line fault bytes ++ unanswered_lines known commands;
   known = nothing_known;
@@ -71,7 +71,7 @@ by_reply (Ok reply) good bad = good reply
 by_reply (Err fault) good bad = bad fault
 
 -- The commands in order, each with its reply; from the first on whose reply is none, they are without.
-abbrev pub commands_said : Known → List CommandValue → List ℕ → Said
+abbrev pub commands_said : KnownRegisters → List CommandValue → List ℕ → Said
 commands_said known [] bytes = record { text = []; known = known; good = true }
 commands_said known (c ∷ commands) bytes =
     by_reply (reply_read c (take (own_bytes commands c bytes) bytes))
@@ -105,16 +105,16 @@ head_fault kind count (id ∷ []) = Some (Short 1)
 head_fault kind count (id ∷ number ∷ bytes) = if is_head kind id then (if number == count then None else Some (BadCount 1)) else Some (BadId 0)
 
 -- the reply to several commands: after its first two bytes their replies
-abbrev pub by_head : Option MessageError → Known → List CommandValue → List ℕ → Said
+abbrev pub by_head : Option MessageError → KnownRegisters → List CommandValue → List ℕ → Said
 by_head (Some fault) known commands bytes = misanswered known commands fault bytes
 by_head None known commands bytes = commands_said known commands (drop 2 bytes)
 
 -- the reply to several commands
-abbrev pub all_answered : PacketKind → Known → List CommandValue → List ℕ → Said
+abbrev pub all_answered : PacketKind → KnownRegisters → List CommandValue → List ℕ → Said
 all_answered kind known commands bytes = by_head (head_fault kind (length commands) bytes) known commands bytes
 
 -- the reply to a packet of this kind
-abbrev pub packet_answered : PacketKind → Known → List CommandValue → List ℕ → Said
+abbrev pub packet_answered : PacketKind → KnownRegisters → List CommandValue → List ℕ → Said
 packet_answered Plain known commands bytes = commands_said known commands bytes
 packet_answered Execute known commands bytes = all_answered Execute known commands bytes
 packet_answered Queue known commands bytes = all_answered Queue known commands bytes
@@ -131,7 +131,7 @@ unreplied_line number p size =
     codes "exchange " ++ decimal number ++ codes " without a reply: " ++ kind_words p.kind (length p.commands) ++ codes ", " ++ decimal size ++ codes " bytes out\n"
 
 -- a packet of this number and size, with its reply where there is one
-abbrev pub packet_said : Known → ℕ → ℕ → Packet → Option (List ℕ) → Said
+abbrev pub packet_said : KnownRegisters → ℕ → ℕ → Packet → Option (List ℕ) → Said
 packet_said known number size p None = after_text (unreplied_line number p size) (unanswered known p.commands true)
 packet_said known number size p (Some reply) = after_text (replied_line number p size reply) (packet_answered p.kind known p.commands reply)
 
@@ -144,7 +144,7 @@ abbrev pub no_packet : ℕ → MessageError → Said
 no_packet number fault = record { text = no_packet_line number fault; known = nothing_known; good = false }
 
 -- the same where the packet may be none
-abbrev pub said_of : Known → ℕ → ℕ → Result Packet MessageError → Option (List ℕ) → Said
+abbrev pub said_of : KnownRegisters → ℕ → ℕ → Result Packet MessageError → Option (List ℕ) → Said
 said_of known number size (Ok p) reply = packet_said known number size p reply
 said_of known number size (Err fault) reply = no_packet number fault
 
@@ -161,5 +161,5 @@ trace_lines packet reply = codes "> " ++ encode_lower packet ++ codes "\n" ++ re
 
 -- What is said of the exchange of this number: the bytes of a packet, and those of its reply where there is one. Their lines in a trace
 -- come first, and then their words.
-abbrev pub exchange : Known → ℕ → List ℕ → Option (List ℕ) → Said
+abbrev pub exchange : KnownRegisters → ℕ → List ℕ → Option (List ℕ) → Said
 exchange known number packet reply = after_text (trace_lines packet reply) (said_of known number (length packet) (packet_read packet) reply)

@@ -6,8 +6,8 @@ use Rattle.dap_messages.specs.declared.request.RequestKind.TheVariants.{Posted, 
 use Rattle.dap_messages.specs.Requests.{kind, gives_word}
 use Rattle.target_machine.specs.Registers.{csw_register, drw_register, bd_bank}
 use Rattle.text_lines.specs.Hex.{hex2, hex8}
-use Rattle.register_words.specs.declared.known.Known.{Known}
-use Rattle.register_words.specs.declared.known.Port.{Port}
+use Rattle.register_words.specs.declared.known.KnownRegisters.{KnownRegisters}
+use Rattle.register_words.specs.declared.known.KnownPort.{KnownPort}
 use Rattle.register_words.specs.declared.register.Register.{Register}
 use Rattle.register_words.specs.declared.register.Register.TheVariants as at
 use Rattle.packet_words.specs.declared.fate.Fate.{Fate}
@@ -58,13 +58,13 @@ left_after_request left r = record { read = left.read; done = left.done - 1; wor
 -- ---- what is known after a request
 
 -- a request that is no normal read was executed
-unfoldable pub after_done : RequestKind → Known → Register → ℕ → Known
+unfoldable pub after_done : RequestKind → KnownRegisters → Register → ℕ → KnownRegisters
 after_done Write known register word = after_write known register word
 after_done Match known register word = after_match known register
 after_done other known register word = known
 
 -- what is known after a request, by what became of it
-unfoldable pub after_request : Known → Request → Fate → Known
+unfoldable pub after_request : KnownRegisters → Request → Fate → KnownRegisters
 after_request known r (fates.Gave word) = after_read known (register_of known.select r.byte) (Some word)
 after_request known r fates.NoWord = after_read known (register_of known.select r.byte) None
 after_request known r fates.Done = after_done (kind r) known (register_of known.select r.byte) r.word
@@ -82,7 +82,7 @@ mark fates.Skipped = codes "  - "
 mark fates.NotKnown = codes "  ? "
 
 -- what is accessed: a register, or the match mask of the probe
-unfoldable pub subject : RequestKind → Known → ℕ → List ℕ
+unfoldable pub subject : RequestKind → KnownRegisters → ℕ → List ℕ
 subject Mask known byte = codes "match mask"
 subject Write known byte = register_name (register_of known.select byte)
 subject Match known byte = register_name (register_of known.select byte)
@@ -118,14 +118,14 @@ csw_note None = []
 csw_note (Some word) = csw_words word
 
 -- the fields of CSW; the address of an access of DRW or BD0 to BD3, where TAR is known
-unfoldable pub port_note : Port → ℕ → Option ℕ → List ℕ
+unfoldable pub port_note : KnownPort → ℕ → Option ℕ → List ℕ
 port_note port register value =
     if register == csw_register then csw_note value else
     if register == drw_register then address_words port.tar else
     if register / 16 == bd_bank then address_words (option_map (banked_address register) port.tar) else []
 
 -- what is known of a value of a register
-unfoldable pub note : Known → Register → Option ℕ → List ℕ
+unfoldable pub note : KnownRegisters → Register → Option ℕ → List ℕ
 note known at.CtrlStat (Some word) = ctrl_stat_flags word
 note known at.Abort (Some word) = abort_flags word
 note known at.Select (Some word) = select_words word
@@ -133,18 +133,18 @@ note known (at.Ap ap register) value = port_note (port_at known ap) register val
 note known other value = []
 
 -- The guard of a chain of commands: a value match of DPIDR with 0, which passes only while the match mask is 0.
-unfoldable pub match_note : Known → Register → ℕ → List ℕ
+unfoldable pub match_note : KnownRegisters → Register → ℕ → List ℕ
 match_note known at.Dpidr word = if word == 0 then codes " guard" else []
 match_note known register word = note known register (Some word)
 
 -- the same for a request that is no normal read and was executed
-unfoldable pub done_note : RequestKind → Known → Register → ℕ → List ℕ
+unfoldable pub done_note : RequestKind → KnownRegisters → Register → ℕ → List ℕ
 done_note Write known register word = note known register (Some word)
 done_note Match known register word = match_note known register word
 done_note other known register word = []
 
 -- what is known of the value of a request, by what became of it
-unfoldable pub request_note : Known → Request → Fate → List ℕ
+unfoldable pub request_note : KnownRegisters → Request → Fate → List ℕ
 request_note known r (fates.Gave word) = note known (register_of known.select r.byte) (Some word)
 request_note known r fates.NoWord = note known (register_of known.select r.byte) None
 request_note known r fates.Done = done_note (kind r) known (register_of known.select r.byte) r.word
@@ -152,12 +152,12 @@ request_note known r fates.Skipped = codes " not done"
 request_note known r fates.NotKnown = []
 
 -- the line of a request of this kind: its mark, its byte, the register, the value, and what is known of it
-unfoldable pub line_of_request : RequestKind → Known → Request → Fate → List ℕ
+unfoldable pub line_of_request : RequestKind → KnownRegisters → Request → Fate → List ℕ
 line_of_request asks known r fate =
     mark fate ++ hex2 r.byte ++ codes " " ++ subject asks known r.byte ++ value_part asks r.word fate ++ request_note known r fate ++ codes "\n"
 
 -- the line of a request
-abbrev pub request_line : Known → Request → Fate → List ℕ
+abbrev pub request_line : KnownRegisters → Request → Fate → List ℕ
 request_line known r fate = line_of_request (kind r) known r fate
 
 -- ---- the words of all requests
@@ -167,12 +167,12 @@ abbrev pub block_requests : ℕ → List ℕ → List Request
 block_requests byte words = map (λ word. record { byte = byte; word = word }) words
 
 -- the lines of requests, where this is left of their reply
-abbrev pub request_lines : Known → RequestsLeft → List Request → List ℕ
+abbrev pub request_lines : KnownRegisters → RequestsLeft → List Request → List ℕ
 request_lines known left [] = []
 request_lines known left (r ∷ rs) =
     request_line known r (fate_of left r) ++ request_lines (after_request known r (fate_of left r)) (left_after_request left r) rs
 
 -- what is known of the registers after these requests
-abbrev pub after_requests : Known → RequestsLeft → List Request → Known
+abbrev pub after_requests : KnownRegisters → RequestsLeft → List Request → KnownRegisters
 after_requests known left [] = known
 after_requests known left (r ∷ rs) = after_requests (after_request known r (fate_of left r)) (left_after_request left r) rs

@@ -20,16 +20,16 @@ use dap_messages::{
     WordBytes, packet_view,
 };
 use dap_replies::{ReplyView, reply_view};
-use register_words::{Access, Known, Register, register_of};
+use register_words::{KnownRegisters, Register, RegisterAccess, register_of};
 use std::alloc::Global;
 
 /// The accesses of registers, in order.
-pub type Accesses = ItemList<Access>;
+pub type Accesses = ItemList<RegisterAccess>;
 
 fn add(accesses: &mut Accesses, register: Register, is_write: bool) -> Result<(), OutOfMemory>
     ensures { OnOk result (accesses.new ≡ accesses.old ++ one_access register is_write) }
 {
-    accesses.push(Access { register, is_write })
+    accesses.push(RegisterAccess { register, is_write })
 }
 
 // The access of a request that is no normal read and was executed.
@@ -52,7 +52,7 @@ fn add_done(
 #[tactic(auto, unfolding(crate::specs::Accesses::access_by_fate))]
 fn add_request(
     accesses: &mut Accesses,
-    known: &Known,
+    known: &KnownRegisters,
     request: Request,
     fate: Fate,
 ) -> Result<(), OutOfMemory>
@@ -69,7 +69,7 @@ fn add_request(
 // The accesses of the requests of a transfer, where this is left of its reply.
 fn add_requests(
     accesses: &mut Accesses,
-    known: &mut Known,
+    known: &mut KnownRegisters,
     requests: &Requests<'_>,
     left: Left<'_>,
 ) -> Result<(), OutOfMemory>
@@ -90,7 +90,7 @@ fn add_requests(
 // The accesses of the words of a block, each as a request of this byte.
 fn add_block(
     accesses: &mut Accesses,
-    known: &mut Known,
+    known: &mut KnownRegisters,
     byte: u8,
     words: &WordBytes<'_>,
     left: Left<'_>,
@@ -116,7 +116,7 @@ fn add_block(
 // The accesses of the requests of a command.
 fn add_its_requests(
     accesses: &mut Accesses,
-    known: &mut Known,
+    known: &mut KnownRegisters,
     command: &CommandValue<'_>,
     left: Left<'_>,
 ) -> Result<(), OutOfMemory>
@@ -147,7 +147,7 @@ fn add_own(accesses: &mut Accesses, command: &CommandValue<'_>) -> Result<(), Ou
 // The accesses of a command that has a reply.
 fn add_command(
     accesses: &mut Accesses,
-    known: &mut Known,
+    known: &mut KnownRegisters,
     command: &CommandView<'_>,
     reply: ReplyView<'_>,
 ) -> Result<(), OutOfMemory>
@@ -164,7 +164,7 @@ fn add_command(
 // The accesses of commands in order, each with its reply.
 fn add_answered(
     accesses: &mut Accesses,
-    known: &mut Known,
+    known: &mut KnownRegisters,
     commands: &Commands<'_>,
     bytes: &[u8],
 ) -> Result<(), OutOfMemory>
@@ -186,7 +186,7 @@ fn add_answered(
 // The accesses of several commands.
 fn add_all(
     accesses: &mut Accesses,
-    known: &mut Known,
+    known: &mut KnownRegisters,
     packet: &PacketView<'_>,
     bytes: &[u8],
 ) -> Result<(), OutOfMemory>
@@ -201,7 +201,7 @@ fn add_all(
 // The accesses of a packet.
 fn add_packet(
     accesses: &mut Accesses,
-    known: &mut Known,
+    known: &mut KnownRegisters,
     packet: &PacketView<'_>,
     bytes: &[u8],
 ) -> Result<(), OutOfMemory>
@@ -218,7 +218,7 @@ fn add_packet(
 /// known to be made. `OutOfMemory` where memory is refused.
 pub fn exchange_accesses(
     alloc: Global,
-    known: &Known,
+    known: &KnownRegisters,
     packet: &[u8],
     reply: Option<&[u8]>,
 ) -> Result<Accesses, OutOfMemory>
@@ -228,7 +228,7 @@ pub fn exchange_accesses(
     let (Some(reply), Ok(packet)) = (reply, packet_view(packet)) else {
         return Ok(accesses);
     };
-    let mut known = Known {
+    let mut known = KnownRegisters {
         select: known.select,
         ports: known.ports,
     };

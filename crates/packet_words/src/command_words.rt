@@ -14,12 +14,12 @@ use crate::request_words::{with_block, with_requests};
 use dap_base::OutOfMemory;
 use dap_messages::{CommandValue, CommandView, Requests, Response};
 use dap_replies::ReplyView;
-use register_words::{Known, line_name, with_abort, with_pins};
+use register_words::{KnownRegisters, line_name, with_abort, with_pins};
 use std::alloc::Global;
 use text_lines::Line;
 
 /// The reply to a command, where there is one.
-pub type Reply<'a> = Option<ReplyView<'a>>;
+pub type GivenReply<'a> = Option<ReplyView<'a>>;
 
 /// The lower-case hexadecimal digits of bytes.
 pub fn with_digits(alloc: Global, line: Line, bytes: &[u8]) -> Result<Line, OutOfMemory>
@@ -46,7 +46,7 @@ fn response_name(response: Option<Response>) -> &'static str
 
 // How a transfer or a block ended.
 #[tactic(auto, unfolding(crate::specs::Commands::outcome_words))]
-fn with_outcome(line: Line, reply: &Reply<'_>) -> Result<Line, OutOfMemory>
+fn with_outcome(line: Line, reply: &GivenReply<'_>) -> Result<Line, OutOfMemory>
     ensures { IfOk result (λ l. l ≡ line ++ outcome_words reply.now) }
 {
     let Some(reply) = reply else {
@@ -70,7 +70,7 @@ fn info_number(bytes: &[u8]) -> u64
 }
 
 #[tactic(auto, unfolding(crate::specs::Commands::info_outcome))]
-fn with_info_outcome(alloc: Global, line: Line, reply: &Reply<'_>) -> Result<Line, OutOfMemory>
+fn with_info_outcome(alloc: Global, line: Line, reply: &GivenReply<'_>) -> Result<Line, OutOfMemory>
     ensures { IfOk result (λ l. l ≡ line ++ info_outcome reply.now) }
 {
     let Some(reply) = reply else {
@@ -92,7 +92,7 @@ pub fn first_byte(bytes: &[u8]) -> u8
 }
 
 #[tactic(auto, unfolding(crate::specs::Commands::pins_outcome))]
-fn with_pins_outcome(line: Line, reply: &Reply<'_>) -> Result<Line, OutOfMemory>
+fn with_pins_outcome(line: Line, reply: &GivenReply<'_>) -> Result<Line, OutOfMemory>
     ensures { IfOk result (λ l. l ≡ line ++ pins_outcome reply.now) }
 {
     let Some(reply) = reply else {
@@ -140,7 +140,12 @@ fn with_line(line: Line, count: u8, bits: u64) -> Result<Line, OutOfMemory>
 }
 
 // How many requests a transfer or a block has, and how it ended.
-fn with_counted(line: Line, label: &str, count: u64, reply: &Reply<'_>) -> Result<Line, OutOfMemory>
+fn with_counted(
+    line: Line,
+    label: &str,
+    count: u64,
+    reply: &GivenReply<'_>,
+) -> Result<Line, OutOfMemory>
     ensures { IfOk result (λ l. l ≡ line ++ (label.now ++ decimal count ++ outcome_words reply.now)) }
 {
     with_outcome(line.add_labelled(label, count)?, reply)
@@ -152,7 +157,7 @@ fn with_pin_words(
     output: u8,
     select: u8,
     wait: u32,
-    reply: &Reply<'_>,
+    reply: &GivenReply<'_>,
 ) -> Result<Line, OutOfMemory>
     ensures { IfOk result (λ l. l ≡ line ++ command_words (CommandValue.Pins output select wait) reply.now) }
 {
@@ -164,7 +169,7 @@ fn with_pin_words(
 fn with_transfer(
     line: Line,
     requests: &Requests<'_>,
-    reply: &Reply<'_>,
+    reply: &GivenReply<'_>,
 ) -> Result<Line, OutOfMemory>
     ensures { IfOk result (λ l. l ≡ line ++ command_words (CommandValue.Transfer requests.now) reply.now) }
 {
@@ -177,7 +182,7 @@ fn with_words(
     alloc: Global,
     line: Line,
     command: &CommandValue<'_>,
-    reply: &Reply<'_>,
+    reply: &GivenReply<'_>,
 ) -> Result<Line, OutOfMemory>
     requires { IsCommand command.now }
     ensures { IfOk result (λ l. l ≡ line ++ command_words command.now reply.now) }
@@ -209,7 +214,7 @@ fn with_words(
 }
 
 #[tactic(auto, unfolding(crate::specs::Commands::command_mark))]
-fn command_mark(reply: &Reply<'_>) -> &'static str
+fn command_mark(reply: &GivenReply<'_>) -> &'static str
     ensures { result.now ≡ command_mark reply.now }
 {
     match reply {
@@ -241,7 +246,7 @@ fn with_command_line(
     alloc: Global,
     line: Line,
     command: &CommandView<'_>,
-    reply: &Reply<'_>,
+    reply: &GivenReply<'_>,
 ) -> Result<Line, OutOfMemory>
     ensures { IfOk result (λ l. l ≡ line ++ packet_command_line command.now reply.now) }
 {
@@ -252,7 +257,7 @@ fn with_command_line(
 
 // What a reply says of the requests of its command.
 #[tactic(auto, unfolding(crate::specs::Commands::requests_left))]
-pub fn left_of<'a>(reply: &Reply<'a>) -> Left<'a>
+pub fn left_of<'a>(reply: &GivenReply<'a>) -> Left<'a>
     ensures { result ≡ requests_left reply.now }
 {
     match reply {
@@ -272,7 +277,7 @@ pub fn left_of<'a>(reply: &Reply<'a>) -> Left<'a>
 // The lines of the requests of a command.
 fn with_its_requests(
     line: Line,
-    known: &mut Known,
+    known: &mut KnownRegisters,
     command: &CommandValue<'_>,
     left: Left<'_>,
 ) -> Result<Line, OutOfMemory>
@@ -291,7 +296,7 @@ fn with_its_requests(
 
 // What is known after a command whose requests were gone through.
 #[tactic(auto, unfolding(crate::specs::Commands::after_known))]
-pub fn follow_reply(known: &mut Known, command: &CommandValue<'_>, reply: &Reply<'_>)
+pub fn follow_reply(known: &mut KnownRegisters, command: &CommandValue<'_>, reply: &GivenReply<'_>)
     ensures { known.new ≡ after_known known.old command.now reply.now }
 {
     let Some(reply) = reply else {
@@ -313,9 +318,9 @@ pub fn follow_reply(known: &mut Known, command: &CommandValue<'_>, reply: &Reply
 pub fn with_command(
     alloc: Global,
     line: Line,
-    known: &mut Known,
+    known: &mut KnownRegisters,
     command: &CommandView<'_>,
-    reply: &Reply<'_>,
+    reply: &GivenReply<'_>,
 ) -> Result<Line, OutOfMemory>
     ensures text { IfOk result (λ l. l ≡ line ++ command_lines known.old command.now reply.now) }
     ensures known { OnOk result (known.new ≡ after_command known.old command.now reply.now) }

@@ -14,7 +14,7 @@ use crate::replies::own_bytes;
 use dap_base::OutOfMemory;
 use dap_messages::{CommandView, Commands, MessageError, PacketKind, PacketView, packet_view};
 use dap_replies::reply_view;
-use register_words::Known;
+use register_words::KnownRegisters;
 use std::alloc::Global;
 use text_lines::Line;
 
@@ -31,7 +31,7 @@ pub struct Said {
 fn with_unanswered(
     alloc: Global,
     line: Line,
-    known: &mut Known,
+    known: &mut KnownRegisters,
     commands: &Commands<'_>,
 ) -> Result<Line, OutOfMemory>
     ensures text { IfOk result (λ l. l ≡ line ++ unanswered_lines known.old commands.now) }
@@ -64,7 +64,7 @@ fn with_misanswer(
 fn with_misanswered(
     alloc: Global,
     line: Line,
-    known: &mut Known,
+    known: &mut KnownRegisters,
     commands: &Commands<'_>,
     fault: MessageError,
     bytes: &[u8],
@@ -83,7 +83,7 @@ fn with_misanswered(
 fn with_misanswered_first(
     alloc: Global,
     line: Line,
-    known: &mut Known,
+    known: &mut KnownRegisters,
     command: &CommandView<'_>,
     later: &Commands<'_>,
     fault: MessageError,
@@ -104,7 +104,7 @@ fn with_misanswered_first(
 fn with_answers(
     alloc: Global,
     line: Line,
-    known: &mut Known,
+    known: &mut KnownRegisters,
     commands: &Commands<'_>,
     bytes: &[u8],
 ) -> Result<Said, OutOfMemory>
@@ -160,7 +160,7 @@ pub fn head_fault(kind: PacketKind, count: u8, bytes: &[u8]) -> Option<MessageEr
 fn with_all_answers(
     alloc: Global,
     line: Line,
-    known: &mut Known,
+    known: &mut KnownRegisters,
     packet: &PacketView<'_>,
     bytes: &[u8],
 ) -> Result<Said, OutOfMemory>
@@ -187,7 +187,7 @@ pub fn after_head(bytes: &[u8]) -> &[u8]
 fn with_packet_answers(
     alloc: Global,
     line: Line,
-    known: &mut Known,
+    known: &mut KnownRegisters,
     packet: &PacketView<'_>,
     bytes: &[u8],
 ) -> Result<Said, OutOfMemory>
@@ -269,7 +269,7 @@ fn with_unreplied(
 fn packet_said(
     alloc: Global,
     line: Line,
-    known: &mut Known,
+    known: &mut KnownRegisters,
     number: u64,
     size: usize,
     packet: &PacketView<'_>,
@@ -307,7 +307,7 @@ fn with_no_packet(line: Line, number: u64, fault: MessageError) -> Result<Line, 
 // What is no packet.
 fn no_packet(
     line: Line,
-    known: &mut Known,
+    known: &mut KnownRegisters,
     number: u64,
     fault: MessageError,
 ) -> Result<Said, OutOfMemory>
@@ -324,7 +324,7 @@ fn no_packet(
 fn said_of(
     alloc: Global,
     line: Line,
-    known: &mut Known,
+    known: &mut KnownRegisters,
     number: u64,
     packet: &[u8],
     reply: Option<&[u8]>,
@@ -363,7 +363,7 @@ fn trace_lines(alloc: Global, packet: &[u8], reply: Option<&[u8]>) -> Result<Lin
 /// of no use.
 pub fn exchange_words(
     alloc: Global,
-    known: &mut Known,
+    known: &mut KnownRegisters,
     number: u64,
     packet: &[u8],
     reply: Option<&[u8]>,

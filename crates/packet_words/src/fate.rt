@@ -6,7 +6,7 @@ ghost use Rattle.register_words.specs.Registers.{register_of};
 ghost use Rattle.packet_words.specs.Requests.{first_read_word, words_after_first, fate_of_read, executed, fate_of, left_after_request, after_done, after_request};
 
 use dap_messages::{Request, RequestKind};
-use register_words::{Known, register_of};
+use register_words::{KnownRegisters, register_of};
 use std::marker::Model;
 
 /// What became of a request.
@@ -112,7 +112,7 @@ impl<'a> Left<'a> {
 
 // What is known after a request that is no normal read was executed.
 #[tactic(auto, unfolding(crate::specs::Requests::after_done, register_words::specs::Registers::register_of))]
-fn execute(known: &mut Known, request: Request)
+fn execute(known: &mut KnownRegisters, request: Request)
     ensures { known.new ≡ after_done (kind_of request.byte) known.old (register_of known.old.select request.byte) request.word }
 {
     let register = register_of(known.select, request.byte);
@@ -125,7 +125,7 @@ fn execute(known: &mut Known, request: Request)
 
 // What is known after a request, by what became of it.
 #[tactic(auto, unfolding(crate::specs::Requests::after_request))]
-pub fn follow(known: &mut Known, request: Request, fate: Fate)
+pub fn follow(known: &mut KnownRegisters, request: Request, fate: Fate)
     ensures { known.new ≡ after_request known.old request fate }
 {
     let register = register_of(known.select, request.byte);

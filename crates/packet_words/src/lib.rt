@@ -11,6 +11,6 @@ mod replies;
 mod request_words;
 
 pub use accesses::{Accesses, exchange_accesses};
-pub use command_words::Reply;
+pub use command_words::GivenReply;
 pub use exchange::{Said, exchange_words};
 pub use fate::Fate;

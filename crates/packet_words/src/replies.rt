@@ -8,7 +8,7 @@ use dap_messages::{CommandValue, Commands, Request, RequestKind, Requests};
 
 // What the first requests of a transfer are.
 #[derive(Clone, Copy, Debug)]
-struct Executed {
+struct FirstRequests {
     // How many of them are normal reads.
     reads: usize,
     // Whether the last of them is a normal read of an AP register.
@@ -16,14 +16,14 @@ struct Executed {
 }
 
 // What the first so many requests are.
-fn first_requests(requests: &Requests<'_>, count: u8) -> Executed
+fn first_requests(requests: &Requests<'_>, count: u8) -> FirstRequests
     requires { count ≤ length requests.now }
     ensures reads { result.reads ≡ reads_in (take count requests.now) }
     ensures few { result.reads ≤ 255 }
     ensures posted { result.last_is_posted ≡ last_is_posted requests.now count }
 {
     let mut left = requests.iter();
-    let mut executed = Executed {
+    let mut executed = FirstRequests {
         reads: 0,
         last_is_posted: false,
     };
@@ -36,14 +36,14 @@ fn first_requests(requests: &Requests<'_>, count: u8) -> Executed
     executed
 }
 
-impl Executed {
+impl FirstRequests {
     // The same, where this request follows.
-    fn with(self, request: Request) -> Executed
+    fn with(self, request: Request) -> FirstRequests
         requires { self.reads < 255 }
         ensures reads { result.reads ≡ self.reads + (if gives_word (kind request) then 1 else 0) }
         ensures posted { result.last_is_posted ≡ is_posted (kind request) }
     {
-        Executed {
+        FirstRequests {
             reads: self.reads + usize::from(request.is_read()),
             last_is_posted: request.kind() == RequestKind::Posted,
         }
@@ -52,7 +52,7 @@ impl Executed {
 
 // How many words a reply has.
 #[tactic(auto, unfolding(crate::specs::Replies::words_in_reply))]
-fn words_given(executed: Executed, response: u8, size: usize) -> usize
+fn words_given(executed: FirstRequests, response: u8, size: usize) -> usize
     requires { executed.reads ≤ 255 }
     ensures value { result ≡ words_in_reply executed.reads executed.last_is_posted response size }
     ensures few { result ≤ 255 }

@@ -9,8 +9,8 @@ use crate::fate::{Fate, Left, follow};
 use dap_base::OutOfMemory;
 use dap_messages::{Request, RequestKind, Requests, WordBytes};
 use register_words::{
-    Known, Port, Register, register_of, with_abort, with_csw, with_ctrl_stat, with_register,
-    with_select,
+    KnownPort, KnownRegisters, Register, register_of, with_abort, with_csw, with_ctrl_stat,
+    with_register, with_select,
 };
 use target_machine::registers::{BD_BANK, CSW, DRW};
 use text_lines::Line;
@@ -28,7 +28,12 @@ fn mark(fate: Fate) -> &'static str
 
 // What is accessed.
 #[tactic(auto, unfolding(crate::specs::Requests::subject))]
-fn with_subject(line: Line, kind: RequestKind, known: &Known, byte: u8) -> Result<Line, OutOfMemory>
+fn with_subject(
+    line: Line,
+    kind: RequestKind,
+    known: &KnownRegisters,
+    byte: u8,
+) -> Result<Line, OutOfMemory>
     ensures { IfOk result (λ l. l ≡ line ++ subject kind known.now byte) }
 {
     match kind {
@@ -103,7 +108,7 @@ fn with_banked(line: Line, register: u8, tar: Option<u32>) -> Result<Line, OutOf
 #[tactic(auto, unfolding(crate::specs::Requests::port_note))]
 fn with_port_note(
     line: Line,
-    port: Port,
+    port: KnownPort,
     register: u8,
     value: Option<u32>,
 ) -> Result<Line, OutOfMemory>
@@ -124,7 +129,7 @@ fn with_port_note(
 #[tactic(auto, unfolding(crate::specs::Requests::note))]
 fn with_note(
     line: Line,
-    known: &Known,
+    known: &KnownRegisters,
     register: Register,
     value: Option<u32>,
 ) -> Result<Line, OutOfMemory>
@@ -144,7 +149,7 @@ fn with_note(
 #[tactic(auto, unfolding(crate::specs::Requests::match_note))]
 fn with_match_note(
     line: Line,
-    known: &Known,
+    known: &KnownRegisters,
     register: Register,
     word: u32,
 ) -> Result<Line, OutOfMemory>
@@ -162,7 +167,7 @@ fn with_match_note(
 fn with_done_note(
     line: Line,
     kind: RequestKind,
-    known: &Known,
+    known: &KnownRegisters,
     register: Register,
     word: u32,
 ) -> Result<Line, OutOfMemory>
@@ -179,7 +184,7 @@ fn with_done_note(
 #[tactic(auto, unfolding(crate::specs::Requests::request_note))]
 fn with_request_note(
     line: Line,
-    known: &Known,
+    known: &KnownRegisters,
     request: Request,
     fate: Fate,
 ) -> Result<Line, OutOfMemory>
@@ -207,7 +212,7 @@ fn with_mark(line: Line, byte: u8, fate: Fate) -> Result<Line, OutOfMemory>
 fn with_line(
     line: Line,
     kind: RequestKind,
-    known: &Known,
+    known: &KnownRegisters,
     request: Request,
     fate: Fate,
 ) -> Result<Line, OutOfMemory>
@@ -223,7 +228,7 @@ fn with_line(
 // The line of a request.
 fn with_request(
     line: Line,
-    known: &Known,
+    known: &KnownRegisters,
     request: Request,
     fate: Fate,
 ) -> Result<Line, OutOfMemory>
@@ -235,7 +240,7 @@ fn with_request(
 /// The lines of the requests of a transfer, where this is left of its reply.
 pub fn with_requests(
     line: Line,
-    known: &mut Known,
+    known: &mut KnownRegisters,
     requests: &Requests<'_>,
     left: Left<'_>,
 ) -> Result<Line, OutOfMemory>
@@ -257,7 +262,7 @@ pub fn with_requests(
 /// The lines of the words of a block, each as a request of this byte.
 pub fn with_block(
     line: Line,
-    known: &mut Known,
+    known: &mut KnownRegisters,
     byte: u8,
     words: &WordBytes<'_>,
     left: Left<'_>,

@@ -1,6 +1,6 @@
 -- Accesses of registers, and their order.
 use Rattle.std.specs.Prelude.{ℕ, ◌+◌, ◌-◌, ◌*◌, ◌/◌, ◌%◌, ◌==◌, nat_lt, if◌then◌else◌}
-use Rattle.register_words.specs.declared.access.Access.{Access}
+use Rattle.register_words.specs.declared.access.RegisterAccess.{RegisterAccess}
 use Rattle.register_words.specs.declared.register.Register.{Register}
 use Rattle.register_words.specs.declared.register.Register.TheVariants as at
 
@@ -23,7 +23,7 @@ register_place (at.UnknownAp addr) = 12 + addr / 4 % 4
 register_place (at.Ap ap register) = 16 + 64 * ap + register / 4
 
 -- the place of an access: the reads of a register, and then its writes
-abbrev pub place : Access → ℕ
+abbrev pub place : RegisterAccess → ℕ
 place access = 2 * register_place access.register + (if access.is_write then 1 else 0)
 
 -- the register of the debug port at a place below 12

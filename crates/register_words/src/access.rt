@@ -6,7 +6,7 @@ use crate::register::Register;
 
 /// A read or a write of a register.
 #[derive(Clone, Copy, Debug, PartialEq, Eq)]
-pub struct Access {
+pub struct RegisterAccess {
     pub register: Register,
     pub is_write: bool,
 }
@@ -35,7 +35,7 @@ fn register_place(register: Register) -> usize
     }
 }
 
-impl Access {
+impl RegisterAccess {
     /// The place of an access among all, below 32,800: the reads and the writes of a register are neighbours.
     pub fn place(self) -> usize
         ensures value { result ≡ place self }

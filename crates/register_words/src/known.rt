@@ -8,20 +8,20 @@ use target_machine::registers::{ADDRINC_SINGLE, CSW, CSW_ADDRINC, CSW_SIZE, DRW,
 
 /// CSW and TAR of an access port, each where it is known.
 #[derive(Clone, Copy, Debug, PartialEq, Eq)]
-pub struct Port {
+pub struct KnownPort {
     pub csw: Option<u32>,
     pub tar: Option<u32>,
 }
 
 /// SELECT, where it is known, and what is known of the access ports 0 to 255.
 #[derive(Clone, Debug, Drop)]
-pub struct Known {
+pub struct KnownRegisters {
     pub select: Option<u32>,
-    pub ports: [Port; 256],
+    pub ports: [KnownPort; 256],
 }
 
 // Nothing is known of a port.
-const UNKNOWN_PORT: Port = Port {
+const UNKNOWN_PORT: KnownPort = KnownPort {
     csw: None,
     tar: None,
 };
@@ -60,16 +60,16 @@ fn step_tar(csw: u32, tar: u32) -> Option<u32>
     }
 }
 
-impl Port {
+impl KnownPort {
     // One access of DRW.
-    fn after_access(self) -> Port
+    fn after_access(self) -> KnownPort
         ensures { result ≡ accessed self }
     {
         let tar = match (self.csw, self.tar) {
             (Some(csw), Some(tar)) => step_tar(csw, tar),
             _ => None,
         };
-        Port { tar, ..self }
+        KnownPort { tar, ..self }
     }
 
     // TAR after several accesses whose number is not known.
@@ -83,15 +83,15 @@ impl Port {
     }
 
     #[tactic(auto, unfolding(crate::specs::Known::port_written))]
-    fn after_write(self, register: u8, word: u32) -> Port
+    fn after_write(self, register: u8, word: u32) -> KnownPort
         ensures { result ≡ port_written self register word }
     {
         match register {
-            CSW => Port {
+            CSW => KnownPort {
                 csw: Some(word),
                 ..self
             },
-            TAR => Port {
+            TAR => KnownPort {
                 tar: Some(word),
                 ..self
             },
@@ -101,23 +101,23 @@ impl Port {
     }
 
     #[tactic(auto, unfolding(crate::specs::Known::port_read))]
-    fn read(self, register: u8, value: Option<u32>) -> Port
+    fn read(self, register: u8, value: Option<u32>) -> KnownPort
         ensures { result ≡ port_read self register value }
     {
         match register {
-            CSW => Port { csw: value, ..self },
-            TAR => Port { tar: value, ..self },
+            CSW => KnownPort { csw: value, ..self },
+            TAR => KnownPort { tar: value, ..self },
             DRW => self.after_access(),
             _ => self,
         }
     }
 
     #[tactic(auto, unfolding(crate::specs::Known::port_matched))]
-    fn after_match(self, register: u8) -> Port
+    fn after_match(self, register: u8) -> KnownPort
         ensures { result ≡ port_matched self register }
     {
         match register {
-            DRW => Port {
+            DRW => KnownPort {
                 tar: self.kept_tar(),
                 ..self
             },
@@ -126,12 +126,12 @@ impl Port {
     }
 }
 
-impl Known {
+impl KnownRegisters {
     /// Nothing is known.
-    pub fn new() -> Known
+    pub fn new() -> KnownRegisters
         ensures { result ≡ nothing_known }
     {
-        Known {
+        KnownRegisters {
             select: None,
             ports: [UNKNOWN_PORT; 256],
         }
@@ -152,13 +152,13 @@ impl Known {
     }
 
     /// What is known of the access port of this number.
-    pub fn port(&self, ap: u8) -> Port
+    pub fn port(&self, ap: u8) -> KnownPort
         ensures { result ≡ port_at self.now ap }
     {
         self.ports[ap as usize]
     }
 
-    fn set_port(&mut self, ap: u8, port: Port)
+    fn set_port(&mut self, ap: u8, port: KnownPort)
         ensures { self.new ≡ known_with_port self.old ap port }
     {
         self.ports[ap as usize] = port;

@@ -6,7 +6,7 @@ mod flags;
 mod known;
 mod register;
 
-pub use access::{Access, register_at};
+pub use access::{RegisterAccess, register_at};
 pub use flags::{line_name, with_abort, with_csw, with_ctrl_stat, with_pins, with_select};
-pub use known::{Known, Port};
+pub use known::{KnownPort, KnownRegisters};
 pub use register::{Register, register_of, with_register};

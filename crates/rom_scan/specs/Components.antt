@@ -8,7 +8,7 @@ use Rattle.target_calls.specs.declared.calls.Ask.{Ask}
 use Rattle.target_machine.specs.declared.unit.Unit.TheVariants as unit
 use Rattle.sequels.specs.Sequel.{Sequel, Asks, Ends, followed_by}
 use Rattle.rom_scan.specs.declared.component.Component.{Component}
-use Rattle.rom_scan.specs.declared.component.Known.{Known}
+use Rattle.rom_scan.specs.declared.component.ComponentId.{ComponentId}
 
 -- ---- what is asked
 
@@ -68,14 +68,14 @@ unfoldable pub component_at : ℕ → ℕ → ℕ → Sequel Component
 component_at ap address depth = followed_by (words_sequel ap 4 (address + 0xFF0) []) (λ cidr. by_words ap address depth cidr)
 
 -- how many words are read of a component
-abbrev pub words_read_of : Option Known → ℕ
+abbrev pub words_read_of : Option ComponentId → ℕ
 words_read_of None = 4
 words_read_of (Some k) = 9
 
 -- ---- its line
 
 -- what is known of it, to the end of the line
-abbrev pub component_details : Option Known → ℕ → List ℕ
+abbrev pub component_details : Option ComponentId → ℕ → List ℕ
 component_details None depth = codes " unknown depth " ++ decimal depth ++ codes "\n"
 component_details (Some k) depth = codes " class " ++ decimal k.class ++ codes " depth " ++ decimal depth ++ codes " id 0x" ++ encode_lower k.id ++ codes "\n"
 
@@ -86,7 +86,7 @@ component_line c = codes "component " ++ hex8 c.address ++ component_details c.k
 -- ---- its table
 
 -- a component of class 1 has a table of others
-abbrev pub is_table : Option Known → Bool
+abbrev pub is_table : Option ComponentId → Bool
 is_table None = false
 is_table (Some k) = k.class == 1
 

@@ -11,7 +11,7 @@ mod scanning;
 mod tables;
 mod walking;
 
-pub use component::{Component, Known};
+pub use component::{Component, ComponentId};
 pub use scan_end::ScanEnd;
 pub use scanning::{scan, scan_counting};
 pub use tables::Table;

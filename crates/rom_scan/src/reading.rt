@@ -6,7 +6,7 @@ ghost use Rattle.rom_scan.specs.Frame.{GivesAsking};
 ghost use Rattle.rom_scan.specs.Meets.{GivesEnd};
 
 use crate::asking::read_words;
-use crate::component::{Component, Known};
+use crate::component::{Component, ComponentId};
 use access_calls::{Access, Stop};
 
 // The low byte of a word.
@@ -34,7 +34,7 @@ fn known_as(address: u32, depth: u8, cidr: &[u32], fourth: &[u32], first: &[u32]
     Component {
         address,
         depth,
-        known: Some(Known {
+        known: Some(ComponentId {
             class: low(cidr[1]) / 16,
             id: [
                 low(fourth[0]),

@@ -1,6 +1,5 @@
 pub mod CallLemmas
 pub mod ItemLemmas
-pub mod NameLemmas
 pub mod CoverLemmas
 pub mod ShownLemmas
 pub mod ReachLemmas

@@ -11,7 +11,7 @@ ghost use Rattle.run_coverage.specs.Items.{branch_words, ran_words};
 ghost use Rattle.run_coverage.specs.Ran.{is_had};
 
 use crate::items::place_of;
-use crate::ran::{Ran, empty_slots, slot_of};
+use crate::ran::{RanStatement, empty_slots, slot_of};
 use crate::words::{if_words, statement_words, while_words};
 use dap_base::{OutOfMemory, Place};
 use expr_grammar::Stmt;
@@ -33,7 +33,7 @@ pub struct Coverage {
     pub(crate) alloc: Global,
     pub(crate) words: IndexSet<Vec<u8>>,
     // Statements that ran lately, each in its slot: of one that runs again no words are made.
-    pub(crate) recent: Vec<Option<Ran>>,
+    pub(crate) recent: Vec<Option<RanStatement>>,
     ghost had: { AllPass (is_had (λ own. list_any (λ k. bytes_eq own k.items) words.keys)) recent.items },
 }
 
@@ -98,7 +98,7 @@ impl Coverage {
         ensures { (other : List ℕ) → has self.new other ≡ has self.old other }
     {
         let slot = slot_of(sequence, path, place);
-        let ran = Ran::new(self.alloc, sequence, path, place)?;
+        let ran = RanStatement::new(self.alloc, sequence, path, place)?;
         if self.recent.is_empty() {
             self.recent = empty_slots(self.alloc)?;
         }

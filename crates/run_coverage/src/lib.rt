@@ -5,7 +5,6 @@ mod calls;
 mod coverage;
 mod items;
 pub mod laws;
-mod names;
 mod ran;
 mod reach;
 mod text;

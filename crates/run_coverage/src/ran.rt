@@ -15,23 +15,23 @@ const SLOTS: usize = 256;
 
 /// The place of a statement that ran.
 #[derive(Drop)]
-pub struct Ran {
+pub struct RanStatement {
     sequence: NameText,
     path: StepPath,
     place: Place,
 }
 
-impl Ran {
+impl RanStatement {
     /// A statement in a step of a sequence. `OutOfMemory` where memory is refused.
     pub fn new(
         alloc: Global,
         sequence: &str,
         path: &[u64],
         place: Place,
-    ) -> Result<Ran, OutOfMemory>
+    ) -> Result<RanStatement, OutOfMemory>
         ensures { IfOk result (λ ran. ran_item_words ran ≡ ran_words (spot_in_step sequence.now path.now parts.Block place)) }
     {
-        Ok(Ran {
+        Ok(RanStatement {
             sequence: NameText::new(alloc, sequence)?,
             path: copy_path(alloc, path)?,
             place,
@@ -48,7 +48,7 @@ impl Ran {
 
 /// Slots in which nothing is remembered. `OutOfMemory` where memory is refused.
 #[tactic(auto, using(crate::proofs::RanLemmas::none_had))]
-pub fn empty_slots(alloc: Global) -> Result<Vec<Option<Ran>>, OutOfMemory>
+pub fn empty_slots(alloc: Global) -> Result<Vec<Option<RanStatement>>, OutOfMemory>
     ensures { IfOk result (λ slots. (has : List ℕ → Bool) → AllPass (is_had has) slots.items) }
 {
     let mut slots = Vec::new(alloc);

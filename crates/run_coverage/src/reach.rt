@@ -2,11 +2,11 @@
 ghost use Rattle.std.specs.Prelude.{◌≡◌, ◌++◌, IfOk, OnOk, map, string_bytes};
 ghost use Rattle.std.specs.List.{flat_map};
 ghost use Rattle.seq_check.specs.Answers.{checked_trees};
-ghost use Rattle.run_coverage.specs.Reach.{one_deeper, reached_names, sequence_names};
+ghost use Rattle.run_coverage.specs.Reach.{names_with_more, one_deeper, reached_names, sequence_names};
 
 use crate::calls::push_names;
-use crate::names::Names;
-use dap_base::{ItemList, OutOfMemory, Words};
+use code_check::Names;
+use dap_base::{ItemList, NameText, OutOfMemory, Words};
 use seq_check::Checked;
 use sequence_rules::MOST_CALLS_DEEP;
 use std::alloc::Global;
@@ -37,12 +37,22 @@ fn called_by(alloc: Global, checked: &Checked, names: &[String]) -> Result<Words
     Ok(called)
 }
 
+// Adds names, one after the other.
+fn add_names(alloc: Global, names: &mut Names, more: &[NameText]) -> Result<(), OutOfMemory>
+    ensures { OnOk result (names.new ≡ names_with_more names.old more.now) }
+{
+    for name in more {
+        names.add(alloc, name.as_str())?;
+    }
+    Ok(())
+}
+
 // Adds the sequences that these call.
 fn go_deeper(alloc: Global, checked: &Checked, names: &mut Names) -> Result<(), OutOfMemory>
     ensures { OnOk result (names.new ≡ one_deeper (checked_trees checked.now) names.old) }
 {
     let called = called_by(alloc, checked, names.as_slice())?;
-    names.add_all(alloc, called.as_slice())
+    add_names(alloc, names, called.as_slice())
 }
 
 /// The sequences that the run of a sequence can reach, itself first.

@@ -4,7 +4,7 @@ use Rattle.dap_base.specs.declared.text.Place.{Place}
 use Rattle.sequence_trees.specs.declared.spot.Part.{Part}
 use Rattle.set_warnings.specs.declared.warning.Warning.{Warning}
 use Rattle.set_warnings.specs.declared.warning.WarningKind.{WarningKind}
-use Rattle.set_warnings.specs.declared.site.Site.{Site}
+use Rattle.set_warnings.specs.declared.site.PartSite.{PartSite}
 
 -- a part of a step of a sequence
 pub record PartAt : Type 0 where
@@ -18,5 +18,5 @@ warning_at kind at place name =
     record { kind = kind; spot = record { sequence = Some at.sequence; path = at.path; part = at.part; place = place }; name = name }
 
 -- the part that a site is: what private contracts cite
-abbrev pub part_at : Site → PartAt
+abbrev pub part_at : PartSite → PartAt
 part_at s = record { sequence = s.sequence.now; path = s.path.now; part = s.part }

@@ -4,7 +4,7 @@ ghost use Rattle.expr_grammar.specs.Tree.{tree, arg_tree, arg_trees, stmt_tree, 
 ghost use Rattle.set_warnings.specs.Sites.{part_at};
 ghost use Rattle.set_warnings.specs.Assigned.{assignment_warnings, tree_warnings, arg_warnings, args_warnings, statement_warnings, block_warnings, condition_warnings};
 
-use crate::site::{Site, add_warning};
+use crate::site::{PartSite, add_warning};
 use crate::warning::{Warning, WarningKind};
 use code_check::Names;
 use dap_base::{ItemList, OutOfMemory};
@@ -15,7 +15,7 @@ use std::alloc::Global;
 fn add_assigned(
     alloc: Global,
     vars: &Names,
-    site: Site<'_>,
+    site: PartSite<'_>,
     name: &Name,
     found: &mut ItemList<Warning>,
 ) -> Result<(), OutOfMemory>
@@ -33,7 +33,7 @@ fn add_assigned(
 fn add_expr(
     alloc: Global,
     vars: &Names,
-    site: Site<'_>,
+    site: PartSite<'_>,
     expr: &Expr,
     found: &mut ItemList<Warning>,
 ) -> Result<(), OutOfMemory>
@@ -64,7 +64,7 @@ fn add_expr(
 fn add_arg(
     alloc: Global,
     vars: &Names,
-    site: Site<'_>,
+    site: PartSite<'_>,
     arg: &Arg,
     found: &mut ItemList<Warning>,
 ) -> Result<(), OutOfMemory>
@@ -80,7 +80,7 @@ fn add_arg(
 fn add_args(
     alloc: Global,
     vars: &Names,
-    site: Site<'_>,
+    site: PartSite<'_>,
     args: &[Arg],
     found: &mut ItemList<Warning>,
 ) -> Result<(), OutOfMemory>
@@ -95,7 +95,7 @@ fn add_args(
 fn add_statement(
     alloc: Global,
     vars: &Names,
-    site: Site<'_>,
+    site: PartSite<'_>,
     statement: &Stmt,
     found: &mut ItemList<Warning>,
 ) -> Result<(), OutOfMemory>
@@ -112,7 +112,7 @@ fn add_statement(
 pub fn add_block(
     alloc: Global,
     vars: &Names,
-    site: Site<'_>,
+    site: PartSite<'_>,
     code: &[Stmt],
     found: &mut ItemList<Warning>,
 ) -> Result<(), OutOfMemory>
@@ -128,7 +128,7 @@ pub fn add_block(
 pub fn add_condition(
     alloc: Global,
     vars: &Names,
-    site: Site<'_>,
+    site: PartSite<'_>,
     condition: &Option<Expr>,
     found: &mut ItemList<Warning>,
 ) -> Result<(), OutOfMemory>

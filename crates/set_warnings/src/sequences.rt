@@ -11,7 +11,7 @@ ghost use Rattle.set_warnings.specs.Steps.{steps_warnings};
 ghost use Rattle.set_warnings.specs.Sequences.{uncalled_warnings, steps_in, debug_variables, entry_warnings, entries_warnings, AreCalledFlags};
 
 use crate::called::{called_flags, is_predefined};
-use crate::site::{Site, add_warning};
+use crate::site::{PartSite, add_warning};
 use crate::steps::add_steps;
 use crate::warning::{Warning, WarningKind};
 use code_check::Names;
@@ -66,7 +66,7 @@ fn add_uncalled(
     if is_predefined(name) || is_called {
         return Ok(());
     }
-    let site = Site {
+    let site = PartSite {
         sequence: name,
         path: &[],
         part: Part::Control,

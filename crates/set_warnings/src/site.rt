@@ -9,7 +9,7 @@ use std::alloc::Global;
 
 /// A part of a step: the name of its sequence, and the path to it.
 #[derive(Clone, Copy)]
-pub struct Site<'a> {
+pub struct PartSite<'a> {
     pub sequence: &'a str,
     pub path: &'a [u64],
     pub part: Part,
@@ -28,7 +28,7 @@ fn copy_name(alloc: Global, name: Option<&str>) -> Result<Option<NameText>, OutO
 pub fn add_warning(
     alloc: Global,
     kind: WarningKind,
-    site: Site<'_>,
+    site: PartSite<'_>,
     place: Place,
     name: Option<&str>,
     found: &mut ItemList<Warning>,

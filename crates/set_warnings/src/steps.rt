@@ -7,7 +7,7 @@ ghost use Rattle.set_warnings.specs.Assigned.{block_warnings};
 ghost use Rattle.set_warnings.specs.Steps.{own_warnings, part_at_path, step_warnings, steps_warnings};
 
 use crate::assigned::{add_block, add_condition};
-use crate::site::Site;
+use crate::site::PartSite;
 use crate::waits::{add_long, add_wait};
 use crate::warning::Warning;
 use code_check::Names;
@@ -30,7 +30,7 @@ fn add_own(
 ) -> Result<(), OutOfMemory>
     ensures { OnOk result (found.new ≡ found.old ++ own_warnings vars.now sequence.now path.now (option_map tree cond.now) (option_map tree repeat.now) timeout (steps_tree steps.now)) }
 {
-    let at = |part| Site {
+    let at = |part| PartSite {
         sequence,
         path,
         part,
@@ -56,7 +56,7 @@ fn add_step(
     match step {
         CheckedStep::Block(code) => {
             let part = Part::Block;
-            let site = Site {
+            let site = PartSite {
                 sequence,
                 path,
                 part,

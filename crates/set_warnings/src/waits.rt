@@ -6,7 +6,7 @@ ghost use Rattle.sequence_rules.specs.Polls.{ungrouped, only_arg};
 ghost use Rattle.set_warnings.specs.Sites.{part_at};
 ghost use Rattle.set_warnings.specs.Waits as spec;
 
-use crate::site::{Site, add_warning};
+use crate::site::{PartSite, add_warning};
 use crate::warning::{Warning, WarningKind};
 use dap_base::{ItemList, OutOfMemory, Place};
 use expr_grammar::{Arg, BinaryOp, Expr, Name};
@@ -18,7 +18,7 @@ use std::alloc::Global;
 const TURN_US: u32 = 10;
 
 // A form that is there, and the first name in it.
-type Form<'a> = Option<Option<&'a Name>>;
+type FirstName<'a> = Option<Option<&'a Name>>;
 
 // The expression in groups of parentheses.
 fn strip_groups(expr: &Expr) -> &Expr
@@ -31,7 +31,7 @@ fn strip_groups(expr: &Expr) -> &Expr
 }
 
 // The literal 4, or a name.
-fn four_form(expr: &Expr) -> Form<'_>
+fn four_form(expr: &Expr) -> FirstName<'_>
     ensures { option_map (option_map (λ n. n.now)) result ≡ spec.four_form (tree expr.now) }
 {
     match expr {
@@ -42,7 +42,7 @@ fn four_form(expr: &Expr) -> Form<'_>
 }
 
 // A literal of at most 32 bits, or a name.
-fn word_form(expr: &Expr) -> Form<'_>
+fn word_form(expr: &Expr) -> FirstName<'_>
     ensures { option_map (option_map (λ n. n.now)) result ≡ spec.word_form (tree expr.now) }
 {
     match expr {
@@ -53,7 +53,7 @@ fn word_form(expr: &Expr) -> Form<'_>
 }
 
 // The first name of two forms, one after the other.
-fn both_forms<'a>(first: Form<'a>, second: Form<'a>) -> Form<'a>
+fn both_forms<'a>(first: FirstName<'a>, second: FirstName<'a>) -> FirstName<'a>
     ensures { option_map (option_map (λ n. n.now)) result ≡ spec.both_forms (option_map (option_map (λ n. n.now)) first.entry) (option_map (option_map (λ n. n.now)) second.entry) }
 {
     match (first, second) {
@@ -64,7 +64,7 @@ fn both_forms<'a>(first: Form<'a>, second: Form<'a>) -> Form<'a>
 }
 
 // An argument, as the address.
-fn arg_form(arg: &Arg) -> Form<'_>
+fn arg_form(arg: &Arg) -> FirstName<'_>
     ensures { option_map (option_map (λ n. n.now)) result ≡ spec.address_form (Some (arg_tree arg.now)) }
 {
     match arg {
@@ -74,7 +74,7 @@ fn arg_form(arg: &Arg) -> Form<'_>
 }
 
 // The only argument, as the address.
-fn address_form(args: &[Arg]) -> Form<'_>
+fn address_form(args: &[Arg]) -> FirstName<'_>
     ensures { option_map (option_map (λ n. n.now)) result ≡ spec.address_form (only_arg (arg_trees args.now)) }
 {
     match args {
@@ -85,7 +85,7 @@ fn address_form(args: &[Arg]) -> Form<'_>
 }
 
 // `ReadDP(ADDRESS)`.
-fn read_form(expr: &Expr) -> Form<'_>
+fn read_form(expr: &Expr) -> FirstName<'_>
     ensures { option_map (option_map (λ n. n.now)) result ≡ spec.read_form (tree expr.now) }
 {
     match expr {
@@ -101,7 +101,7 @@ fn read_form(expr: &Expr) -> Form<'_>
 }
 
 // `ReadDP(ADDRESS) & MASK`.
-fn masked_form(expr: &Expr) -> Form<'_>
+fn masked_form(expr: &Expr) -> FirstName<'_>
     ensures { option_map (option_map (λ n. n.now)) result ≡ spec.masked_form (tree expr.now) }
 {
     match expr {
@@ -114,7 +114,7 @@ fn masked_form(expr: &Expr) -> Form<'_>
 }
 
 // `(ReadDP(ADDRESS) & MASK) != VALUE`.
-fn wait_form(expr: &Expr) -> Form<'_>
+fn wait_form(expr: &Expr) -> FirstName<'_>
     ensures { option_map (option_map (λ n. n.now)) result ≡ spec.wait_form (tree expr.now) }
 {
     match expr {
@@ -139,7 +139,7 @@ fn wait_name<'a>(expr: &'a Expr, steps: &[CheckedStep]) -> Option<&'a Name>
 /// Adds a `while` with these steps that waits by a name.
 pub fn add_wait(
     alloc: Global,
-    site: Site<'_>,
+    site: PartSite<'_>,
     repeat: &Option<Expr>,
     steps: &[CheckedStep],
     found: &mut ItemList<Warning>,
@@ -167,7 +167,7 @@ fn is_long(repeat: &Option<Expr>, timeout: Option<u64>) -> bool
 /// Adds a control itself whose `while` has more turns than a run may have units.
 pub fn add_long(
     alloc: Global,
-    site: Site<'_>,
+    site: PartSite<'_>,
     repeat: &Option<Expr>,
     timeout: Option<u64>,
     found: &mut ItemList<Warning>,

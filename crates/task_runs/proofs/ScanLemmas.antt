@@ -30,7 +30,7 @@ use Rattle.rom_scan.specs.Scans.{Scans}
 use Rattle.rom_scan.specs.Walk.{Walked, scanned}
 use Rattle.rom_scan.specs.Written.{AppendsComponents}
 use Rattle.rom_scan.specs.declared.component.Component.{Component}
-use Rattle.rom_scan.specs.declared.component.Known.{Known}
+use Rattle.rom_scan.specs.declared.component.ComponentId.{ComponentId}
 use Rattle.rom_scan.specs.declared.scan_end.ScanEnd.{ScanEnd}
 use Rattle.task_runs.specs.Following.{CameToEnd, FollowsAs, LeftInMiddle, SequelStopsAt, Shares}
 use Rattle.task_runs.specs.Tasks.{scan_close, scanning}
@@ -38,7 +38,7 @@ use Rattle.task_runs.specs.declared.following.Unclosed.TheVariants as unclosed
 
 -- ---- lines
 
-known_ended : (known : Option Known) (depth : ℕ) → (front : List ℕ) × (component_details known depth ≡ front ++ codes "\n")
+known_ended : (known : Option ComponentId) (depth : ℕ) → (front : List ℕ) × (component_details known depth ≡ front ++ codes "\n")
 known_ended None depth = (codes " unknown depth " ++ decimal depth, refl)
 known_ended (Some k) depth = (codes " class " ++ decimal k.class ++ codes " depth " ++ decimal depth ++ codes " id 0x" ++ encode_lower k.id, refl)
 

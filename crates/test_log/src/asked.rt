@@ -1,7 +1,7 @@
 //! What words ask for, as text.
 
 use dap_base::NameText;
-use log_words::{Asked, WordsError, asked_of};
+use log_words::{LogCommand, WordsError, asked_of};
 use std::alloc::{AllocError, Global};
 use test_calls::words_in;
 
@@ -14,7 +14,7 @@ fn name_or_dash(name: &Option<NameText>) -> &str {
 }
 
 // What is asked for.
-fn show_asked(alloc: Global, asked: &Asked) -> Result<String, AllocError> {
+fn show_asked(alloc: Global, asked: &LogCommand) -> Result<String, AllocError> {
     let selection = &asked.selection;
     let names = format!(in alloc;
         "device {} variant {} pname {} sequence {}",

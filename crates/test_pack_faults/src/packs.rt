@@ -1,7 +1,7 @@
 //! All faults of a pack, as lines.
 use dap_base::{NameText, OutOfMemory};
 use device_tree::{Pack, pack_of};
-use pack_faults::{PackFault, PackFaults, PackRefusal, Request, SetName, pack_faults};
+use pack_faults::{PackFault, PackFaults, PackRefusal, PackRequest, SetName, pack_faults};
 use serde_json::Value;
 use std::alloc::{AllocError, Global};
 
@@ -31,8 +31,8 @@ fn name_of(alloc: Global, words: &str, name: &str) -> Result<Option<NameText>, O
     }
 }
 
-fn request_of(alloc: Global, words: &str) -> Result<Request, OutOfMemory> {
-    Ok(Request {
+fn request_of(alloc: Global, words: &str) -> Result<PackRequest, OutOfMemory> {
+    Ok(PackRequest {
         device: name_of(alloc, words, "device")?,
         variant: name_of(alloc, words, "variant")?,
         pname: name_of(alloc, words, "pname")?,
@@ -76,7 +76,7 @@ fn fault_lines(alloc: Global, faults: &PackFaults) -> Result<String, AllocError>
     Ok(lines)
 }
 
-fn pack_lines(alloc: Global, pack: &Pack, request: &Request) -> Result<String, AllocError> {
+fn pack_lines(alloc: Global, pack: &Pack, request: &PackRequest) -> Result<String, AllocError> {
     match pack_faults(alloc, pack, request) {
         Ok(faults) => fault_lines(alloc, &faults),
         Err(PackRefusal::OutOfMemory) => Err(AllocError),

@@ -8,22 +8,22 @@ use file::MemoryFile;
 use std::alloc::Global;
 use std::io;
 use test_tables::{Row, Tally, table_of};
-use trace_compare::{FileSource, Status, dapseq_words};
+use trace_compare::{CompareStatus, FileSource, dapseq_words};
 
 // What parts the two traces of a row.
 const PARTED: &[u8] = b"AGAINST\n";
 
 // How a call ended.
-fn status_text(status: Status) -> &'static str {
+fn status_text(status: CompareStatus) -> &'static str {
     match status {
-        Status::Done => "status 0\n",
-        Status::Wrong => "status 1\n",
-        Status::Usage => "status 2\n",
-        Status::ReadFault => "status 5\n",
-        Status::FileFault => "status 5 of the file\n",
-        Status::NotOpened => "status 5 without the file\n",
-        Status::WriteFault => "status 6\n",
-        Status::OutOfMemory => "status 7\n",
+        CompareStatus::Done => "status 0\n",
+        CompareStatus::Wrong => "status 1\n",
+        CompareStatus::Usage => "status 2\n",
+        CompareStatus::ReadFault => "status 5\n",
+        CompareStatus::FileFault => "status 5 of the file\n",
+        CompareStatus::NotOpened => "status 5 without the file\n",
+        CompareStatus::WriteFault => "status 6\n",
+        CompareStatus::OutOfMemory => "status 7\n",
     }
 }
 
@@ -48,7 +48,7 @@ fn traces_of(input: &[u8]) -> (&[u8], &[u8]) {
 }
 
 // Makes the call of a row. A name with a dot is that of a file of the folder that the program runs in.
-fn call(rt: &HostRuntime, row: &Row, sink: &mut MemorySink) -> Result<Status, OutOfMemory> {
+fn call(rt: &HostRuntime, row: &Row, sink: &mut MemorySink) -> Result<CompareStatus, OutOfMemory> {
     let alloc = rt.alloc();
     let words = words_of(alloc, row.form.as_str())?;
     let (trace, against) = traces_of(row.input.as_slice());

@@ -6,11 +6,11 @@ use Rattle.dap_base.specs.Streams.{AppendsPrefix}
 use Rattle.text_lines.specs.Shown.{shown}
 use Rattle.trace_words.specs.Words.{words_of_trace, are_good}
 use Rattle.trace_compare.specs.Comparison.{are_alike, words_against}
-use Rattle.trace_compare.specs.declared.call.Status.{Status}
-use Rattle.trace_compare.specs.declared.call.Status.TheVariants as status
+use Rattle.trace_compare.specs.declared.call.CompareStatus.{CompareStatus}
+use Rattle.trace_compare.specs.declared.call.CompareStatus.TheVariants as status
 
 -- the status as the number with which the program ends
-abbrev pub words_exit_code : Status → ℕ
+abbrev pub words_exit_code : CompareStatus → ℕ
 words_exit_code status.Done = 0
 words_exit_code status.Wrong = 1
 words_exit_code status.Usage = 2
@@ -31,7 +31,7 @@ file_named other = None
 
 -- What is written for these bytes of a trace, by how the call ended. It is all words, and whether each packet and reply is one. At a fault it is
 -- a part of the words, from the front.
-abbrev pub WritesWords : List ℕ → Status → Option (List ℕ) → Option (List ℕ) → Type 0
+abbrev pub WritesWords : List ℕ → CompareStatus → Option (List ℕ) → Option (List ℕ) → Type 0
 WritesWords bytes status.Done old new = Appends old new (words_of_trace bytes) × (are_good bytes ≡ true)
 WritesWords bytes status.Wrong old new = Appends old new (words_of_trace bytes) × (are_good bytes ≡ false)
 WritesWords bytes status.ReadFault old new = AppendsPrefix old new (words_of_trace bytes)
@@ -41,7 +41,7 @@ WritesWords bytes other old new = ⊥
 
 -- The same for these bytes of a trace and of the one that it is compared with. It is the whole comparison, and whether both are alike. At a
 -- fault it is a part of it.
-abbrev pub WritesAgainst : List ℕ → List ℕ → Status → Option (List ℕ) → Option (List ℕ) → Type 0
+abbrev pub WritesAgainst : List ℕ → List ℕ → CompareStatus → Option (List ℕ) → Option (List ℕ) → Type 0
 WritesAgainst bytes others status.Done old new = Appends old new (words_against bytes others) × (are_alike bytes others ≡ true)
 WritesAgainst bytes others status.Wrong old new = Appends old new (words_against bytes others) × (are_alike bytes others ≡ false)
 WritesAgainst bytes others status.Usage old new = ⊥
@@ -53,14 +53,14 @@ unfoldable pub not_opened_line : List ℕ → List ℕ
 not_opened_line name = codes "file " ++ shown name ++ codes " cannot be opened\n"
 
 -- what is written where it cannot be, by how the call ended
-abbrev pub WritesRefusal : List ℕ → Status → Option (List ℕ) → Option (List ℕ) → Type 0
+abbrev pub WritesRefusal : List ℕ → CompareStatus → Option (List ℕ) → Option (List ℕ) → Type 0
 WritesRefusal name status.NotOpened old new = Appends old new (not_opened_line name)
 WritesRefusal name status.WriteFault old new = AppendsPrefix old new (not_opened_line name)
 WritesRefusal name status.OutOfMemory old new = new ≡ old
 WritesRefusal name other old new = ⊥
 
 -- a comparison with the file of this name, or its refusal
-abbrev pub WritesFile : List ℕ → List ℕ → List ℕ → Status → Option (List ℕ) → Option (List ℕ) → Type 0
+abbrev pub WritesFile : List ℕ → List ℕ → List ℕ → CompareStatus → Option (List ℕ) → Option (List ℕ) → Type 0
 WritesFile name bytes others result old new = WritesAgainst bytes others result old new ⊎ WritesRefusal name result old new
 
 -- the line of a wrong call
@@ -68,7 +68,7 @@ abbrev pub words_usage_line : List ℕ
 words_usage_line = codes "usage dapseq_words [--against FILE] < TRACE\n"
 
 -- what is written at a wrong call, by how it ended
-abbrev pub WritesUsage : Status → Option (List ℕ) → Option (List ℕ) → Type 0
+abbrev pub WritesUsage : CompareStatus → Option (List ℕ) → Option (List ℕ) → Type 0
 WritesUsage status.Usage old new = Appends old new words_usage_line
 WritesUsage status.WriteFault old new = AppendsPrefix old new words_usage_line
 WritesUsage other old new = ⊥

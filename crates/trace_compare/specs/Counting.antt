@@ -1,8 +1,8 @@
 -- What is kept from one event of a trace to the next.
 use Rattle.std.specs.Prelude.{ℕ, Bool, true, false, List, [], ◌∷◌}
 use Rattle.packet_words.specs.Accesses.{exchange_accesses}
-use Rattle.register_words.specs.declared.access.Access.{Access}
-use Rattle.register_words.specs.declared.known.Known.{Known}
+use Rattle.register_words.specs.declared.access.RegisterAccess.{RegisterAccess}
+use Rattle.register_words.specs.declared.known.KnownRegisters.{KnownRegisters}
 use Rattle.trace_events.specs.declared.event.Event.{Event}
 use Rattle.trace_events.specs.declared.event.Event.TheVariants as event
 use Rattle.trace_words.specs.Telling.{Telling, first_telling, next_exchange_number, tell}
@@ -22,7 +22,7 @@ abbrev pub begin : Counting
 begin = record { telling = first_telling; counts = no_counts; wrong = 0 }
 
 -- the register accesses of an event that were made
-abbrev pub accesses_of_event : Known → Event → List Access
+abbrev pub accesses_of_event : KnownRegisters → Event → List RegisterAccess
 accesses_of_event known (event.Exchange packet reply) = exchange_accesses known packet reply
 accesses_of_event known (event.Stray reply) = []
 accesses_of_event known (event.Other bytes) = []

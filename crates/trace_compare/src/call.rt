@@ -14,7 +14,7 @@ use trace_words::{TraceEnd, trace_words};
 
 /// How a call of `dapseq_words` ended.
 #[derive(Clone, Copy, Debug, PartialEq, Eq)]
-pub enum Status {
+pub enum CompareStatus {
     /// Each packet and reply is one; two traces are alike.
     Done,
     /// Some packet or reply is none, or two traces differ.
@@ -33,30 +33,30 @@ pub enum Status {
     OutOfMemory,
 }
 
-impl Status {
+impl CompareStatus {
     /// The number with which the program ends: 0, 1 and 2 in the order of the variants, 5 where an input failed, then 6
     /// and 7.
     pub fn code(&self) -> u8
         ensures { result ≡ words_exit_code self.now }
     {
         match self {
-            Status::Done => 0,
-            Status::Wrong => 1,
-            Status::Usage => 2,
-            Status::ReadFault | Status::FileFault | Status::NotOpened => 5,
-            Status::WriteFault => 6,
-            Status::OutOfMemory => 7,
+            CompareStatus::Done => 0,
+            CompareStatus::Wrong => 1,
+            CompareStatus::Usage => 2,
+            CompareStatus::ReadFault | CompareStatus::FileFault | CompareStatus::NotOpened => 5,
+            CompareStatus::WriteFault => 6,
+            CompareStatus::OutOfMemory => 7,
         }
     }
 }
 
 // The line of a wrong call.
-fn write_usage<K: Sink>(sink: &mut K) -> Status
+fn write_usage<K: Sink>(sink: &mut K) -> CompareStatus
     ensures { WritesInto WritesUsage result K.written K.faults sink.old sink.new }
 {
     match sink.put(b"usage dapseq_words [--against FILE] < TRACE\n") {
-        Ok(()) => Status::Usage,
-        Err(_) => Status::WriteFault,
+        Ok(()) => CompareStatus::Usage,
+        Err(_) => CompareStatus::WriteFault,
     }
 }
 
@@ -80,31 +80,31 @@ fn refusal_line(alloc: Global, name: &str) -> Result<Line, OutOfMemory>
 }
 
 // Writes it.
-fn write_refusal<K: Sink>(alloc: Global, name: &str, sink: &mut K) -> Status
+fn write_refusal<K: Sink>(alloc: Global, name: &str, sink: &mut K) -> CompareStatus
     ensures { WritesInto (WritesRefusal name.now) result K.written K.faults sink.old sink.new }
 {
     let Ok(line) = refusal_line(alloc, name) else {
-        return Status::OutOfMemory;
+        return CompareStatus::OutOfMemory;
     };
     match sink.put(line.as_bytes()) {
-        Ok(()) => Status::NotOpened,
-        Err(_) => Status::WriteFault,
+        Ok(()) => CompareStatus::NotOpened,
+        Err(_) => CompareStatus::WriteFault,
     }
 }
 
 // A call without words.
-fn write_words<S: Source, K: Sink>(alloc: Global, source: &mut S, sink: &mut K) -> Status
+fn write_words<S: Source, K: Sink>(alloc: Global, source: &mut S, sink: &mut K) -> CompareStatus
     ensures words { (bytes : List ℕ) → S.left source.old ≡ Some bytes → WritesWords bytes result (K.written sink.old) (K.written sink.new) }
-    ensures source { Blames Status.ReadFault result (S.faults source.old) (S.faults source.new) }
-    ensures sink { Blames Status.WriteFault result (K.faults sink.old) (K.faults sink.new) }
+    ensures source { Blames CompareStatus.ReadFault result (S.faults source.old) (S.faults source.new) }
+    ensures sink { Blames CompareStatus.WriteFault result (K.faults sink.old) (K.faults sink.new) }
     ensures file { is_of_file result ≡ false }
 {
     match trace_words(alloc, source, sink) {
-        Ok(true) => Status::Done,
-        Ok(false) => Status::Wrong,
-        Err(TraceEnd::ReadFault) => Status::ReadFault,
-        Err(TraceEnd::WriteFault) => Status::WriteFault,
-        Err(TraceEnd::OutOfMemory) => Status::OutOfMemory,
+        Ok(true) => CompareStatus::Done,
+        Ok(false) => CompareStatus::Wrong,
+        Err(TraceEnd::ReadFault) => CompareStatus::ReadFault,
+        Err(TraceEnd::WriteFault) => CompareStatus::WriteFault,
+        Err(TraceEnd::OutOfMemory) => CompareStatus::OutOfMemory,
     }
 }
 
@@ -114,18 +114,18 @@ fn write_comparison<S: Source, F: Source, K: Sink>(
     source: &mut S,
     file: &mut F,
     sink: &mut K,
-) -> Status
+) -> CompareStatus
     ensures text { (bytes others : List ℕ) → S.left source.old ≡ Some bytes → F.left file.old ≡ Some others
         → WritesAgainst bytes others result (K.written sink.old) (K.written sink.new) }
     ensures faults { BlamesEach result (S.faults source.old) (S.faults source.new) (F.faults file.old) (F.faults file.new) (K.faults sink.old) (K.faults sink.new) }
 {
     match compare_traces(alloc, source, file, sink) {
-        Ok(true) => Status::Done,
-        Ok(false) => Status::Wrong,
-        Err(CompareEnd::ReadFault) => Status::ReadFault,
-        Err(CompareEnd::AgainstFault) => Status::FileFault,
-        Err(CompareEnd::WriteFault) => Status::WriteFault,
-        Err(CompareEnd::OutOfMemory) => Status::OutOfMemory,
+        Ok(true) => CompareStatus::Done,
+        Ok(false) => CompareStatus::Wrong,
+        Err(CompareEnd::ReadFault) => CompareStatus::ReadFault,
+        Err(CompareEnd::AgainstFault) => CompareStatus::FileFault,
+        Err(CompareEnd::WriteFault) => CompareStatus::WriteFault,
+        Err(CompareEnd::OutOfMemory) => CompareStatus::OutOfMemory,
     }
 }
 
@@ -136,7 +136,7 @@ fn write_against<S: Source, F: NamedFile, K: Sink>(
     source: &mut S,
     file: &mut F,
     sink: &mut K,
-) -> Status
+) -> CompareStatus
     ensures text { (bytes others : List ℕ) → S.left source.old ≡ Some bytes → F.contents file.old name.now ≡ Some others
         → WritesFile name.now bytes others result (K.written sink.old) (K.written sink.new) }
     ensures faults { BlamesEach result (S.faults source.old) (S.faults source.new) (F.faults file.old) (F.faults file.new) (K.faults sink.old) (K.faults sink.new) }
@@ -157,7 +157,7 @@ pub fn dapseq_words<S: Source, F: NamedFile, K: Sink>(
     source: &mut S,
     file: &mut F,
     sink: &mut K,
-) -> Status
+) -> CompareStatus
     // The words of all bytes of the source, where they are known; at a fault a part of them, from the front.
     ensures words { words.now ≡ [] → (bytes : List ℕ) → S.left source.old ≡ Some bytes
         → WritesWords bytes result (K.written sink.old) (K.written sink.new) }
@@ -170,9 +170,9 @@ pub fn dapseq_words<S: Source, F: NamedFile, K: Sink>(
     ensures unread { words.now ≢ [] → file_named words.now ≡ None → source.new ≡ source.old }
     ensures unopened { file_named words.now ≡ None → file.new ≡ file.old }
     // A fault is that of the object that failed.
-    ensures source { Blames Status.ReadFault result (S.faults source.old) (S.faults source.new) }
+    ensures source { Blames CompareStatus.ReadFault result (S.faults source.old) (S.faults source.new) }
     ensures file { BlamesFile result (F.faults file.old) (F.faults file.new) }
-    ensures sink { Blames Status.WriteFault result (K.faults sink.old) (K.faults sink.new) }
+    ensures sink { Blames CompareStatus.WriteFault result (K.faults sink.old) (K.faults sink.new) }
 {
     if words.is_empty() {
         return write_words(alloc, source, sink);

@@ -12,7 +12,7 @@ use dap_base::OutOfMemory;
 use packet_words::exchange_accesses;
 use std::alloc::Global;
 use std::marker::Model;
-use trace_events::{Bytes, Event};
+use trace_events::{Event, PacketBytes};
 use trace_words::{Teller, slice_of};
 
 /// What is kept from one event of a trace to the next.
@@ -86,7 +86,7 @@ impl Counter {
     }
 
     // The exchange that an event is, with these words.
-    fn exchange_of(&self, event: Event, words: Bytes) -> Option<Exchange>
+    fn exchange_of(&self, event: Event, words: PacketBytes) -> Option<Exchange>
         ensures { result ≡ exchange_of self.now.telling.number words event }
     {
         match event {

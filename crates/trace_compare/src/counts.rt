@@ -3,7 +3,7 @@ ghost use Rattle.std.specs.Prelude.{◌≡◌, ◌<◌, IfOk, slice_index, vec_l
 ghost use Rattle.trace_compare.specs.Counts.{zero_counts, no_counts, counts_with_access, all_counted};
 
 use dap_base::OutOfMemory;
-use register_words::Access;
+use register_words::RegisterAccess;
 use std::alloc::Global;
 use std::marker::Model;
 
@@ -49,7 +49,7 @@ impl Counts {
 
     // One access more.
     #[tactic(auto, unfolding(crate::specs::Counts::counts_with_access))]
-    fn add(&mut self, access: Access)
+    fn add(&mut self, access: RegisterAccess)
         ensures { self.new ≡ counts_with_access self.old access }
     {
         let place = access.place();
@@ -57,7 +57,7 @@ impl Counts {
     }
 
     /// Accesses, one after the other.
-    pub fn add_all(&mut self, accesses: &[Access])
+    pub fn add_all(&mut self, accesses: &[RegisterAccess])
         ensures { self.new ≡ all_counted self.old accesses.now }
     {
         for access in accesses {

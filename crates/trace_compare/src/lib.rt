@@ -13,6 +13,6 @@ mod texts;
 mod trace;
 mod traces;
 
-pub use call::{Status, dapseq_words};
+pub use call::{CompareStatus, dapseq_words};
 pub use compare::{CompareEnd, compare_traces};
 pub use file::{FileSource, NamedFile};

@@ -40,10 +40,7 @@ fn put_counts<K: Sink>(
     ensures { PutsOnly (place_count_lines 32800 first.now second.now) result K.written K.faults sink.old sink.new }
 {
     for place in 0..PLACES {
-        match put_count(alloc, place, first.get(place), second.get(place), sink) {
-            Ok(()) => {}
-            Err(end) => return Err(end),
-        }
+        put_count(alloc, place, first.get(place), second.get(place), sink)?;
     }
     Ok(())
 }
@@ -57,11 +54,9 @@ pub fn put_summary<K: Sink>(
 ) -> Result<(), CompareEnd>
     ensures { PutsOnly (summary first.now second.now) result K.written K.faults sink.old sink.new }
 {
-    match put_line(
+    put_line(
         wrong_line(alloc, first.count_wrong(), second.count_wrong()),
         sink,
-    ) {
-        Ok(()) => put_counts(alloc, first.counts(), second.counts(), sink),
-        Err(end) => Err(end),
-    }
+    )?;
+    put_counts(alloc, first.counts(), second.counts(), sink)
 }

@@ -8,32 +8,36 @@ use dap_base::OutOfMemory;
 use register_words::{register_at, with_register};
 use std::alloc::Global;
 use text_lines::Line;
-use trace_events::Bytes;
+use trace_events::PacketBytes;
 
 // All exchanges are the same.
 #[tactic(auto, unfolding(crate::specs::Texts::alike_text))]
-fn alike_text(alloc: Global, number: u64) -> Result<Bytes, OutOfMemory>
+fn alike_text(alloc: Global, number: u64) -> Result<PacketBytes, OutOfMemory>
     ensures { IfOk result (λ text. text ≡ alike_text number) }
 {
     let line = Line::begin(alloc, "exchanges alike: ")?;
     let line = line.decimal(number)?.text("\n")?;
-    Bytes::copy_of(alloc, line.as_bytes())
+    PacketBytes::copy_of(alloc, line.as_bytes())
 }
 
 // A line with the number of an exchange, and its words.
 #[tactic(auto, unfolding(crate::specs::Texts::exchange_text))]
-fn text_of(alloc: Global, exchange: &Exchange, what: &str) -> Result<Bytes, OutOfMemory>
+fn text_of(alloc: Global, exchange: &Exchange, what: &str) -> Result<PacketBytes, OutOfMemory>
     ensures { IfOk result (λ text. text ≡ exchange_text exchange.now what.now) }
 {
     let line = Line::begin(alloc, "exchange ")?;
     let line = line.decimal(exchange.number)?.text(what)?;
-    let mut text = Bytes::copy_of(alloc, line.as_bytes())?;
+    let mut text = PacketBytes::copy_of(alloc, line.as_bytes())?;
     text.push(exchange.words.as_slice())?;
     Ok(text)
 }
 
 // Two exchanges that are not the same.
-fn differ_text(alloc: Global, first: &Exchange, second: &Exchange) -> Result<Bytes, OutOfMemory>
+fn differ_text(
+    alloc: Global,
+    first: &Exchange,
+    second: &Exchange,
+) -> Result<PacketBytes, OutOfMemory>
     ensures { IfOk result (λ text. text ≡ exchange_text first.now (codes " differs\n") ++ codes "against\n" ++ second.now.words) }
 {
     let mut text = text_of(alloc, first, " differs\n")?;
@@ -43,7 +47,7 @@ fn differ_text(alloc: Global, first: &Exchange, second: &Exchange) -> Result<Byt
 }
 
 /// The exchanges after so many that are the same.
-pub fn two_text(alloc: Global, last: u64, two: &Two) -> Result<Bytes, OutOfMemory>
+pub fn two_text(alloc: Global, last: u64, two: &Two) -> Result<PacketBytes, OutOfMemory>
     ensures { IfOk result (λ text. text ≡ two_text last two.now.trace two.now.against) }
 {
     match (&two.trace, &two.against) {

@@ -7,11 +7,11 @@ use std::marker::Model;
 
 /// Bytes, seen by contracts as their list.
 #[derive(Debug, Drop)]
-pub struct Bytes {
+pub struct PacketBytes {
     items: Vec<u8>,
 }
 
-impl Model for Bytes {
+impl Model for PacketBytes {
     ghost use Rattle.std.specs.Prelude.{ℕ, List};
 
     ghost Value = { List ℕ };
@@ -19,21 +19,21 @@ impl Model for Bytes {
     ghost view = { λ b. b.items.items };
 }
 
-impl Bytes {
+impl PacketBytes {
     /// No bytes. Nothing is allocated.
-    pub fn new(alloc: Global) -> Bytes
+    pub fn new(alloc: Global) -> PacketBytes
         ensures { result ≡ [] }
     {
-        Bytes {
+        PacketBytes {
             items: Vec::new(alloc),
         }
     }
 
     // These bytes, without a copy.
-    pub fn of(items: Vec<u8>) -> Bytes
+    pub fn of(items: Vec<u8>) -> PacketBytes
         ensures { result ≡ items.items }
     {
-        Bytes { items }
+        PacketBytes { items }
     }
 
     /// Adds bytes at the end. `OutOfMemory` where memory is refused.
@@ -44,11 +44,11 @@ impl Bytes {
     }
 
     /// A copy of these bytes. `OutOfMemory` where memory is refused.
-    pub fn copy_of(alloc: Global, bytes: &[u8]) -> Result<Bytes, OutOfMemory>
+    pub fn copy_of(alloc: Global, bytes: &[u8]) -> Result<PacketBytes, OutOfMemory>
         ensures { IfOk result (λ copy. copy ≡ bytes.now) }
     {
         match Vec::from_slice(alloc, bytes) {
-            Ok(items) => Ok(Bytes { items }),
+            Ok(items) => Ok(PacketBytes { items }),
             Err(_) => Err(OutOfMemory),
         }
     }

@@ -8,6 +8,6 @@ mod events;
 mod input;
 mod reading;
 
-pub use bytes::Bytes;
+pub use bytes::PacketBytes;
 pub use event::Event;
 pub use events::{Events, ReadEnd};

@@ -4,8 +4,8 @@ ghost use Rattle.trace_events.specs.Inputs.{GivesFirstItem};
 ghost use Rattle.trace_events.specs.Readings.{first_reading, answer, take_packet, take_entry, step_at_line_end, take_byte, step_at_last_line, end_events};
 ghost use Rattle.trace_events.specs.Steps.{Steps};
 
-use crate::bytes::Bytes;
-use crate::entry::{Entry, entry_in};
+use crate::bytes::PacketBytes;
+use crate::entry::{PacketOrReply, entry_in};
 use crate::event::Event;
 use dap_base::OutOfMemory;
 use std::alloc::Global;
@@ -21,9 +21,9 @@ const LONGEST: usize = 4096;
 #[derive(Drop)]
 pub struct Reading {
     // The packets that have no reply yet, the oldest first.
-    waiting: Vec<Bytes>,
+    waiting: Vec<PacketBytes>,
     // The line so far.
-    line: Bytes,
+    line: PacketBytes,
     // Whether it is longer than the longest, and is passed on as it comes.
     is_long: bool,
 }
@@ -37,7 +37,7 @@ impl Model for Reading {
 }
 
 // A line that is neither a packet nor a reply, with the bytes that ended it.
-fn other_event(line: Bytes, ended: &[u8]) -> Result<Option<Event>, OutOfMemory>
+fn other_event(line: PacketBytes, ended: &[u8]) -> Result<Option<Event>, OutOfMemory>
     ensures { IfOk result (λ event. event ≡ Some (Event.Other (line ++ ended.now))) }
 {
     let mut line = line;
@@ -51,14 +51,14 @@ impl Reading {
     {
         Reading {
             waiting: Vec::new(alloc),
-            line: Bytes::new(alloc),
+            line: PacketBytes::new(alloc),
             is_long: false,
         }
     }
 
     // A reply, or the end of waiting for one, for the oldest packet that waits.
     #[tactic(auto, unfolding(crate::specs::Readings::answer))]
-    fn answer(&mut self, reply: Option<Bytes>) -> Option<Event>
+    fn answer(&mut self, reply: Option<PacketBytes>) -> Option<Event>
         ensures { Steps (answer self.old reply) result self.new }
     {
         if self.waiting.is_empty() {
@@ -69,7 +69,7 @@ impl Reading {
     }
 
     // One packet more waits.
-    fn wait(&mut self, packet: Bytes) -> Result<(), OutOfMemory>
+    fn wait(&mut self, packet: PacketBytes) -> Result<(), OutOfMemory>
         ensures { OnOk result (self.new ≡ record self.old { waiting = self.old.waiting ++ packet ∷ [] }) }
     {
         self.waiting.push(packet).map_err(|_| OutOfMemory)
@@ -77,7 +77,7 @@ impl Reading {
 
     // A packet waits for its reply.
     #[tactic(auto, unfolding(crate::specs::Readings::take_packet))]
-    fn packet(&mut self, packet: Bytes) -> Result<Option<Event>, OutOfMemory>
+    fn packet(&mut self, packet: PacketBytes) -> Result<Option<Event>, OutOfMemory>
         ensures { IfOk result (λ event. Steps (take_packet self.old packet) event self.new) }
     {
         if self.waiting.len() < MOST_WAITING {
@@ -89,10 +89,10 @@ impl Reading {
         Ok(event)
     }
 
-    fn entry(&mut self, entry: Entry) -> Result<Option<Event>, OutOfMemory>
+    fn entry(&mut self, entry: PacketOrReply) -> Result<Option<Event>, OutOfMemory>
         ensures { IfOk result (λ event. Steps (take_entry self.old (entry.is_reply, entry.bytes)) event self.new) }
     {
-        let Entry { is_reply, bytes } = entry;
+        let PacketOrReply { is_reply, bytes } = entry;
         if is_reply {
             Ok(self.answer(Some(bytes)))
         } else {
@@ -101,11 +101,11 @@ impl Reading {
     }
 
     // The line so far is taken out.
-    fn take_line(&mut self, alloc: Global) -> Bytes
+    fn take_line(&mut self, alloc: Global) -> PacketBytes
         ensures line { result ≡ self.old.line }
         ensures rest { self.new ≡ record self.old { line = [] } }
     {
-        std::mem::replace(&mut self.line, Bytes::new(alloc))
+        std::mem::replace(&mut self.line, PacketBytes::new(alloc))
     }
 
     // A line ends, by these bytes.

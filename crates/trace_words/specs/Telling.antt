@@ -2,7 +2,7 @@
 use Rattle.std.specs.Prelude.{ℕ, ◌+◌, ◌-◌, ◌^◌, Bool, true, false, ◌&&◌, List, [], ◌∷◌, ◌++◌, min, codes, Option}
 use Rattle.hex.specs.Hex.{encode_lower}
 use Rattle.packet_words.specs.Exchange.{Said, exchange}
-use Rattle.register_words.specs.declared.known.Known.{Known}
+use Rattle.register_words.specs.declared.known.KnownRegisters.{KnownRegisters}
 use Rattle.register_words.specs.Known.{nothing_known}
 use Rattle.trace_events.specs.declared.event.Event.{Event}
 use Rattle.trace_events.specs.declared.event.Event.TheVariants as event
@@ -12,7 +12,7 @@ pub record Telling : Type 0 where
   -- the number of the last exchange
   pub number : ℕ
   -- what is known of the registers
-  pub known : Known
+  pub known : KnownRegisters
   -- whether each packet and reply so far is one
   pub good : Bool
 

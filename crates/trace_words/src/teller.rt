@@ -7,11 +7,11 @@ ghost use Rattle.trace_words.specs.Tells.{Tells};
 
 use dap_base::OutOfMemory;
 use packet_words::exchange_words;
-use register_words::Known;
+use register_words::KnownRegisters;
 use std::alloc::Global;
 use std::marker::Model;
 use text_lines::Line;
-use trace_events::{Bytes, Event};
+use trace_events::{Event, PacketBytes};
 
 /// The words of events, one after the other, with what is kept from one to the next.
 #[derive(Debug, Drop)]
@@ -19,7 +19,7 @@ pub struct Teller {
     // The number of the last exchange.
     number: u64,
     // What is known of the registers.
-    known: Known,
+    known: KnownRegisters,
     // Whether each packet and reply so far is one.
     is_good: bool,
 }
@@ -33,7 +33,7 @@ impl Model for Teller {
 }
 
 /// The bytes of a reply, where there is one, lent without a copy.
-pub fn slice_of(reply: &Option<Bytes>) -> Option<&[u8]>
+pub fn slice_of(reply: &Option<PacketBytes>) -> Option<&[u8]>
     ensures { option_copied result ≡ reply.now }
 {
     match reply {
@@ -43,7 +43,7 @@ pub fn slice_of(reply: &Option<Bytes>) -> Option<&[u8]>
 }
 
 // The lines of a reply that no packet waits for.
-fn stray_line(alloc: Global, reply: &[u8]) -> Result<Bytes, OutOfMemory>
+fn stray_line(alloc: Global, reply: &[u8]) -> Result<PacketBytes, OutOfMemory>
     ensures { IfOk result (λ text. text ≡ stray_line reply.now) }
 {
     let Ok(digits) = hex::encode(alloc, reply) else {
@@ -52,7 +52,7 @@ fn stray_line(alloc: Global, reply: &[u8]) -> Result<Bytes, OutOfMemory>
     let line = Line::begin(alloc, "< ")?
         .text(digits.as_str())?
         .text("\nno packet for this reply\n")?;
-    Bytes::copy_of(alloc, line.as_bytes())
+    PacketBytes::copy_of(alloc, line.as_bytes())
 }
 
 impl Teller {
@@ -62,7 +62,7 @@ impl Teller {
     {
         Teller {
             number: 0,
-            known: Known::new(),
+            known: KnownRegisters::new(),
             is_good: true,
         }
     }
@@ -75,7 +75,7 @@ impl Teller {
     }
 
     /// What is known of the registers.
-    pub fn known_registers(&self) -> &Known
+    pub fn known_registers(&self) -> &KnownRegisters
         ensures { result.now ≡ self.now.known }
     {
         &self.known
@@ -102,17 +102,17 @@ impl Teller {
         alloc: Global,
         packet: &[u8],
         reply: Option<&[u8]>,
-    ) -> Result<Bytes, OutOfMemory>
+    ) -> Result<PacketBytes, OutOfMemory>
         ensures { IfOk result (λ text. Tells (told_said self.old (exchange self.old.known (next_exchange_number self.old.number) packet.now (option_copied reply.entry))) text self.new) }
     {
         self.number = self.number.saturating_add(1);
         let said = exchange_words(alloc, &mut self.known, self.number, packet, reply)?;
         self.is_good = self.is_good && said.is_good;
-        Bytes::copy_of(alloc, said.line.as_bytes())
+        PacketBytes::copy_of(alloc, said.line.as_bytes())
     }
 
     /// The words of an event, after those before it. `OutOfMemory` where memory is refused; what is kept is then of no use.
-    pub fn tell(&mut self, alloc: Global, event: &Event) -> Result<Bytes, OutOfMemory>
+    pub fn tell(&mut self, alloc: Global, event: &Event) -> Result<PacketBytes, OutOfMemory>
         ensures { IfOk result (λ text. Tells (tell self.old event.now) text self.new) }
     {
         match event {
@@ -123,7 +123,7 @@ impl Teller {
                 self.is_good = false;
                 stray_line(alloc, reply.as_slice())
             }
-            Event::Other(bytes) => Bytes::copy_of(alloc, bytes.as_slice()),
+            Event::Other(bytes) => PacketBytes::copy_of(alloc, bytes.as_slice()),
         }
     }
 }

@@ -12,10 +12,10 @@ ghost use Rattle.batch_packer.specs.Polling.{AreTurns, PollsBy, matched_read, pa
 
 use super::Flight;
 use crate::ends::FlightEnd;
-use crate::poll::{Config, PollAsk, send_poll};
+use crate::poll::{PollAsk, send_poll};
 use crate::single::send_single;
 use dap_messages::Command;
-use probe_core::Bench;
+use probe_core::{Bench, Config};
 
 impl Flight {
     // Sends a command of a flight that has not ended.

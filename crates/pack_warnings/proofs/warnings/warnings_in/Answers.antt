@@ -4,7 +4,7 @@ use Rattle.std.proofs.lemmas.List.Elements.{All-get_or}
 use Rattle.std.proofs.lemmas.Option.{get_or_from_slice_get}
 use Rattle.pack_faults.specs.declared.sets.SetRef.{SetRef}
 use Rattle.pack_faults.specs.Views.{set_view}
-use Rattle.pack_warnings.specs.declared.lined.LinedSet.{LinedSet}
+use Rattle.pack_warnings.specs.declared.lined.LinedWarnings.{LinedWarnings}
 use Rattle.pack_warnings.specs.Answers.{AreFound, AreMerged}
 use Rattle.pack_warnings.specs.Lined.{lined_warning_view, lined_set_view, IsFoundAt}
 use Rattle.pack_warnings.specs.Merged.{with_each_warning}
@@ -21,7 +21,7 @@ loop-number-preserved c = record {
       let one = c.index-found-at.result in
       let is : IsFoundAt pack all s = subst (IsFoundAt pack all) (sym c.index-sets-number.is) (All-get_or (IsFoundAt pack all) sets i s c.loop-number-test.true found) in
       let same : one ≡ is.one = c.index-found-at.is ∙ get_or_from_slice_get all s.number is.one one is.there in
-      let are = subst (λ (x : LinedSet). AreFound pack (set_view s) (lined_set_view x)) (sym same) is.is in
+      let are = subst (λ (x : LinedWarnings). AreFound pack (set_view s) (lined_set_view x)) (sym same) is.is in
       merged_more pack sets i s (lined_set_view one) c.loop-number.warnings.list.items c.add_warnings.new.warnings.list.items c.loop-number-test.true c.index-sets-number.is
       (c.loop-number.invariant.done pack found) are
       (c.in_ok-add_warnings.ensures.list ∙ ap (λ ls. with_each_warning i (map lined_warning_view ls) c.loop-number.warnings.list.items) c.as_slice.ensures));

@@ -1,8 +1,8 @@
 use Rattle.std.proofs.Common.{ℕ, List, Some, cond, ap, ◌∙◌, bytes_eq, string_bytes}
 use Rattle.std.proofs.lemmas.Map.Text.{hash_map_updates_text}
 use Rattle.dbgconf_text.specs.Values.{value_in}
-use Rattle.dbgconf_text.proofs.values.Values.put.Goals as goal
-use Rattle.dbgconf_text.proofs.values.Values.put.Goals.{in-Ok-insert, in-Err}
+use Rattle.dbgconf_text.proofs.values.NamedValues.put.Goals as goal
+use Rattle.dbgconf_text.proofs.values.NamedValues.put.Goals.{in-Ok-insert, in-Err}
 
 pub returns : goal.returns
 returns c =
