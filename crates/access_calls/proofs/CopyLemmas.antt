@@ -12,7 +12,7 @@ use Rattle.target_calls.specs.NeedPoints.{Asks, nothing_asked}
 use Rattle.target_calls.specs.World.{World, stop, results, stops_here, next_world, done_now, end_result, later_by, world_after, left_at}
 use Rattle.target_calls.specs.declared.calls.Ask.{Ask}
 use Rattle.access_calls.specs.Answers.{StopsCalls, StopsOrSettles, StopsSettling}
-use Rattle.access_calls.specs.Copy.{Copied, CopyIsDone, CopyIsStopped, IsCopyEnd, copied, copied_by, line, read_word, write_word}
+use Rattle.access_calls.specs.Copy.{Copied, CopyIsDone, CopyIsStopped, IsCopyEnd, copy_result, copied_by, line, read_word, write_word}
 use Rattle.access_calls.specs.Reported.{Beginning, AccessView, began, start_of, world_of, world_from}
 use Rattle.access_calls.specs.Standing.{AccessStands, StandsAt, WhereObservable}
 use Rattle.access_calls.specs.declared.stop.Stop.{Stop}
@@ -32,7 +32,7 @@ abbrev pub both : ℕ → ℕ → ℕ → List Ask
 both from to value = read_ask from ∷ write_ask to value ∷ []
 
 -- the first call stops
-at_read : (w : World) (from to : ℕ) (a : AccessView) (old : Option (List ℕ)) → stop w (read_ask from ∷ []) ≡ Some (a.lines + 1) → CopyIsStopped a (copied w from to) old old
+at_read : (w : World) (from to : ℕ) (a : AccessView) (old : Option (List ℕ)) → stop w (read_ask from ∷ []) ≡ Some (a.lines + 1) → CopyIsStopped a (copy_result w from to) old old
 at_read w from to a old e = by_test (stops_here w (read_ask from)) refl e
   where
     by_test : (b : Bool) → stops_here w (read_ask from) ≡ b → cond b (Some 1) (later_by 1 None) ≡ Some (a.lines + 1)
@@ -42,7 +42,7 @@ at_read w from to a old e = by_test (stops_here w (read_ask from)) refl e
 
 -- the second call stops, where `value` is the result of the first
 at_write : (w : World) (from to : ℕ) (a : AccessView) (old : Option (List ℕ)) (value : ℕ) → value ≡ slice_index (results w (read_ask from ∷ [])) 0
-    → stop w (both from to value) ≡ Some (a.lines + 1) → CopyIsStopped a (copied w from to) old old
+    → stop w (both from to value) ≡ Some (a.lines + 1) → CopyIsStopped a (copy_result w from to) old old
 at_write w from to a old value is e = by_test (stops_here w (read_ask from)) refl is e
   where
     second : (w : World) (v : ℕ) (x : Bool) → stops_here w (write_ask to v) ≡ x → later_by 1 (cond x (Some 1) (later_by 1 None)) ≡ Some (a.lines + 1)
@@ -66,7 +66,7 @@ pub record IsWhole (c : Copied) (last : World) : Type 0 where
 
 -- neither call stops
 at_end : (w : World) (from to value : ℕ) → value ≡ slice_index (results w (read_ask from ∷ [])) 0 → stop w (both from to value) ≡ None
-    → IsWhole (copied w from to) (world_after w (both from to value))
+    → IsWhole (copy_result w from to) (world_after w (both from to value))
 at_end w from to value is e = by_test (stops_here w (read_ask from)) refl is e
   where
     second : (w : World) (v : ℕ) (x : Bool) → stops_here w (write_ask to v) ≡ x → later_by 1 (cond x (Some 1) (later_by 1 None)) ≡ None
@@ -84,14 +84,14 @@ at_end w from to value is e = by_test (stops_here w (read_ask from)) refl is e
 
 -- ---- the exits, by how the access stopped
 
-stopped_read : (w : World) (from to : ℕ) (a : AccessView) (s : Stop) (old : Option (List ℕ)) → StopsCalls w (read_ask from ∷ []) a.lines s → IsCopyEnd (Stopped s) a (copied w from to) old old
+stopped_read : (w : World) (from to : ℕ) (a : AccessView) (s : Stop) (old : Option (List ℕ)) → StopsCalls w (read_ask from ∷ []) a.lines s → IsCopyEnd (Stopped s) a (copy_result w from to) old old
 stopped_read w from to a (Cut r) old stops = at_read w from to a old stops.so
 stopped_read w from to a (BenchFault issued confirmed) old stops = tt
 stopped_read w from to a ReplyBad old stops = tt
 stopped_read w from to a OutOfMemory old stops = tt
 
 stopped_write : (w : World) (from to : ℕ) (a : AccessView) (s : Stop) (old : Option (List ℕ)) (value : ℕ) → value ≡ slice_index (results w (read_ask from ∷ [])) 0
-    → StopsCalls w (both from to value) a.lines s → IsCopyEnd (Stopped s) a (copied w from to) old old
+    → StopsCalls w (both from to value) a.lines s → IsCopyEnd (Stopped s) a (copy_result w from to) old old
 stopped_write w from to a (Cut r) old value is stops = at_write w from to a old value is stops.so
 stopped_write w from to a (BenchFault issued confirmed) old value is stops = tt
 stopped_write w from to a ReplyBad old value is stops = tt
@@ -100,7 +100,7 @@ stopped_write w from to a OutOfMemory old value is stops = tt
 -- ---- the same, with the facts as the calls give them
 
 pub first_stops : (w : World) (from to : ℕ) (a : AccessView) (s : Stop) (old : Option (List ℕ)) (asks : Asks) (u : AccessUnit) → asks ≡ nothing_asked → u ≡ read_word from
-    → StopsCalls w (asks.calls ++ unit_ask u false ∷ []) a.lines s → IsCopyEnd (Stopped s) a (copied w from to) old old
+    → StopsCalls w (asks.calls ++ unit_ask u false ∷ []) a.lines s → IsCopyEnd (Stopped s) a (copy_result w from to) old old
 first_stops w from to a s old asks u fresh is stops =
     stopped_read w from to a s old (subst (λ (x : Asks × AccessUnit). StopsCalls w (x.0.calls ++ unit_ask x.1 false ∷ []) a.lines s) (λ j. (fresh j, is j)) stops)
 
@@ -117,18 +117,18 @@ was_read w from asks u one two index value fresh is first slot same result =
     record { calls_are = same ∙ calls; value_is = result ∙ (λ j. slice_index (results w (calls j)) (zero_is j)) }
 
 pub second_stops : (w : World) (from to : ℕ) (a : AccessView) (s : Stop) (old : Option (List ℕ)) (calls : List Ask) (value : ℕ) (u : AccessUnit) → IsRead w from calls value
-    → u ≡ write_word to value → StopsCalls w (calls ++ unit_ask u false ∷ []) a.lines s → IsCopyEnd (Stopped s) a (copied w from to) old old
+    → u ≡ write_word to value → StopsCalls w (calls ++ unit_ask u false ∷ []) a.lines s → IsCopyEnd (Stopped s) a (copy_result w from to) old old
 second_stops w from to a s old calls value u read is stops = stopped_write w from to a s old value read.value_is
     (subst (λ (x : List Ask × AccessUnit). StopsCalls w (x.0 ++ unit_ask x.1 false ∷ []) a.lines s) (λ j. (read.calls_are j, is j)) stops)
 
 pub flush_stops : (w : World) (from to : ℕ) (a : AccessView) (s : Stop) (old : Option (List ℕ)) (calls next : List Ask) (value : ℕ) (u : AccessUnit) → IsRead w from calls value
-    → u ≡ write_word to value → next ≡ calls ++ unit_ask u false ∷ [] → StopsCalls w next a.lines s → IsCopyEnd (Stopped s) a (copied w from to) old old
+    → u ≡ write_word to value → next ≡ calls ++ unit_ask u false ∷ [] → StopsCalls w next a.lines s → IsCopyEnd (Stopped s) a (copy_result w from to) old old
 flush_stops w from to a s old calls next value u read is more stops =
     second_stops w from to a s old calls value u read is (subst (λ x. StopsCalls w x a.lines s) more stops)
 
 -- both calls were made
 pub record IsWritten (w : World) (from to : ℕ) (calls : List Ask) (last : World) : Type 0 where
-  pub whole : IsWhole (copied w from to) last
+  pub whole : IsWhole (copy_result w from to) last
   pub two : length calls ≡ 2
   pub mark : is_settled (settled_last calls) ≡ true
   pub after : world_after w (settled_last calls) ≡ last
@@ -156,20 +156,20 @@ settled_target j None a b t stands none settled is = stands
 settled_target j (Some m) a b t stands none settled is = subst (λ u. Agree (target_of m.probe) u) is (settled_open a.end (j (start_of b) a.asks.calls) a b m stands none settled)
 
 pub finished_done : (j : TargetState → List Ask → List Entry) (m : BenchState) (n : Option ℕ) (from to : ℕ) (a : AccessView) (calls : List Ask) (old new : Option (List ℕ)) (last : World)
-    → IsWritten (world_from m n) from to calls last → Appends old new line → AccessStands j a (began m n) → a.end ≡ None → a.asks.calls ≡ settled_last calls → CopyIsDone a (copied (world_from m n) from to) old new
+    → IsWritten (world_from m n) from to calls last → Appends old new line → AccessStands j a (began m n) → a.end ≡ None → a.asks.calls ≡ settled_last calls → CopyIsDone a (copy_result (world_from m n) from to) old new
 finished_done j m n from to a calls old new last wrote put stands none is = record {
   whole = wrote.whole.whole;
   written = subst (λ bytes. Appends old new bytes) (sym wrote.whole.written) put;
-  target = settled_target j a.state a (began m n) (copied (world_from m n) from to).world.target stands none (ap is_settled is ∙ wrote.mark)
+  target = settled_target j a.state a (began m n) (copy_result (world_from m n) from to).world.target stands none (ap is_settled is ∙ wrote.mark)
       (ap (λ x. (world_after (world_from m n) x).target) is ∙ ap (λ (w : World). w.target) (wrote.after ∙ sym wrote.whole.world));
 }
 
 pub finish_stops : (w : World) (from to : ℕ) (a : AccessView) (s : Stop) (old new : Option (List ℕ)) (calls : List Ask) (last : World) → IsWritten w from to calls last → Appends old new line
-    → stop w calls ≡ None → StopsSettling w calls a.lines s → IsCopyEnd (Stopped s) a (copied w from to) old new
+    → stop w calls ≡ None → StopsSettling w calls a.lines s → IsCopyEnd (Stopped s) a (copy_result w from to) old new
 finish_stops w from to a (Cut r) old new calls last wrote put whole stops =
     record { place = placed r.cause stops.so; written = subst (λ bytes. Appends old new bytes) (sym wrote.whole.written) put }
   where
-    placed : (why : StopCause) → StopsOrSettles why w calls a.lines → ((copied w from to).stopped ≡ Some (a.lines + 1)) ⊎ (((copied w from to).stopped ≡ None) × (a.lines ≡ 2))
+    placed : (why : StopCause) → StopsOrSettles why w calls a.lines → ((copy_result w from to).stopped ≡ Some (a.lines + 1)) ⊎ (((copy_result w from to).stopped ≡ None) × (a.lines ≡ 2))
     placed Faulted e = absurd (cc)
     placed NoAnswer (inl e) = absurd (cc)
     placed NoAnswer (inr e) = inr (wrote.whole.whole, e.1 ∙ wrote.two)

@@ -42,8 +42,8 @@ copied_by w ask =
     else record { stopped = None; written = line; world = next_world w ask }
 
 -- The copy in a world: the read, and then the write of what it gave.
-abbrev pub copied : World → ℕ → ℕ → Copied
-copied w from to =
+abbrev pub copy_result : World → ℕ → ℕ → Copied
+copy_result w from to =
     let read = unit_ask (read_word from) false in
     if stops_here w read then record { stopped = Some 1; written = []; world = w }
     else copied_by (next_world w read) (unit_ask (write_word to (end_result (done_now w read).end)) false)

@@ -3,7 +3,7 @@ use Rattle.std.specs.Prelude.{◌≡◌, ◌⊎◌, ℕ, ◌+◌, ◌-◌, ◌^�
 use Rattle.dap_base.specs.Causes.{Rose}
 use Rattle.target_machine.specs.Fresh.{IsFresh}
 use Rattle.target_machine.specs.InRange.{IsInRange}
-use Rattle.dap_transfer.specs.Lines.{configured}
+use Rattle.dap_transfer.specs.Lines.{configured_state}
 use Rattle.probe_core.specs.Bench.{BenchState, Seen, StepsTo}
 use Rattle.probe_core.specs.Bench.{Reported as BenchReported}
 use Rattle.probe_core.specs.Probe.{ExecutorState, ended_retries_of, target_of, work_of}
@@ -36,22 +36,22 @@ pub record MayBegin (m : BenchState) : Type 0 where
   pub retries : ended_retries_of m.probe + 1 < 2 ^ 32
 
 -- what executes packets after the settings of the transfers: idle cycles, retries after WAIT, and match retry 0
-abbrev pub opened : Config → ExecutorState → ExecutorState
-opened config e = record e { idle = config.idle; transfers = configured e.transfers config.retry 0 }
+abbrev pub opened_state : Config → ExecutorState → ExecutorState
+opened_state config e = record e { idle = config.idle; transfers = configured_state e.transfers config.retry 0 }
 
 -- The state from which an access counts over a bench: the one before the opening exchanges, with the settings that they make. So the
 -- starting packets of the opening are counted.
 abbrev pub opened_bench : Config → BenchState → BenchState
-opened_bench config m = record m { probe = record m.probe { executor = opened config m.probe.executor } }
+opened_bench config m = record m { probe = record m.probe { executor = opened_state config m.probe.executor } }
 
 -- After the opening only the settings have changed, and three starting packets were received.
 pub record HasOpened (config : Config) (m o : BenchState) : Type 0 where
-  pub executor : o.probe.executor ≡ opened config m.probe.executor
+  pub executor : o.probe.executor ≡ opened_state config m.probe.executor
   pub starting : o.starting ≡ min (m.starting + 3) (2 ^ 64 - 1)
 
 -- Where the opening did not come to its end, the settings were made or not. Nothing else of the probe has changed.
 abbrev pub HasTried : Config → BenchState → BenchState → Type 0
-HasTried config m o = (o.probe.executor ≡ m.probe.executor) ⊎ (o.probe.executor ≡ opened config m.probe.executor)
+HasTried config m o = (o.probe.executor ≡ m.probe.executor) ⊎ (o.probe.executor ≡ opened_state config m.probe.executor)
 
 -- What becomes of a bench in calls over it. The limits stay, and exchanges are counted. Whether it is observable stays so, and so do the runs
 -- that its log is.

@@ -1,7 +1,7 @@
 -- How far the target has come with the journal, and what a report says of it.
 use Rattle.std.specs.Prelude.{◌≡◌, ◌⊎◌, ⊤, ℕ, ◌+◌, ◌-◌, ◌*◌, ◌/◌, ◌<◌, ◌≤◌, min, Bool, true, List, length, take, drop, slice_get, slice_index, Option, Some, None, IfSome}
 use Rattle.std.specs.List.{AllByRecursion}
-use Rattle.target_machine.specs.Plain.{Action, Makes, Polls, Commands, commanded, polled}
+use Rattle.target_machine.specs.Plain.{Action, Makes, Polls, Commands, command_attempt, poll_result}
 use Rattle.target_machine.specs.State.{TargetState, Agree}
 use Rattle.target_machine.specs.declared.unit.ProbeCall.TheVariants as probe
 use Rattle.dap_transfer.specs.State.{Setting}
@@ -12,7 +12,7 @@ use Rattle.probe_core.specs.declared.job.Limits.{Limits}
 use Rattle.target_calls.specs.Asks.{is_settled}
 use Rattle.target_machine.specs.Counts.{one_if}
 use Rattle.target_calls.specs.Journal.{Entry, Passes, first_fault, target_after}
-use Rattle.target_calls.specs.Weights.{commands_in, performed, weight_in}
+use Rattle.target_calls.specs.Weights.{commands_in, entries_performed, weight_in}
 use Rattle.target_calls.specs.World.{skips, start_world, stop, world_after}
 use Rattle.target_calls.specs.declared.calls.Ask.{Ask}
 use Rattle.access_calls.specs.Growing.{IsAfter, IsForFirstCalls}
@@ -52,7 +52,7 @@ grown_since b m = work_of m.probe - work_of b.state.probe
 -- Exactly the first so many entries were performed, by the probe's work, which is at most that of all of them. The target agrees with the one
 -- after them.
 pub record HasPerformed (entries : List Entry) (count : ℕ) (b : Beginning) (m : BenchState) : Type 0 where
-  pub count_is : count ≡ performed (start_of b) entries (grown_since b m)
+  pub count_is : count ≡ entries_performed (start_of b) entries (grown_since b m)
   pub no_more : grown_since b m ≤ weight_in (start_of b) entries
   pub within : count ≤ length entries
   pub target : Agree (target_of m.probe) (target_after (start_of b) (take count entries))
@@ -60,8 +60,8 @@ pub record HasPerformed (entries : List Entry) (count : ℕ) (b : Beginning) (m 
 -- From t only a part of the action was done, which leaves u: some reads of a poll, or some commands of a delay.
 abbrev pub IsPartOfAction : Action → TargetState → TargetState → Type 0
 IsPartOfAction (Makes a) t u = ⊥
-IsPartOfAction (Polls mask requested turns) t u = (made : ℕ) × (made < (polled turns mask requested t).reads) × Agree u (polled made mask requested t).next
-IsPartOfAction (Commands (probe.Delay micros)) t u = (done : ℕ) × (65535 * done < micros) × Agree u (commanded t (probe.Delay (65535 * done))).next
+IsPartOfAction (Polls mask requested turns) t u = (made : ℕ) × (made < (poll_result turns mask requested t).reads) × Agree u (poll_result made mask requested t).next
+IsPartOfAction (Commands (probe.Delay micros)) t u = (done : ℕ) × (65535 * done < micros) × Agree u (command_attempt t (probe.Delay (65535 * done))).next
 IsPartOfAction (Commands other) t u = ⊥
 
 -- the same of an entry, where there is one
@@ -145,7 +145,7 @@ AreTogether limits entries = (AllByRecursion (λ e. IsMade e.action) entries × 
 pub record HasBroken (limits : Limits) (entries : List Entry) (issued confirmed : ℕ) (b : Beginning) (m : BenchState) : Type 0 where
   pub count : ℕ
   pub begun : ℕ
-  pub count_is : count ≡ performed (start_of b) entries (grown_since b m)
+  pub count_is : count ≡ entries_performed (start_of b) entries (grown_since b m)
   pub no_more : grown_since b m ≤ weight_in (start_of b) entries
   pub up_to : grown_since b m ≤ weight_in (start_of b) (take begun entries)
   pub low : confirmed ≤ count

@@ -6,7 +6,7 @@ ghost use Rattle.probe_core.specs.Bench.{BenchState};
 ghost use Rattle.probe_core.specs.Probe.{target_of};
 ghost use Rattle.target_calls.specs.Asks.{is_wide, probe_ask, unit_ask};
 ghost use Rattle.target_calls.specs.Journal.{Entry};
-ghost use Rattle.target_calls.specs.NeedPoints.{Costs, asked, finished, needed, used};
+ghost use Rattle.target_calls.specs.NeedPoints.{Costs, asks_with_call, asks_at_finish, asks_at_need, asks_at_use};
 ghost use Rattle.target_calls.specs.World.{results, small_now, stop};
 ghost use Rattle.target_calls.specs.declared.calls.Ask.{Ask};
 ghost use Rattle.access_calls.specs.Answers.{HasSlot, IsSmallOnly, IsSmallWhere, StopsCalls, StopsSettling, calls_after, calls_finished};
@@ -63,7 +63,7 @@ pub trait Access {
         ensures wide { IfOk result (IsSmallOnly (is_wide unit)) }
         ensures calls { (reported self.new).asks.calls ≡ calls_after (reported self.old) (unit_ask unit forgive) result }
         ensures needs { InEachWorld begun reported self.old self.new (λ w. OnOk result ((reported self.new).asks
-            ≡ asked (cost w.target (reported self.old).asks.calls (unit_ask unit forgive)) (unit_ask unit forgive) (reported self.old).asks)) }
+            ≡ asks_with_call (cost w.target (reported self.old).asks.calls (unit_ask unit forgive)) (unit_ask unit forgive) (reported self.old).asks)) }
         ensures small { InEachWorld begun reported self.old self.new (λ w.
             IfOk result (IsSmallWhere (small_now w (reported self.old).asks.calls (unit_ask unit forgive)))) }
         ensures stops { InEachOpenWorld begun reported self.old self.new (λ w.
@@ -79,7 +79,7 @@ pub trait Access {
         ensures bound { IfOk result (λ n. n < 2 ^ 32) }
         ensures calls { (reported self.new).asks.calls ≡ calls_after (reported self.old) (probe_ask call) result }
         ensures needs { InEachWorld begun reported self.old self.new (λ w. OnOk result ((reported self.new).asks
-            ≡ asked (cost w.target (reported self.old).asks.calls (probe_ask call)) (probe_ask call) (reported self.old).asks)) }
+            ≡ asks_with_call (cost w.target (reported self.old).asks.calls (probe_ask call)) (probe_ask call) (reported self.old).asks)) }
         ensures value { InEachWorld begun reported self.old self.new (λ w.
             IfOk result (λ n. n ≡ slice_index (results w ((reported self.old).asks.calls ++ probe_ask call ∷ [])) (length (reported self.old).asks.calls))) }
         ensures whole { InEachWorld begun reported self.old self.new (λ w. OnOk result (stop w ((reported self.old).asks.calls ++ probe_ask call ∷ []) ≡ None)) }
@@ -96,7 +96,7 @@ pub trait Access {
         ensures value { InEachWorld begun reported self.old self.new (λ w. IfOk result (λ n. n ≡ slice_index (results w (reported self.old).asks.calls) slot.index)) }
         ensures came { slot.index < (reported self.old).known → IfErr result (λ s. ⊥) }
         ensures known { slot.index < length (reported self.old).asks.calls → OnOk result (slot.index < (reported self.new).known) }
-        ensures asks { OnOk result ((reported self.new).asks ≡ used slot (reported self.old).asks) }
+        ensures asks { OnOk result ((reported self.new).asks ≡ asks_at_use slot (reported self.old).asks) }
         ensures calls { (reported self.new).asks.calls ≡ (reported self.old).asks.calls }
         ensures stops { InEachOpenWorld begun reported self.old self.new (λ w. IfErr result (StopsCalls w (reported self.old).asks.calls (reported self.new).lines)) }
         ensures ends { EndsAtValue begun reported identity result self.old self.new };
@@ -104,7 +104,7 @@ pub trait Access {
     /// Makes all that was asked. Takes no memory, and answers no `OutOfMemory`.
     fn flush(&mut self) -> Result<(), Stop>
         ensures whole { InEachWorld begun reported self.old self.new (λ w. OnOk result (stop w (reported self.old).asks.calls ≡ None)) }
-        ensures asks { OnOk result ((reported self.new).asks ≡ needed (reported self.old).asks) }
+        ensures asks { OnOk result ((reported self.new).asks ≡ asks_at_need (reported self.old).asks) }
         ensures calls { (reported self.new).asks.calls ≡ (reported self.old).asks.calls }
         ensures stops { InEachOpenWorld begun reported self.old self.new (λ w. IfErr result (StopsCalls w (reported self.old).asks.calls (reported self.new).lines)) }
         ensures ends { EndsAtFlush begun reported identity result self.old self.new };
@@ -114,7 +114,7 @@ pub trait Access {
     /// where the end came before.
     fn finish(&mut self) -> Result<(), Stop>
         ensures whole { InEachWorld begun reported self.old self.new (λ w. OnOk result (stop w (reported self.old).asks.calls ≡ None)) }
-        ensures asks { OnOk result ((reported self.new).asks ≡ needed (finished (reported self.old).asks)) }
+        ensures asks { OnOk result ((reported self.new).asks ≡ asks_at_need (asks_at_finish (reported self.old).asks)) }
         ensures calls { (reported self.new).asks.calls ≡ calls_finished (reported self.old) }
         ensures stops { InEachOpenWorld begun reported self.old self.new (λ w. IfErr result (StopsSettling w (reported self.old).asks.calls (reported self.new).lines)) }
         ensures ends { EndsAtFlush begun reported identity result self.old self.new };

@@ -1,7 +1,7 @@
 //! An access that is begun over a bench, and hands it back.
 
 ghost use Rattle.std.specs.Prelude.{◌≡◌, ◌≤◌, IfOk, IfErr, take};
-ghost use Rattle.probe_core.specs.Bench.{StepsTo, seen};
+ghost use Rattle.probe_core.specs.Bench.{StepsTo, seen_bench};
 ghost use Rattle.access_calls.specs.Opening.{BenchIsIdle, GoesOnTo, HasOpened, IsNew, IsNotBegun, MayBegin, opened_bench};
 
 use crate::{Access, NotBegun};
@@ -23,11 +23,11 @@ pub trait OverBench<B: Bench>: Access {
         ensures begun { IfOk result (λ a. StepsTo (λ m n. MayBegin m → Self.Access.begun a (opened_bench config m)) (B.state bench) (Self.Access.reported a).state) }
         ensures opened { IfOk result (λ a. StepsTo (λ m n. MayBegin m → HasOpened config m n) (B.state bench) (Self.Access.reported a).state) }
         // What becomes of the bench.
-        ensures goes { IfOk result (λ a. GoesOnTo (seen B.reported B.state bench) (Self.Access.reported a).bench (Self.Access.reported a).state) }
+        ensures goes { IfOk result (λ a. GoesOnTo (seen_bench B.reported B.state bench) (Self.Access.reported a).bench (Self.Access.reported a).state) }
         ensures faults { IfOk result (λ a. (Self.Access.reported a).bench.faults ≡ (B.reported bench).faults) }
         ensures identity { IfOk result (λ a. Self.Access.identity a ≡ B.identity bench) }
         // Why it did not begin.
-        ensures refused { IfErr result (λ e. IsNotBegun config (seen B.reported B.state bench) (seen B.reported B.state e.bench) e.stop
+        ensures refused { IfErr result (λ e. IsNotBegun config (seen_bench B.reported B.state bench) (seen_bench B.reported B.state e.bench) e.stop
             (take e.sent_length e.sent) (take e.got_length e.got)) }
         ensures lengths { IfErr result (λ e. (e.sent_length ≤ 1024) × (e.got_length ≤ 1024)) }
         ensures refused_identity { IfErr result (λ e. B.identity e.bench ≡ B.identity bench) };

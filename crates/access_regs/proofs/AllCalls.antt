@@ -10,10 +10,10 @@ use Rattle.target_machine.specs.declared.unit.Call.{Call}
 use Rattle.target_machine.specs.declared.unit.Call.TheVariants.{Access, Probe}
 use Rattle.target_machine.specs.declared.unit.Unit.{Unit as AccessUnit}
 use Rattle.target_machine.specs.declared.unit.Unit.TheVariants as unit
-use Rattle.access_regs.specs.Kept.{Kept, known, unknown, nothing_kept}
-use Rattle.access_regs.specs.Plan.{settled}
+use Rattle.access_regs.specs.Kept.{Kept, known_at, unknown, nothing_kept}
+use Rattle.access_regs.specs.Plan.{kept_after_settling}
 use Rattle.access_regs.specs.declared.known.Known.{Known}
-use Rattle.access_regs.specs.Journal.{finish, issue_of, finish_of, steps_at, actions_of, alone_at, is_alone, after_settling, planned, issue, issued, kept_from}
+use Rattle.access_regs.specs.Journal.{finish, issue_of, finish_of, steps_at, actions_of, alone_at, is_alone, after_settling, issue_of_plan, issue, issued_entries, kept_from}
 use Rattle.access_regs.specs.Alone.{call_alone, alone_after, large_of_all}
 use Rattle.access_regs.specs.Follows.{Follows, IsTrueOf}
 use Rattle.access_regs.specs.Laws.{FreshFollows, CallGoes, CallLeaves, JournalFollows, JournalAgrees, JournalPasses, JournalStops, JournalAnswers}
@@ -35,10 +35,10 @@ alone_course : (k : Kept) (large : List ℕ) (t u : TargetState) → Follows k l
     Course (after_settling u k (alone_at forgive asked)) (call_done t large forgive (Access asked)) (Access asked) u
 alone_course k large t u f forgive (unit.Memory size read n address value) range may =
     settle_course k large t u f (alone_at forgive (unit.Memory size read n address value)) (call_done t large forgive (Access (unit.Memory size read n address value))) (Access (unit.Memory size read n address value))
-    (λ v g. memory_course (settled k) large t v g (settled_calm k) forgive size read n address value range.0)
+    (λ v g. memory_course (kept_after_settling k) large t v g (settled_calm k) forgive size read n address value range.0)
 alone_course k large t u f forgive (unit.Ap read n addr value) range may =
     settle_course k large t u f (alone_at forgive (unit.Ap read n addr value)) (call_done t large forgive (Access (unit.Ap read n addr value))) (Access (unit.Ap read n addr value))
-    (λ v g. ap_course (settled k) large t v g (settled_calm k) forgive read n addr value range.0 range.1)
+    (λ v g. ap_course (kept_after_settling k) large t v g (settled_calm k) forgive read n addr value range.0 range.1)
 alone_course k large t u f forgive (unit.Dp read addr value) range may = absurd (cc)
 alone_course k large t u f forgive (unit.Poll mask value turns) range may = absurd (cc)
 
@@ -54,10 +54,10 @@ call_course p k large t u f c ok = by_call c.call ok.sound ok.range
     by_mark : (asked : AccessUnit) (b : Bool) → (is_alone p c.forgive && may_forgive (Access asked)) ≡ b → IsSoundCall (Access asked) → IsCallInRange (Access asked) →
         Course (issue p u k c.forgive (Access asked)) (call_done t large c.forgive (Access asked)) (Access asked) u
     by_mark asked b e sound range =
-        subst (λ (a : Bool). Course (cond a (after_settling u k (alone_at c.forgive asked)) (planned u k asked)) (call_done t large c.forgive (Access asked)) (Access asked) u) (sym e) (by_case b e)
+        subst (λ (a : Bool). Course (cond a (after_settling u k (alone_at c.forgive asked)) (issue_of_plan u k asked)) (call_done t large c.forgive (Access asked)) (Access asked) u) (sym e) (by_case b e)
       where
         by_case : (b : Bool) → (is_alone p c.forgive && may_forgive (Access asked)) ≡ b →
-            Course (cond b (after_settling u k (alone_at c.forgive asked)) (planned u k asked)) (call_done t large c.forgive (Access asked)) (Access asked) u
+            Course (cond b (after_settling u k (alone_at c.forgive asked)) (issue_of_plan u k asked)) (call_done t large c.forgive (Access asked)) (Access asked) u
         by_case false e = strict_course k large t u f c.forgive asked (strict_unless p c.forgive (may_forgive (Access asked)) e) sound range
         by_case true e = alone_course k large t u f c.forgive asked range (and_parts (is_alone p c.forgive) (may_forgive (Access asked)) e).1
 
@@ -74,10 +74,10 @@ get_or_past [] q le = refl
 get_or_past (x ∷ xs) zero le = absurd (omega arith)
 get_or_past (x ∷ xs) (suc q) le = get_or_past xs q (omega arith)
 
-pub known_nothing : (q : ℕ) → known nothing_kept q ≡ unknown
+pub known_nothing : (q : ℕ) → known_at nothing_kept q ≡ unknown
 known_nothing q = by_place (cases_lt q 256)
   where
-    by_place : (q < 256) ⊎ (256 ≤ q) → known nothing_kept q ≡ unknown
+    by_place : (q < 256) ⊎ (256 ≤ q) → known_at nothing_kept q ≡ unknown
     by_place (inl lt) = get_or-replicate 256 q unknown unknown lt
     by_place (inr ge) = get_or_past (replicate 256 unknown) q (let e = length-replicate 256 unknown in omega arith)
 
@@ -119,7 +119,7 @@ finished_calm p k u (c ∷ cs) h calm = some_calm p k u c cs h
 
 pub journal_agrees : JournalAgrees
 journal_agrees p t calls fresh ok none finished =
-    follows_agree (kept_from p nothing_kept t calls) (large_of_all t [] calls) (alone_after t [] calls) (after t (actions_in (issued p t calls)))
+    follows_agree (kept_from p nothing_kept t calls) (large_of_all t [] calls) (alone_after t [] calls) (after t (actions_in (issued_entries p t calls)))
     (journal_follows p t calls fresh ok none) (finished_calm p nothing_kept t calls finished refl)
 
 pub journal_stops : JournalStops

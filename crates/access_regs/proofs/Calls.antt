@@ -9,9 +9,9 @@ use Rattle.target_machine.specs.declared.unit.Call.TheVariants.{Access}
 use Rattle.target_machine.specs.declared.unit.Unit.{Unit as AccessUnit}
 use Rattle.target_machine.specs.declared.unit.Unit.TheVariants as unit
 use Rattle.access_regs.specs.Kept.{Kept, is_known}
-use Rattle.access_regs.specs.Plan.{select_value, settle, settled, needs_settle, must_follow_settling}
+use Rattle.access_regs.specs.Plan.{select_value, settle, kept_after_settling, needs_settle, must_follow_settling}
 use Rattle.access_regs.specs.Plan as plans
-use Rattle.access_regs.specs.Journal.{Issue, making, steps_of, before, gives, by_plan, by_csw, by_cfg, by_cfg_read, after_settling, planned}
+use Rattle.access_regs.specs.Journal.{Issue, making, steps_of, before, gives, by_plan, by_csw, by_cfg, by_cfg_read, after_settling, issue_of_plan}
 use Rattle.access_regs.specs.Follows.{Follows}
 use Rattle.access_regs.specs.declared.known.Unsettled.{Unsettled}
 use Rattle.access_regs.proofs.Course.{course_before, actions_steps}
@@ -29,14 +29,14 @@ use Rattle.access_regs.proofs.Singles.{dp_course, poll_course}
 
 module _ (k : Kept) (large : List ℕ) (t u : TargetState) (f : Follows k large t u) where
   -- settling first
-  pub settle_course : (next : TargetState → Kept → Issue) (d : CallDone) (call : Call) → ((v : TargetState) → Follows (settled k) large t v → Course (next v (settled k)) d call v) →
+  pub settle_course : (next : TargetState → Kept → Issue) (d : CallDone) (call : Call) → ((v : TargetState) → Follows (kept_after_settling k) large t v → Course (next v (kept_after_settling k)) d call v) →
       Course (after_settling u k next) d call u
   settle_course next d call then =
       let g = settles k large t u f in
-      let c : Course (next g.at (settled k)) d call g.at = then g.at g.follows in
-      let b : Course (before (steps_of Settles (settle k)) (next g.at (settled k))) d call u =
-      course_before (next g.at (settled k)) d call u g.at (steps_of Settles (settle k)) (subst (λ (l : List Action). PassTo u l g.at) (sym (actions_steps Settles (settle k))) g.pass) c in
-      subst (λ (v : TargetState). Course (before (steps_of Settles (settle k)) (next v (settled k))) d call u) (sym (pass_after u g.at (making (settle k)) g.pass)) b
+      let c : Course (next g.at (kept_after_settling k)) d call g.at = then g.at g.follows in
+      let b : Course (before (steps_of Settles (settle k)) (next g.at (kept_after_settling k))) d call u =
+      course_before (next g.at (kept_after_settling k)) d call u g.at (steps_of Settles (settle k)) (subst (λ (l : List Action). PassTo u l g.at) (sym (actions_steps Settles (settle k))) g.pass) c in
+      subst (λ (v : TargetState). Course (before (steps_of Settles (settle k)) (next v (kept_after_settling k))) d call u) (sym (pass_after u g.at (making (settle k)) g.pass)) b
 
   no_unsettled : k.unsettled ≡ None → (s : Unsettled) → k.unsettled ≡ Some s → ⊥
   no_unsettled none s some = let x : ◌≡◌ {A = Option Unsettled} None (Some s) = sym none ∙ some in absurd (cc)
@@ -95,13 +95,13 @@ module _ (k : Kept) (large : List ℕ) (t u : TargetState) (f : Follows k large 
     memory_settles : C (after_settling u k (λ v l. by_cfg v l asked))
     memory_settles =
         settle_course k large t u f (λ v l. by_cfg v l asked) (call_done t large false (Access asked)) (Access asked)
-        (λ v g. memory_by_cfg (settled k) large t v g size read n address value sound lt (λ wide. settled_calm k)
-        (λ narrow s some. absurd (no_unsettled (settled k) large t v g (settled_calm k) s some)))
+        (λ v g. memory_by_cfg (kept_after_settling k) large t v g size read n address value sound lt (λ wide. settled_calm k)
+        (λ narrow s some. absurd (no_unsettled (kept_after_settling k) large t v g (settled_calm k) s some)))
 
-    memory_planned : C (planned u k asked)
+    memory_planned : C (issue_of_plan u k asked)
     memory_planned = by_settle (needs_settle k asked) refl
       where
-        by_settle : (b : Bool) → needs_settle k asked ≡ b → C (planned u k asked)
+        by_settle : (b : Bool) → needs_settle k asked ≡ b → C (issue_of_plan u k asked)
         by_settle true e = subst (λ (b : Bool). C (cond b (after_settling u k (λ v l. by_cfg v l asked)) (by_cfg u k asked))) (sym e) memory_settles
         by_settle false e = subst (λ (b : Bool). C (cond b (after_settling u k (λ v l. by_cfg v l asked)) (by_cfg u k asked))) (sym e) (memory_rests e)
 
@@ -118,7 +118,7 @@ module _ (k : Kept) (large : List ℕ) (t u : TargetState) (f : Follows k large 
       by_unsettled (Some s) some true e =
           subst (λ (o : Option Unsettled). Course (cond (is_some o && b) (after_settling u k (λ v l. by_plan l asked)) (by_plan k asked)) d call u) (sym some)
           (subst (λ (x : Bool). Course (cond x (after_settling u k (λ v l. by_plan l asked)) (by_plan k asked)) d call u) (sym e)
-          (settle_course k large t u f (λ v l. by_plan l asked) d call (λ v g. each (settled k) v g (λ h. settled_calm k))))
+          (settle_course k large t u f (λ v l. by_plan l asked) d call (λ v g. each (kept_after_settling k) v g (λ h. settled_calm k))))
       by_unsettled (Some s) some false e =
           subst (λ (o : Option Unsettled). Course (cond (is_some o && b) (after_settling u k (λ v l. by_plan l asked)) (by_plan k asked)) d call u) (sym some)
           (subst (λ (x : Bool). Course (cond x (after_settling u k (λ v l. by_plan l asked)) (by_plan k asked)) d call u) (sym e)
@@ -129,7 +129,7 @@ module _ (k : Kept) (large : List ℕ) (t u : TargetState) (f : Follows k large 
   writes_settle read addr e (inr a) = rw (e, a) refl
 
   -- A unit that is not forgiving.
-  pub planned_course : (asked : AccessUnit) → IsSound asked → IsUnitInRange asked → Course (planned u k asked) (call_done t large false (Access asked)) (Access asked) u
+  pub planned_course : (asked : AccessUnit) → IsSound asked → IsUnitInRange asked → Course (issue_of_plan u k asked) (call_done t large false (Access asked)) (Access asked) u
   planned_course (unit.Memory size read n address value) sound range = memory_planned size read n address value sound range.0
   planned_course (unit.Ap read n addr value) sound range =
       plain_planned (unit.Ap read n addr value) (call_done t large false (Access (unit.Ap read n addr value))) (Access (unit.Ap read n addr value)) true
@@ -146,6 +146,6 @@ module _ (k : Kept) (large : List ℕ) (t u : TargetState) (f : Follows k large 
   unfolding call_done
   strict_done forgive call e = rw e refl
 
-  pub strict_course : (forgive : Bool) (asked : AccessUnit) → (forgive && may_forgive (Access asked)) ≡ false → IsSound asked → IsUnitInRange asked → Course (planned u k asked) (call_done t large forgive (Access asked)) (Access asked) u
+  pub strict_course : (forgive : Bool) (asked : AccessUnit) → (forgive && may_forgive (Access asked)) ≡ false → IsSound asked → IsUnitInRange asked → Course (issue_of_plan u k asked) (call_done t large forgive (Access asked)) (Access asked) u
   strict_course forgive asked e sound range =
-      subst (λ (d : CallDone). Course (planned u k asked) d (Access asked) u) (sym (strict_done forgive (Access asked) e)) (planned_course asked sound range)
+      subst (λ (d : CallDone). Course (issue_of_plan u k asked) d (Access asked) u) (sym (strict_done forgive (Access asked) e)) (planned_course asked sound range)

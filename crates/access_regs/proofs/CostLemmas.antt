@@ -9,8 +9,8 @@ use Rattle.access_regs.proofs.Runs.{select_left}
 use Rattle.access_regs.proofs.Select.{select_write}
 use Rattle.access_regs.specs.Costs.{AloneReads, PlannedReads, PortReads, is_leading_read, leading_reads}
 use Rattle.access_regs.specs.Journal.{Step, after_settling, before, is_early, is_last, large_of, part_of, parts_of, by_cfg, by_cfg_read, by_csw, by_plan, gives, last_action, making, port_of, steps_of}
-use Rattle.access_regs.specs.Kept.{Kept, csw_of, is_known, known}
-use Rattle.access_regs.specs.Plan.{cfg_plan, csw_needed, first_plan, high_needed, leads, learned, learned_cfg, needs_cfg, needs_csw, needs_settle, planned_csw, port_writes, select_needed, select_value, settle, settled, tar_needed, unless}
+use Rattle.access_regs.specs.Kept.{Kept, csw_of, is_known, known_at}
+use Rattle.access_regs.specs.Plan.{cfg_plan, csw_needed, first_plan, high_needed, leads, kept_after_csw, learned_cfg, needs_cfg, needs_csw, needs_settle, planned_csw, port_writes, select_needed, select_value, settle, kept_after_settling, tar_needed, unless}
 use Rattle.access_regs.specs.declared.known.Known.{Known}
 use Rattle.target_machine.specs.Counts.{one_if}
 use Rattle.target_calls.specs.declared.journal.Part.TheVariants.{Ends, Leads, Settles}
@@ -18,7 +18,7 @@ use Rattle.dap_base.specs.Bits.{has_bit}
 use Rattle.target_machine.specs.Lists.{after}
 use Rattle.target_machine.proofs.OneAp.{one_ap_changed}
 use Rattle.target_machine.specs.Attempt.{Attempt, attempt}
-use Rattle.target_machine.specs.Plain.{Action, Makes, Polls, Commands, acted, ap_access_of, call_done, cfg_actions, contains, csw_actions, ended, given, has_large, in_order, is_fault, is_small, issued, large_after, needs_cfg as wants_cfg, result_of, select_of, transfer_actions, unit_actions}
+use Rattle.target_machine.specs.Plain.{Action, Makes, Polls, Commands, action_attempt, ap_access_of, call_done, cfg_actions, contains, csw_actions, ended_call, given_number, has_large, in_order, is_fault, is_small, issued_actions, large_after, needs_cfg as wants_cfg, result_of, select_of, transfer_actions, unit_actions}
 use Rattle.target_machine.specs.declared.access.Outcome.{Outcome}
 use Rattle.target_machine.specs.declared.access.Outcome.TheVariants.{Value, Done, Fault}
 use Rattle.target_machine.specs.declared.unit.Call.TheVariants.{Access}
@@ -60,8 +60,8 @@ writes_ask n size address =
 leads_ask : (k : Kept) (asked : AccessUnit) → leading_reads (steps_of Leads (leads k asked)) ≡ 0
 leads_ask k (unit.Memory size read n address value) =
     let a = select_asks k n 0 in
-    let b = writes_ask (known k n) size address in
-    let c = leads_both (select_needed k n 0) (port_writes (known k n) size address) in
+    let b = writes_ask (known_at k n) size address in
+    let c = leads_both (select_needed k n 0) (port_writes (known_at k n) size address) in
     omega (arith, a, b, c)
 leads_ask k (unit.Ap read n addr value) = select_asks k n (addr / 16)
 leads_ask k (unit.Dp read addr value) = refl
@@ -85,9 +85,9 @@ csw_asks : (t : TargetState) (k : Kept) (asked : AccessUnit) → leading_reads (
 csw_asks t k asked = by_needs (needs_csw k asked)
   where
     l : Kept
-    l = learned k (port_of asked) (gives t (first_plan k (port_of asked)))
+    l = kept_after_csw k (port_of asked) (gives t (first_plan k (port_of asked)))
 
-    by_needs : (b : Bool) → leading_reads (cond b (before (steps_of Leads (first_plan k (port_of asked))) (by_plan (learned k (port_of asked) (gives t (first_plan k (port_of asked)))) asked)) (by_plan k asked)).steps ≡ one_if b
+    by_needs : (b : Bool) → leading_reads (cond b (before (steps_of Leads (first_plan k (port_of asked))) (by_plan (kept_after_csw k (port_of asked) (gives t (first_plan k (port_of asked)))) asked)) (by_plan k asked)).steps ≡ one_if b
     by_needs true =
         let a = asks_both (steps_of Leads (first_plan k (port_of asked))) (by_plan l asked).steps in
         let b = read_asks k (port_of asked) 0 (ap_access_of true 0 0) refl in
@@ -129,12 +129,12 @@ cost_shape asked u l =
 pub planned_reads : PlannedReads
 planned_reads t k asked = by_settle (needs_settle k asked)
   where
-    by_settle : (b : Bool) → leading_reads (cond b (after_settling t k (λ u l. by_cfg u l asked)) (by_cfg t k asked)).steps ≡ cost_shape asked (after t (making (cond b (settle k) []))) (cond b (settled k) k)
+    by_settle : (b : Bool) → leading_reads (cond b (after_settling t k (λ u l. by_cfg u l asked)) (by_cfg t k asked)).steps ≡ cost_shape asked (after t (making (cond b (settle k) []))) (cond b (kept_after_settling k) k)
     by_settle true =
         let u : TargetState = after t (making (settle k)) in
-        let a = asks_both (steps_of Settles (settle k)) (by_cfg u (settled k) asked).steps in
+        let a = asks_both (steps_of Settles (settle k)) (by_cfg u (kept_after_settling k) asked).steps in
         let b = settles_ask (settle k) in
-        let c = cfg_asks u (settled k) asked in
+        let c = cfg_asks u (kept_after_settling k) asked in
         omega (arith, a, b, c)
     by_settle false = cfg_asks t k asked
 
@@ -163,14 +163,14 @@ quiet_step early asked (Makes a) (inr last) = ap (λ (b : Bool). is_leading_read
 quiet_step early asked (Polls mask value turns) h = absurd h
 quiet_step early asked (Commands c) h = absurd h
 
-quiet_asks : (early : Bool) (asked : AccessUnit) (v : TargetState) (xs : List Action) → AreQuiet asked xs → leading_reads (parts_of early asked (issued v xs)) ≡ 0
+quiet_asks : (early : Bool) (asked : AccessUnit) (v : TargetState) (xs : List Action) → AreQuiet asked xs → leading_reads (parts_of early asked (issued_actions v xs)) ≡ 0
 quiet_asks early asked v [] h = refl
 quiet_asks early asked v (x ∷ xs) h =
-    step_asks early asked x (cond (is_fault (acted v x).outcome) [] (issued (acted v x).next xs))
-    ∙ ap (λ (b : Bool). one_if b + leading_reads (parts_of early asked (cond (is_fault (acted v x).outcome) [] (issued (acted v x).next xs)))) (quiet_step early asked x h.0)
-    ∙ by_fault (is_fault (acted v x).outcome) (quiet_asks early asked (acted v x).next xs h.1)
+    step_asks early asked x (cond (is_fault (action_attempt v x).outcome) [] (issued_actions (action_attempt v x).next xs))
+    ∙ ap (λ (b : Bool). one_if b + leading_reads (parts_of early asked (cond (is_fault (action_attempt v x).outcome) [] (issued_actions (action_attempt v x).next xs)))) (quiet_step early asked x h.0)
+    ∙ by_fault (is_fault (action_attempt v x).outcome) (quiet_asks early asked (action_attempt v x).next xs h.1)
   where
-    by_fault : (b : Bool) → leading_reads (parts_of early asked (issued (acted v x).next xs)) ≡ 0 → 0 + leading_reads (parts_of early asked (cond b [] (issued (acted v x).next xs))) ≡ 0
+    by_fault : (b : Bool) → leading_reads (parts_of early asked (issued_actions (action_attempt v x).next xs)) ≡ 0 → 0 + leading_reads (parts_of early asked (cond b [] (issued_actions (action_attempt v x).next xs))) ≡ 0
     by_fault true e = refl
     by_fault false e = omega (arith, e)
 
@@ -193,9 +193,9 @@ module _ (v : TargetState) (clear : v.sticky ≡ false) (n : ℕ) (lt : n < 256)
 
   -- a CFG that shows large addresses was read without a fault
   pub cfg_good : has_large v n ≡ true → is_fault (attempt at_cfg cfg_read).outcome ≡ false
-  cfg_good large = by_outcome (attempt at_cfg cfg_read).outcome (ap (λ (x : Attempt). has_bit (given x.outcome) 2) (sym cfg_given) ∙ large)
+  cfg_good large = by_outcome (attempt at_cfg cfg_read).outcome (ap (λ (x : Attempt). has_bit (given_number x.outcome) 2) (sym cfg_given) ∙ large)
     where
-      by_outcome : (o : Outcome) → has_bit (given o) 2 ≡ true → is_fault o ≡ false
+      by_outcome : (o : Outcome) → has_bit (given_number o) 2 ≡ true → is_fault o ≡ false
       by_outcome (Value x) e = refl
       by_outcome Done e = refl
       by_outcome Fault e = absurd (cc)
@@ -209,9 +209,9 @@ module _ (early : Bool) (asked : AccessUnit) (v : TargetState) (n bank : ℕ) (l
   abbrev w : TargetState
   w = (attempt v (select_of n bank)).next
 
-  reads_one : leading_reads (parts_of early asked (issued v (Makes (select_of n bank) ∷ Makes a ∷ rest))) ≡ 1 + leading_reads (parts_of early asked (cond (is_fault (attempt w a).outcome) [] (issued (attempt w a).next rest)))
+  reads_one : leading_reads (parts_of early asked (issued_actions v (Makes (select_of n bank) ∷ Makes a ∷ rest))) ≡ 1 + leading_reads (parts_of early asked (cond (is_fault (attempt w a).outcome) [] (issued_actions (attempt w a).next rest)))
   reads_one =
-      let last : List Action = cond (is_fault (attempt w a).outcome) [] (issued (attempt w a).next rest) in
+      let last : List Action = cond (is_fault (attempt w a).outcome) [] (issued_actions (attempt w a).next rest) in
       let first : one_if (is_leading_read (part_of early asked (Makes (select_of n bank))) (Makes (select_of n bank))) ≡ 0 = ap one_if (quiet_step early asked (Makes (select_of n bank)) (inl refl)) in
       let second : one_if (is_leading_read (part_of early asked (Makes a)) (Makes a)) ≡ 1 = (λ j. one_if (is_leading_read (cond (not_last j) Ends Leads) (Makes a))) ∙ ap one_if is_read in
       let x = step_asks early asked (Makes (select_of n bank)) (Makes a ∷ last) in
@@ -227,7 +227,7 @@ module _ (early : Bool) (size : ℕ) (read : Bool) (n address value : ℕ) (lt :
   tail_quiet true csw = (inl refl, (inl refl, (inl refl, (inr refl, tt))))
   tail_quiet false csw = (inl refl, (inl refl, (inr refl, tt)))
 
-  csw_part : (v : TargetState) → v.sticky ≡ false → (l : Bool) (csw : ℕ) → leading_reads (parts_of early here (issued v (csw_actions n ++ transfer_actions l size read address value csw))) ≡ 1
+  csw_part : (v : TargetState) → v.sticky ≡ false → (l : Bool) (csw : ℕ) → leading_reads (parts_of early here (issued_actions v (csw_actions n ++ transfer_actions l size read address value csw))) ≡ 1
   csw_part v clear l csw =
       let w : TargetState = (attempt v (select_of n 0)).next in
       let a : RegAccess = ap_access_of true 0 0 in
@@ -235,20 +235,20 @@ module _ (early : Bool) (size : ℕ) (read : Bool) (n address value : ℕ) (lt :
       let one = reads_one early here v n 0 lt (omega arith) clear a refl refl refl rest in
       one ∙ by_fault (is_fault (attempt w a).outcome) (quiet_asks early here (attempt w a).next rest (tail_quiet l csw))
     where
-      by_fault : (b : Bool) → leading_reads (parts_of early here (issued (attempt (attempt v (select_of n 0)).next (ap_access_of true 0 0)).next (transfer_actions l size read address value csw))) ≡ 0 →
-          1 + leading_reads (parts_of early here (cond b [] (issued (attempt (attempt v (select_of n 0)).next (ap_access_of true 0 0)).next (transfer_actions l size read address value csw)))) ≡ 1
+      by_fault : (b : Bool) → leading_reads (parts_of early here (issued_actions (attempt (attempt v (select_of n 0)).next (ap_access_of true 0 0)).next (transfer_actions l size read address value csw))) ≡ 0 →
+          1 + leading_reads (parts_of early here (cond b [] (issued_actions (attempt (attempt v (select_of n 0)).next (ap_access_of true 0 0)).next (transfer_actions l size read address value csw)))) ≡ 1
       by_fault true e = refl
       by_fault false e = omega (arith, e)
 
   module _ (v : TargetState) (clear : v.sticky ≡ false) where
-    cfg_part : (b l : Bool) (csw : ℕ) → has_large v n ≡ b → leading_reads (parts_of early here (issued v (shape size read n address value true b l csw))) ≡ 1 + one_if b
+    cfg_part : (b l : Bool) (csw : ℕ) → has_large v n ≡ b → leading_reads (parts_of early here (issued_actions v (shape size read n address value true b l csw))) ≡ 1 + one_if b
     cfg_part true l csw e =
         let s : TargetState = at_cfg v clear n lt in
         let cfg : RegAccess = cfg_read v clear n lt in
         let good = cfg_good v clear n lt e in
         let one = reads_one early here v n 15 lt (omega arith) clear cfg refl refl refl (csw_actions n ++ transfer_actions true size read address value csw) in
         let two = csw_part (attempt s cfg).next (cfg_clears v clear n lt e) true csw in
-        one ∙ ap (λ (b : Bool). 1 + leading_reads (parts_of early here (cond b [] (issued (attempt s cfg).next (csw_actions n ++ transfer_actions true size read address value csw))))) good ∙ ap (λ (m : ℕ). 1 + m) two
+        one ∙ ap (λ (b : Bool). 1 + leading_reads (parts_of early here (cond b [] (issued_actions (attempt s cfg).next (csw_actions n ++ transfer_actions true size read address value csw))))) good ∙ ap (λ (m : ℕ). 1 + m) two
     cfg_part false l csw e =
         reads_one early here v n 15 lt (omega arith) clear (cfg_read v clear n lt) refl refl refl [] ∙ by_fault (is_fault (attempt (at_cfg v clear n lt) (cfg_read v clear n lt)).outcome)
       where
@@ -256,13 +256,13 @@ module _ (early : Bool) (size : ℕ) (read : Bool) (n address value : ℕ) (lt :
         by_fault true = refl
         by_fault false = refl
 
-    shape_part : (w l : Bool) (csw : ℕ) → leading_reads (parts_of early here (issued v (shape size read n address value w (has_large v n) l csw))) ≡ cond w (1 + one_if (has_large v n)) 1
+    shape_part : (w l : Bool) (csw : ℕ) → leading_reads (parts_of early here (issued_actions v (shape size read n address value w (has_large v n) l csw))) ≡ cond w (1 + one_if (has_large v n)) 1
     shape_part true l csw = cfg_part (has_large v n) l csw refl
     shape_part false l csw = csw_part v clear l csw
 
 -- the write of ABORT is none
 ended_ask : (early : Bool) (asked : AccessUnit) (b forgive small : Bool) (x : ℕ) (next : TargetState) (large : List ℕ) (actions : List Action) (m : ℕ) → leading_reads (parts_of early asked actions) ≡ m →
-    leading_reads (parts_of early asked (ended b forgive small x next large actions).actions) ≡ m
+    leading_reads (parts_of early asked (ended_call b forgive small x next large actions).actions) ≡ m
 unfolding skip
 ended_ask early asked b forgive small x next large actions m e =
     parts_ended early asked b forgive small x next large actions (λ (l : List Step). leading_reads l ≡ m)
@@ -275,11 +275,11 @@ alone_reads t k forgive size read n address value clear lt =
     let l2 : List ℕ = large_of k asked in
     let early : Bool = is_early asked (call_done t l2 forgive (Access asked)).actions in
     let ran : Attempt = in_order t (unit_actions t l2 asked) in
-    let wide : wants_cfg l2 n address ≡ needs_cfg k asked = ap (λ (c : Bool). nat_lt 0xFFFF_FFFF address && not c) (contains_one (known k n).large n) in
-    let own : leading_reads (parts_of early asked (issued t (unit_actions t l2 asked))) ≡ cond (wants_cfg l2 n address) (1 + one_if (has_large t n)) 1 =
-    ap (λ (l : List Action). leading_reads (parts_of early asked (issued t l))) (memory_shape size read n address value t l2)
+    let wide : wants_cfg l2 n address ≡ needs_cfg k asked = ap (λ (c : Bool). nat_lt 0xFFFF_FFFF address && not c) (contains_one (known_at k n).large n) in
+    let own : leading_reads (parts_of early asked (issued_actions t (unit_actions t l2 asked))) ≡ cond (wants_cfg l2 n address) (1 + one_if (has_large t n)) 1 =
+    ap (λ (l : List Action). leading_reads (parts_of early asked (issued_actions t l))) (memory_shape size read n address value t l2)
     ∙ shape_part early size read n address value lt t clear (wants_cfg l2 n address) (contains l2 n) (csw_at size read n address value t (wants_cfg l2 n address)) in
-    ended_ask early asked (is_fault ran.outcome) (forgive && true) (is_small t l2 (Access asked)) (result_of (Access asked) (given ran.outcome)) ran.next (large_after t l2 (Access asked)) (issued t (unit_actions t l2 asked))
+    ended_ask early asked (is_fault ran.outcome) (forgive && true) (is_small t l2 (Access asked)) (result_of (Access asked) (given_number ran.outcome)) ran.next (large_after t l2 (Access asked)) (issued_actions t (unit_actions t l2 asked))
     (cond (wants_cfg l2 n address) (1 + one_if (has_large t n)) 1) own
     ∙ ap (λ (b : Bool). cond b (1 + one_if (has_large t n)) 1) wide
 
@@ -290,5 +290,5 @@ port_reads t k forgive read n addr value =
     let l2 : List ℕ = large_of k asked in
     let early : Bool = is_early asked (call_done t l2 forgive (Access asked)).actions in
     let ran : Attempt = in_order t (unit_actions t l2 asked) in
-    ended_ask early asked (is_fault ran.outcome) (forgive && true) false (result_of (Access asked) (given ran.outcome)) ran.next (large_after t l2 (Access asked)) (issued t (unit_actions t l2 asked)) 0
+    ended_ask early asked (is_fault ran.outcome) (forgive && true) false (result_of (Access asked) (given_number ran.outcome)) ran.next (large_after t l2 (Access asked)) (issued_actions t (unit_actions t l2 asked)) 0
     (quiet_asks early asked t (unit_actions t l2 asked) (inl refl, (inr refl, tt)))

@@ -1,6 +1,6 @@
 -- How a call goes that is made by what is issued for it, against the call alone and at once.
 use Rattle.std.proofs.Common.{◌≡◌, ◌∙◌, ℕ, Bool, ◌&&◌, List, [], ◌∷◌, ◌++◌, append_assoc, refl, sym, ap, subst}
-use Rattle.target_machine.specs.Plain.{Action, Commands, Makes, acted, forgives, CallDone, CallEnd}
+use Rattle.target_machine.specs.Plain.{Action, Commands, Makes, action_attempt, forgives, CallDone, CallEnd}
 use Rattle.target_machine.specs.State.{TargetState}
 use Rattle.target_machine.specs.declared.access.RegAccess.{RegAccess}
 use Rattle.target_machine.specs.declared.unit.Call.{Call}
@@ -15,7 +15,7 @@ use Rattle.target_machine.specs.Lists.{after, PassTo}
 
 pub pass_passing : (u v : TargetState) (steps more : List Step) → PassTo u (actions_of steps) v → IsPassing v more → IsPassing u (steps ++ more)
 pass_passing u v [] more h k = subst (λ (s : TargetState). IsPassing s more) h k
-pass_passing u v (s ∷ steps) more h k = (ap (λ (b : Bool). b && settles s.part) h.0, pass_passing (acted u s.action).next v steps more h.1 k)
+pass_passing u v (s ∷ steps) more h k = (ap (λ (b : Bool). b && settles s.part) h.0, pass_passing (action_attempt u s.action).next v steps more h.1 k)
 
 pub actions_append : (xs ys : List Step) → actions_of (xs ++ ys) ≡ actions_of xs ++ actions_of ys
 actions_append [] ys = refl

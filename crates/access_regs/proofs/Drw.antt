@@ -6,7 +6,7 @@ use Rattle.std.specs.FinMap as map
 use Rattle.std.proofs.lemmas.Bool.{eq-eqb, ne_eqb, eqb-true, cond-true, cond-false}
 use Rattle.target_machine.proofs.Maps.{got_inserted}
 use Rattle.target_machine.specs.Memory.{Memory, word_read, word_written}
-use Rattle.target_machine.specs.Attempt.{Attempt, attempt, done, posted, bus_error, drw_read, drw_write, size_of, memory_read, memory_write, read_through, advanced, drw_address, lanes, next_tar}
+use Rattle.target_machine.specs.Attempt.{Attempt, attempt, done_attempt, posted_attempt, bus_error, drw_read, drw_write, size_of, memory_read, memory_write, read_through, advanced_target, drw_address, lanes, next_tar}
 use Rattle.target_machine.specs.Plain.{ap_access_of, is_fault}
 use Rattle.target_machine.specs.State.{TargetState}
 use Rattle.target_machine.specs.declared.access.RegAccess.{RegAccess}
@@ -46,14 +46,14 @@ module _ (t : TargetState) (r : ℕ) (m : Ports) (n : ℕ) (f : ApState → ApSt
     reads mask (Some w) words = record { outcome = refl; rest = refl; plain_rest = refl; plain = plain; planned = λ e. planned; others = others; clear = λ e. refl; words = λ e. absurd (cc) }
 
     writes : (is_done : Bool) (words : Memory) →
-        Together t m n f (cond is_done (done (record t { aps = a; words = words })) (bus_error t)) (cond is_done (done (record t { rdbuff = r; aps = b; words = words })) (bus_error (other t r m)))
+        Together t m n f (cond is_done (done_attempt (record t { aps = a; words = words })) (bus_error t)) (cond is_done (done_attempt (record t { rdbuff = r; aps = b; words = words })) (bus_error (other t r m)))
     writes false words = fails
     writes true words = record { outcome = refl; rest = refl; plain_rest = refl; plain = plain; planned = λ e. planned; others = others; clear = λ e. refl; words = λ e. absurd (cc) }
 
-  none_reads : map.get m n ≡ None → Together t m n f (posted 0 t) (posted 0 (other t r m))
+  none_reads : map.get m n ≡ None → Together t m n f (posted_attempt 0 t) (posted_attempt 0 (other t r m))
   none_reads none = record { outcome = refl; rest = refl; plain_rest = refl; plain = λ q. refl; planned = λ e. none ∙ sym (ap (option_map f) none); others = λ q ne. refl; clear = λ e. refl; words = λ e. absurd (cc) }
 
-  none_writes : map.get m n ≡ None → Together t m n f (done t) (done (other t r m))
+  none_writes : map.get m n ≡ None → Together t m n f (done_attempt t) (done_attempt (other t r m))
   none_writes none = record { outcome = refl; rest = refl; plain_rest = refl; plain = λ q. refl; planned = λ e. none ∙ sym (ap (option_map f) none); others = λ q ne. refl; clear = λ e. refl; words = λ e. absurd (cc) }
 
   by_read : (b : Bool) (x y v w : Attempt) → Together t m n f x v → Together t m n f y w → Together t m n f (cond b x y) (cond b v w)
@@ -83,9 +83,9 @@ module _ (t : TargetState) (r : ℕ) (m : Ports) (n size : ℕ) (read : Bool) (v
 
   pub without_port : map.get t.aps n ≡ None → map.get m n ≡ None → Together t m n moved (attempt t drw) (attempt (other t r m) drw)
   without_port plain planned =
-      both t r m n moved (attempt t drw) (cond read (posted 0 t) (done t)) (attempt (other t r m) drw) (cond read (posted 0 (other t r m)) (done (other t r m)))
+      both t r m n moved (attempt t drw) (cond read (posted_attempt 0 t) (done_attempt t)) (attempt (other t r m) drw) (cond read (posted_attempt 0 (other t r m)) (done_attempt (other t r m)))
       (attempt_none t n at drw refl plain) (attempt_none (other t r m) n other_at drw refl planned)
-      (by_read t r m n moved read (posted 0 t) (done t) (posted 0 (other t r m)) (done (other t r m)) (none_reads t r m n moved planned) (none_writes t r m n moved planned))
+      (by_read t r m n moved read (posted_attempt 0 t) (done_attempt t) (posted_attempt 0 (other t r m)) (done_attempt (other t r m)) (none_reads t r m n moved planned) (none_writes t r m n moved planned))
 
   module _ (p : ApState) (c : ℕ) (plain : map.get t.aps n ≡ Some p) (planned : map.get m n ≡ Some (record p { csw = c }))
       (plain_size : size_of p.csw ≡ Some size) (planned_size : size_of c ≡ Some size) (plain_inc : bit_and p.csw 0x30 ≡ 0) (planned_inc : bit_and c 0x30 ≡ 0x10) where
@@ -98,10 +98,10 @@ module _ (t : TargetState) (r : ℕ) (m : Ports) (n size : ℕ) (read : Bool) (v
     abbrev b : Ports
     b = map.insert m (t.select / 2 ^ 24) (moved q)
 
-    plain_advanced : advanced t p size ≡ record t { aps = a }
+    plain_advanced : advanced_target t p size ≡ record t { aps = a }
     plain_advanced = rw plain_inc refl
 
-    planned_advanced : advanced (other t r m) q size ≡ other t r b
+    planned_advanced : advanced_target (other t r m) q size ≡ other t r b
     planned_advanced = rw planned_inc refl
 
     a_is : (i : ℕ) → map.get a i ≡ map.get t.aps i
@@ -127,7 +127,7 @@ module _ (t : TargetState) (r : ℕ) (m : Ports) (n size : ℕ) (read : Bool) (v
     drw_writes : Together t m n moved (drw_write t p (cond read 0 v) (size_of p.csw)) (drw_write (other t r m) q (cond read 0 v) (size_of c))
     drw_writes =
         let word = word_written t.words (drw_address p) (lanes size p.tar) (cond read 0 v) in
-        both t r m n moved _ (cond word.done (done (record t { aps = a; words = word.next })) (bus_error t)) _ (cond word.done (done (record t { rdbuff = r; aps = b; words = word.next })) (bus_error (other t r m)))
+        both t r m n moved _ (cond word.done (done_attempt (record t { aps = a; words = word.next })) (bus_error t)) _ (cond word.done (done_attempt (record t { rdbuff = r; aps = b; words = word.next })) (bus_error (other t r m)))
         (ap (drw_write t p (cond read 0 v)) plain_size ∙ ap (λ (s : TargetState). memory_write t s (drw_address p) (lanes size p.tar) (cond read 0 v)) plain_advanced)
         (ap (drw_write (other t r m) q (cond read 0 v)) planned_size ∙ ap (λ (s : TargetState). memory_write (other t r m) s (drw_address p) (lanes size p.tar) (cond read 0 v)) planned_advanced)
         (writes t r m n moved a b a_is b_here b_others word.done word.next)

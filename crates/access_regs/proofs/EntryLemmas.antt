@@ -7,9 +7,9 @@ use Rattle.access_regs.proofs.Settle.{settled_calm}
 use Rattle.access_regs.specs.Alone.{call_alone, alone_after, large_of_all}
 use Rattle.access_regs.specs.Course.{Course, IsAnswered, answered, skipped, small, stopped}
 use Rattle.access_regs.specs.Entries.{CallAnswers, JournalGrows, JournalMarks, kept_by, target_by}
-use Rattle.access_regs.specs.Journal.{Issue, Step, actions_of, entries_at, finish, finish_of, issue_of, issued, issued_from, kept_from, numbered, steps_at, steps_of}
+use Rattle.access_regs.specs.Journal.{Issue, Step, actions_of, entries_at, finish, finish_of, issue_of, issued_entries, issued_from, kept_from, numbered_entries, steps_at, steps_of}
 use Rattle.access_regs.specs.Kept.{Kept, nothing_kept}
-use Rattle.access_regs.specs.Plan.{settle, settled, settled_at, settling}
+use Rattle.access_regs.specs.Plan.{settle, kept_after_settling, settled_at, settling}
 use Rattle.target_calls.specs.Asks.{AreAskable, IsAskable, is_forgiving, settled_last}
 use Rattle.target_calls.specs.Journal.{Entry, actions_in}
 use Rattle.target_calls.specs.Weights.{AreWeighty}
@@ -18,17 +18,17 @@ use Rattle.target_calls.specs.declared.journal.Part.TheVariants.{Ends, Settles}
 use Rattle.target_machine.proofs.ActionLists.{pass_after}
 use Rattle.target_machine.specs.Lists.{after}
 use Rattle.target_machine.specs.State.{TargetState}
-use Rattle.target_machine.specs.Plain.{acted, given, result_of, Answered, CallEnd, CallDone, Skipped, Faulted, Small}
+use Rattle.target_machine.specs.Plain.{action_attempt, given_number, result_of, Answered, CallEnd, CallDone, Skipped, Faulted, Small}
 use Rattle.target_machine.specs.declared.access.RegAccess.{RegAccess}
 use Rattle.access_regs.specs.declared.planner.Planner.{Planner}
 use Rattle.access_regs.proofs.Lists.{actions_numbered, numbered_append}
 
-issued_after : (p : Planner) (t : TargetState) (xs ys : List Ask) → issued p t (xs ++ ys) ≡ issued p t xs ++ issued_from p (length xs) (kept_from p nothing_kept t xs) (after t (actions_in (issued p t xs))) ys
+issued_after : (p : Planner) (t : TargetState) (xs ys : List Ask) → issued_entries p t (xs ++ ys) ≡ issued_entries p t xs ++ issued_from p (length xs) (kept_from p nothing_kept t xs) (after t (actions_in (issued_entries p t xs))) ys
 issued_after p t xs ys =
     journal_joins p 0 nothing_kept t xs ys
-    ∙ (let number : 0 + length xs ≡ length xs = omega arith in ap (λ (i : ℕ). issued p t xs ++ issued_from p i (kept_from p nothing_kept t xs) (after t (actions_in (issued p t xs))) ys) number)
+    ∙ (let number : 0 + length xs ≡ length xs = omega arith in ap (λ (i : ℕ). issued_entries p t xs ++ issued_from p i (kept_from p nothing_kept t xs) (after t (actions_in (issued_entries p t xs))) ys) number)
 
-finish_none : (n : ℕ) (b : Bool) (k : Kept) → b ≡ false → (numbered n false (finish b k).steps ≡ []) × ((finish b k).kept ≡ k)
+finish_none : (n : ℕ) (b : Bool) (k : Kept) → b ≡ false → (numbered_entries n false (finish b k).steps ≡ []) × ((finish b k).kept ≡ k)
 finish_none n true k e = absurd (cc)
 finish_none n false k e = (refl, refl)
 
@@ -37,33 +37,33 @@ journal_grows p t asks ask unmarked =
     let k : Kept = kept_by p t asks in
     let u : TargetState = target_by p t asks in
     let c : Ask = ask in
-    let own : List Entry = numbered (length asks) (is_forgiving c) (issue_of p u k c).steps in
+    let own : List Entry = numbered_entries (length asks) (is_forgiving c) (issue_of p u k c).steps in
     let none = finish_none (length asks + 1) ask.settled (issue_of p u k c).kept unmarked in (
       issued_after p t asks (c ∷ [])
-          ∙ ap (λ (l : List Entry). issued p t asks ++ ((own ++ l) ++ [])) none.0
-          ∙ ap (λ (l : List Entry). issued p t asks ++ l) (append-nil (own ++ []) ∙ append-nil own),
+          ∙ ap (λ (l : List Entry). issued_entries p t asks ++ ((own ++ l) ++ [])) none.0
+          ∙ ap (λ (l : List Entry). issued_entries p t asks ++ l) (append-nil (own ++ []) ∙ append-nil own),
       kept_joins p 0 nothing_kept t asks (c ∷ []) ∙ none.1,
     )
 
 -- ---- a mark
 
-pub settle_none : (k : Kept) → k.unsettled ≡ None → (settle k ≡ []) × (settled k ≡ k)
+pub settle_none : (k : Kept) → k.unsettled ≡ None → (settle k ≡ []) × (kept_after_settling k ≡ k)
 settle_none k calm = (ap (settling k) calm, ap (settled_at k) calm)
 
 -- one call that is marked, against the same one as it was
 one_marks : (n : ℕ) (own : List Entry) (k : Kept) (b : Bool) →
-    ((own ++ numbered n false (finish true k).steps) ++ [] ≡ ((own ++ numbered n false (finish b k).steps) ++ []) ++ numbered n false (steps_of Settles (settle (finish b k).kept)))
-    × ((finish true k).kept ≡ settled (finish b k).kept)
-one_marks n own k false = (append-nil (own ++ numbered n false (steps_of Settles (settle k))) ∙ ap (λ (l : List Entry). l ++ numbered n false (steps_of Settles (settle k))) (sym (append-nil own) ∙ sym (append-nil (own ++ []))), refl)
+    ((own ++ numbered_entries n false (finish true k).steps) ++ [] ≡ ((own ++ numbered_entries n false (finish b k).steps) ++ []) ++ numbered_entries n false (steps_of Settles (settle (finish b k).kept)))
+    × ((finish true k).kept ≡ kept_after_settling (finish b k).kept)
+one_marks n own k false = (append-nil (own ++ numbered_entries n false (steps_of Settles (settle k))) ∙ ap (λ (l : List Entry). l ++ numbered_entries n false (steps_of Settles (settle k))) (sym (append-nil own) ∙ sym (append-nil (own ++ []))), refl)
 one_marks n own k true =
-    let calm = settle_none (settled k) (settled_calm k) in
-    (sym (append-nil ((own ++ numbered n false (steps_of Settles (settle k))) ++ [])) ∙ ap (λ (l : List RegAccess). ((own ++ numbered n false (steps_of Settles (settle k))) ++ []) ++ numbered n false (steps_of Settles l)) (sym calm.0), sym calm.1)
+    let calm = settle_none (kept_after_settling k) (settled_calm k) in
+    (sym (append-nil ((own ++ numbered_entries n false (steps_of Settles (settle k))) ++ [])) ∙ ap (λ (l : List RegAccess). ((own ++ numbered_entries n false (steps_of Settles (settle k))) ++ []) ++ numbered_entries n false (steps_of Settles l)) (sym calm.0), sym calm.1)
 
 list_marks : (p : Planner) (n : ℕ) (k : Kept) (t : TargetState) (ask : Ask) (asks : List Ask) →
-    (issued_from p n k t ((settled_last (ask ∷ asks))) ≡ issued_from p n k t ((ask ∷ asks)) ++ numbered (n + length (ask ∷ asks)) false (steps_of Settles (settle (kept_from p k t ((ask ∷ asks))))))
-    × (kept_from p k t ((settled_last (ask ∷ asks))) ≡ settled (kept_from p k t ((ask ∷ asks))))
+    (issued_from p n k t ((settled_last (ask ∷ asks))) ≡ issued_from p n k t ((ask ∷ asks)) ++ numbered_entries (n + length (ask ∷ asks)) false (steps_of Settles (settle (kept_from p k t ((ask ∷ asks))))))
+    × (kept_from p k t ((settled_last (ask ∷ asks))) ≡ kept_after_settling (kept_from p k t ((ask ∷ asks))))
 list_marks p n k t ask [] =
-    let own : List Entry = numbered n (is_forgiving ask) (issue_of p t k ask).steps in
+    let own : List Entry = numbered_entries n (is_forgiving ask) (issue_of p t k ask).steps in
     let m = one_marks (n + 1) own (issue_of p t k ask).kept ask.settled in
     (m.0, m.1)
 list_marks p n k t ask (next ∷ asks) =
@@ -72,8 +72,8 @@ list_marks p n k t ask (next ∷ asks) =
     let number : (n + 1) + length (next ∷ asks) ≡ n + length (ask ∷ next ∷ asks) = omega arith in
     let tail : List Entry = issued_from p (n + 1) (finish_of p t k ask).kept v ((next ∷ asks)) in (
       ap (λ (l : List Entry). entries_at p n t k ask ++ l) rest.0
-          ∙ sym (append_assoc (entries_at p n t k ask) tail (numbered ((n + 1) + length (next ∷ asks)) false (steps_of Settles (settle (kept_from p (finish_of p t k ask).kept v ((next ∷ asks)))))))
-          ∙ ap (λ (i : ℕ). (entries_at p n t k ask ++ tail) ++ numbered i false (steps_of Settles (settle (kept_from p (finish_of p t k ask).kept v ((next ∷ asks)))))) number,
+          ∙ sym (append_assoc (entries_at p n t k ask) tail (numbered_entries ((n + 1) + length (next ∷ asks)) false (steps_of Settles (settle (kept_from p (finish_of p t k ask).kept v ((next ∷ asks)))))))
+          ∙ ap (λ (i : ℕ). (entries_at p n t k ask ++ tail) ++ numbered_entries i false (steps_of Settles (settle (kept_from p (finish_of p t k ask).kept v ((next ∷ asks)))))) number,
       rest.1,
     )
 
@@ -82,7 +82,7 @@ journal_marks p t [] = (refl, refl)
 journal_marks p t (ask ∷ asks) =
     let m = list_marks p 0 nothing_kept t ask asks in
     let number : 0 + length (ask ∷ asks) ≡ length (ask ∷ asks) = omega arith in
-    (m.0 ∙ ap (λ (i : ℕ). issued p t ((ask ∷ asks)) ++ numbered i false (steps_of Settles (settle (kept_by p t (ask ∷ asks))))) number, m.1)
+    (m.0 ∙ ap (λ (i : ℕ). issued_entries p t ((ask ∷ asks)) ++ numbered_entries i false (steps_of Settles (settle (kept_by p t (ask ∷ asks))))) number, m.1)
 
 pub weighty_both : (xs ys : List Entry) → AreWeighty xs → AreWeighty ys → AreWeighty (xs ++ ys)
 weighty_both [] ys h k = k
@@ -114,14 +114,14 @@ call_answers p t asks ask more v fresh ok none end =
     let a : IsAnswered (issue_of p u k c) d c.call u = is_answered (issue_of p u k c) d c u v course end in
     let last : Step = record { part = Ends; action = a.action } in
     let n : ℕ = length asks in
-    let leads : List Entry = numbered n (is_forgiving c) a.leads in
-    let own : numbered n (is_forgiving c) (issue_of p u k c).steps ≡ leads ++ numbered n (is_forgiving c) (last ∷ []) = ap (numbered n (is_forgiving c)) a.steps ∙ numbered_append n (is_forgiving c) a.leads (last ∷ []) in
-    let fin : List Entry = numbered (n + 1) false (finish_of p u k c).steps in
+    let leads : List Entry = numbered_entries n (is_forgiving c) a.leads in
+    let own : numbered_entries n (is_forgiving c) (issue_of p u k c).steps ≡ leads ++ numbered_entries n (is_forgiving c) (last ∷ []) = ap (numbered_entries n (is_forgiving c)) a.steps ∙ numbered_append n (is_forgiving c) a.leads (last ∷ []) in
+    let fin : List Entry = numbered_entries (n + 1) false (finish_of p u k c).steps in
     let rest : List Entry = issued_from p (n + 1) (finish_of p u k c).kept (after u (actions_of (steps_at p u k c))) more in
-    let before : List Entry = issued p t asks in
-    let whole : issued p t ((asks ++ ask ∷ more)) ≡ before ++ ((numbered n (is_forgiving c) (issue_of p u k c).steps ++ fin) ++ rest) = issued_after p t asks (c ∷ more) in
-    let value : ◌≡◌ {A = CallEnd} (Answered (result_of c.call (given (acted a.at a.action).outcome))) (Answered v) = sym a.end ∙ end in
-    let same : result_of c.call (given (acted a.at a.action).outcome) ≡ v = cc in
+    let before : List Entry = issued_entries p t asks in
+    let whole : issued_entries p t ((asks ++ ask ∷ more)) ≡ before ++ ((numbered_entries n (is_forgiving c) (issue_of p u k c).steps ++ fin) ++ rest) = issued_after p t asks (c ∷ more) in
+    let value : ◌≡◌ {A = CallEnd} (Answered (result_of c.call (given_number (action_attempt a.at a.action).outcome))) (Answered v) = sym a.end ∙ end in
+    let same : result_of c.call (given_number (action_attempt a.at a.action).outcome) ≡ v = cc in
     let steps : length (issue_of p u k c).steps ≡ length a.leads + 1 = ap length a.steps ∙ length-append a.leads (last ∷ []) in
     record {
       front = before ++ leads;
@@ -130,15 +130,15 @@ call_answers p t asks ask more v fresh ok none end =
       is =
           whole
           ∙ ap (λ (l : List Entry). before ++ ((l ++ fin) ++ rest)) own
-          ∙ ap (λ (l : List Entry). before ++ l) (append_assoc (leads ++ numbered n (is_forgiving c) (last ∷ [])) fin rest ∙ append_assoc leads (numbered n (is_forgiving c) (last ∷ [])) (fin ++ rest))
-          ∙ sym (append_assoc before leads (numbered n (is_forgiving c) (last ∷ []) ++ (fin ++ rest)));
+          ∙ ap (λ (l : List Entry). before ++ l) (append_assoc (leads ++ numbered_entries n (is_forgiving c) (last ∷ [])) fin rest ∙ append_assoc leads (numbered_entries n (is_forgiving c) (last ∷ [])) (fin ++ rest))
+          ∙ sym (append_assoc before leads (numbered_entries n (is_forgiving c) (last ∷ []) ++ (fin ++ rest)));
       at = (let x = length-append before leads in let y = numbered_length n (is_forgiving c) a.leads in omega (arith, x, y, steps));
       gives_it =
-          ap (λ (s : TargetState). result_of c.call (given (acted s a.action).outcome))
+          ap (λ (s : TargetState). result_of c.call (given_number (action_attempt s a.action).outcome))
           (after_split t before leads ∙ ap (after u) (actions_numbered n (is_forgiving c) a.leads) ∙ pass_after u a.at (actions_of a.leads) a.pass)
           ∙ same;
     }
   where
-    numbered_length : (n : ℕ) (b : Bool) (steps : List Step) → length (numbered n b steps) ≡ length steps
+    numbered_length : (n : ℕ) (b : Bool) (steps : List Step) → length (numbered_entries n b steps) ≡ length steps
     numbered_length n b [] = refl
     numbered_length n b (s ∷ steps) = ap suc (numbered_length n b steps)

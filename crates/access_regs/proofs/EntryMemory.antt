@@ -2,7 +2,7 @@
 use Rattle.std.proofs.Common.{◌≡◌, ◌≢◌, ◌∙◌, ◌⊎◌, inl, inr, ℕ, ◌+◌, ◌-◌, ◌≤◌, max, Bool, true, false, cond, not, ◌&&◌, List, [], ◌∷◌, ◌++◌, append-nil, append_assoc, length, refl, sym, ap, subst, arith, zero, suc, take}
 use Rattle.std.specs.List.{AllByRecursion}
 use Rattle.target_machine.specs.Lists.{after}
-use Rattle.target_machine.specs.Plain.{acted, is_fault, Faulted, CallDone}
+use Rattle.target_machine.specs.Plain.{action_attempt, is_fault, Faulted, CallDone}
 use Rattle.target_machine.specs.State.{TargetState}
 use Rattle.target_calls.specs.Asks.{AreAskable, IsAskable, is_forgiving}
 use Rattle.target_calls.specs.Journal.{Entry, Passes, is_unforgiven, lines_before, target_after}
@@ -12,7 +12,7 @@ use Rattle.target_calls.proofs.EntryLemmas.{pass_front}
 use Rattle.access_regs.specs.Alone.{call_alone, alone_after}
 use Rattle.access_regs.specs.Closed.{HasMade, MemoryAtEntry, closed_after, closed_by, closes}
 use Rattle.access_regs.specs.Follows.{Follows}
-use Rattle.access_regs.specs.Journal.{actions_of, entries_at, finish_of, issue_of, issued_from, numbered, steps_at}
+use Rattle.access_regs.specs.Journal.{actions_of, entries_at, finish_of, issue_of, issued_from, numbered_entries, steps_at}
 use Rattle.access_regs.specs.Kept.{Kept, nothing_kept}
 use Rattle.access_regs.specs.declared.planner.Planner.{Planner}
 use Rattle.access_regs.proofs.AllCalls.{call_course, fresh_follows}
@@ -38,15 +38,15 @@ record At (n units : ℕ) (large : List ℕ) (t u : TargetState) (calls : List A
 -- ---- entries
 
 unforgiven_breaks : (u : TargetState) (e : Entry) → is_unforgiven u e ≡ true → Breaks u e
-unforgiven_breaks u e h = one (is_fault (acted u e.action).outcome) e.forgiving refl refl h
+unforgiven_breaks u e h = one (is_fault (action_attempt u e.action).outcome) e.forgiving refl refl h
   where
-    one : (b c : Bool) → is_fault (acted u e.action).outcome ≡ b → e.forgiving ≡ c → (b && not c) ≡ true → Breaks u e
+    one : (b c : Bool) → is_fault (action_attempt u e.action).outcome ≡ b → e.forgiving ≡ c → (b && not c) ≡ true → Breaks u e
     one true false x y h = record { bad = x; strict = y }
     one true true x y h = absurd (cc)
     one false c x y h = absurd (cc)
 
 -- one entry more
-after_one : (u : TargetState) (front : List Entry) (e : Entry) → target_after u (front ++ e ∷ []) ≡ (acted (target_after u front) e.action).next
+after_one : (u : TargetState) (front : List Entry) (e : Entry) → target_after u (front ++ e ∷ []) ≡ (action_attempt (target_after u front) e.action).next
 after_one u front e = after_split u front (e ∷ [])
 
 all_at : (P : Entry → Type 0) (front : List Entry) (e : Entry) (more : List Entry) → AllByRecursion P (front ++ e ∷ more) → P e
@@ -60,10 +60,10 @@ one_more front e more = sym (append_assoc front (e ∷ []) more)
 
 module _ (p : Planner) (n units : ℕ) (k : Kept) (large : List ℕ) (t u : TargetState) (f : Follows k large t u) (c : Ask) (cs : List Ask) (ok : IsAskable c) (low : units ≤ n) where
   abbrev own : List Entry
-  own = numbered n (is_forgiving c) (issue_of p u k c).steps
+  own = numbered_entries n (is_forgiving c) (issue_of p u k c).steps
 
   abbrev fin : List Entry
-  fin = numbered (n + 1) false (finish_of p u k c).steps
+  fin = numbered_entries (n + 1) false (finish_of p u k c).steps
 
   abbrev es : List Entry
   es = own ++ fin
@@ -138,7 +138,7 @@ module _ (p : Planner) (n units : ℕ) (k : Kept) (large : List ℕ) (t u : Targ
       unit = ap (λ (x : Entry). x.unit) (sym same.entry_is) ∙ stops.unit ∙ omega arith
 
       words : (target_after u (front ++ e ∷ [])).words ≡ d.next.words
-      words = ap (λ (s : TargetState). s.words) (after_one u front e) ∙ (λ j. (acted (target_after u (sym same.front_is j)) (sym same.entry_is j).action).next.words) ∙ stops.words
+      words = ap (λ (s : TargetState). s.words) (after_one u front e) ∙ (λ j. (action_attempt (target_after u (sym same.front_is j)) (sym same.entry_is j).action).next.words) ∙ stops.words
 
       opened : Open units u front
       opened = faulted_open p n units k large t u f c ok bad front ((e ∷ more) ++ fin) [] pass (split front (e ∷ more) is)

@@ -10,10 +10,10 @@ use Rattle.target_machine.specs.declared.access.RegAccess.{RegAccess}
 use Rattle.target_machine.specs.declared.unit.Call.TheVariants.{Access}
 use Rattle.target_machine.specs.declared.unit.Unit.{Unit as AccessUnit}
 use Rattle.target_machine.specs.declared.unit.Unit.TheVariants as unit
-use Rattle.access_regs.specs.Kept.{Kept, known, with_known, csw_of, is_known, unknown}
-use Rattle.access_regs.specs.Plan.{select_value, unless, select_needed, csw_needed, high_needed, tar_needed, port_writes, planned_csw, first_plan, learned, made, after_drw, predicted, settle, settled, settled_at, increment_off, needs_settle, needs_csw, leads}
+use Rattle.access_regs.specs.Kept.{Kept, known_at, with_known, csw_of, is_known, unknown}
+use Rattle.access_regs.specs.Plan.{select_value, unless, select_needed, csw_needed, high_needed, tar_needed, port_writes, planned_csw, first_plan, kept_after_csw, kept_after_plan, after_drw, predicted_tar, settle, kept_after_settling, settled_at, increment_off, needs_settle, needs_csw, leads}
 use Rattle.access_regs.specs.Plan as plans
-use Rattle.access_regs.specs.Journal.{Issue, Step, steps_of, numbered, before, gives, by_plan, by_csw, by_cfg, by_cfg_read, after_settling, planned, issued_from, making, entries_at, steps_at, actions_of}
+use Rattle.access_regs.specs.Journal.{Issue, Step, steps_of, numbered_entries, before, gives, by_plan, by_csw, by_cfg, by_cfg_read, after_settling, issue_of_plan, issued_from, making, entries_at, steps_at, actions_of}
 use Rattle.access_regs.specs.Neighbours.{own_entries, AreNeighbours}
 use Rattle.access_regs.specs.declared.known.Known.{Known}
 use Rattle.access_regs.specs.declared.known.Unsettled.{Unsettled}
@@ -30,7 +30,7 @@ own_append [] ys = omega arith
 own_append (x ∷ xs) ys = let h = own_append xs ys in omega (arith, h)
 
 abbrev pub own_steps : ℕ → Bool → List Step → ℕ
-own_steps n b steps = own_entries (numbered n b steps)
+own_steps n b steps = own_entries (numbered_entries n b steps)
 
 pub own_steps_append : (n : ℕ) (b : Bool) (xs ys : List Step) → own_steps n b (xs ++ ys) ≡ own_steps n b xs + own_steps n b ys
 own_steps_append n b [] ys = omega arith
@@ -72,36 +72,36 @@ large_in c d (x ∷ xs) zero (suc q) = refl
 large_in c d (x ∷ xs) (suc m) zero = refl
 large_in c d (x ∷ xs) (suc m) (suc q) = large_in c d xs m q
 
-large_same : (k : Kept) (m q : ℕ) (c d : Option ℕ) → (known (with_known k m (record (known k m) { csw = c; tar = d })) q).large ≡ (known k q).large
+large_same : (k : Kept) (m q : ℕ) (c d : Option ℕ) → (known_at (with_known k m (record (known_at k m) { csw = c; tar = d })) q).large ≡ (known_at k q).large
 large_same k m q c d = large_in c d k.ports m q
 
-pub settled_large : (k : Kept) (q : ℕ) → ((known (settled k) q).large ≡ (known k q).large) × (length (settled k).ports ≡ length k.ports)
+pub settled_large : (k : Kept) (q : ℕ) → ((known_at (kept_after_settling k) q).large ≡ (known_at k q).large) × (length (kept_after_settling k).ports ≡ length k.ports)
 settled_large k q = by_unsettled k.unsettled
   where
-    by_unsettled : (o : Option Unsettled) → ((known (settled_at k o) q).large ≡ (known k q).large) × (length (settled_at k o).ports ≡ length k.ports)
+    by_unsettled : (o : Option Unsettled) → ((known_at (settled_at k o) q).large ≡ (known_at k q).large) × (length (settled_at k o).ports ≡ length k.ports)
     by_unsettled None = (refl, refl)
-    by_unsettled (Some s) = (large_same k s.ap q (Some (increment_off (csw_of (known k s.ap)))) (Some s.tar), table_kept k s.ap (record (known k s.ap) { csw = Some (increment_off (csw_of (known k s.ap))); tar = Some s.tar }))
+    by_unsettled (Some s) = (large_same k s.ap q (Some (increment_off (csw_of (known_at k s.ap)))) (Some s.tar), table_kept k s.ap (record (known_at k s.ap) { csw = Some (increment_off (csw_of (known_at k s.ap))); tar = Some s.tar }))
 
 module _ (size m address : ℕ) (read : Bool) (value : ℕ) where
   abbrev asked : AccessUnit
   asked = unit.Memory size read m address value
 
   abbrev extra : Kept → ℕ
-  extra k = cond (known k m).large 1 0
+  extra k = cond (known_at k m).large 1 0
 
   plan_own : (n : ℕ) (k : Kept) → own_steps n false (by_plan k asked).steps ≤ length (select_needed k m 0) + 3 + extra k
   plan_own n k =
       let a = own_steps_append n false (steps_of Leads (leads k asked)) (record { part = Ends; action = Makes (drw_of read address value) } ∷ []) in
       let b = own_leads n false (leads k asked) in
-      let c = length-append (select_needed k m 0) (port_writes (known k m) size address) in
-      let d = few_writes (known k m) size address in
+      let c = length-append (select_needed k m 0) (port_writes (known_at k m) size address) in
+      let d = few_writes (known_at k m) size address in
       omega (arith, a, b, c, d)
 
-  no_select : (k : Kept) (v : ℕ) → length (select_needed (learned k m v) m 0) ≡ 0
+  no_select : (k : Kept) (v : ℕ) → length (select_needed (kept_after_csw k m v) m 0) ≡ 0
   no_select k v = ap (λ (b : Bool). length (unless b (select_of m 0))) (eq-eqb (select_value m 0) (select_value m 0) refl)
 
-  learned_extra : (k : Kept) (v : ℕ) → m < length k.ports → extra (learned k m v) ≡ extra k
-  learned_extra k v lt = ap (λ (a : Known). cond a.large 1 0) (known_same k m (record (known k m) { csw = Some v }) lt)
+  learned_extra : (k : Kept) (v : ℕ) → m < length k.ports → extra (kept_after_csw k m v) ≡ extra k
+  learned_extra k v lt = ap (λ (a : Known). cond a.large 1 0) (known_same k m (record (known_at k m) { csw = Some v }) lt)
 
   pub csw_own : (n : ℕ) (t : TargetState) (k : Kept) → m < length k.ports → own_steps n false (by_csw t k asked).steps ≤ 5 + extra k
   csw_own n t k lt = by_needs (needs_csw k asked)
@@ -109,13 +109,13 @@ module _ (size m address : ℕ) (read : Bool) (value : ℕ) where
       v : ℕ
       v = gives t (first_plan k m)
 
-      by_needs : (b : Bool) → own_steps n false (cond b (before (steps_of Leads (first_plan k m)) (by_plan (learned k m v) asked)) (by_plan k asked)).steps ≤ 5 + extra k
+      by_needs : (b : Bool) → own_steps n false (cond b (before (steps_of Leads (first_plan k m)) (by_plan (kept_after_csw k m v) asked)) (by_plan k asked)).steps ≤ 5 + extra k
       by_needs true =
-          let a = own_steps_append n false (steps_of Leads (first_plan k m)) (by_plan (learned k m v) asked).steps in
+          let a = own_steps_append n false (steps_of Leads (first_plan k m)) (by_plan (kept_after_csw k m v) asked).steps in
           let b = own_leads n false (first_plan k m) in
           let c = length-append (select_needed k m 0) (ap_access_of true 0 0 ∷ []) in
           let d = few_unless (is_known k.select (select_value m 0)) (select_of m 0) in
-          let e = plan_own n (learned k m v) in
+          let e = plan_own n (kept_after_csw k m v) in
           let f = no_select k v in
           let g = learned_extra k v lt in
           omega (arith, a, b, c, d, e, f, g)
@@ -127,9 +127,9 @@ module _ (size m address : ℕ) (read : Bool) (value : ℕ) where
   -- what is kept after the unit comes from what is kept before its plan
   pub record MadeFrom (k : Kept) (kept : Kept) : Type 0 where
     pub from : Kept
-    pub is : kept ≡ made from asked
+    pub is : kept ≡ kept_after_plan from asked
     pub table : length from.ports ≡ length k.ports
-    pub large : (known from m).large ≡ (known k m).large
+    pub large : (known_at from m).large ≡ (known_at k m).large
 
   pub csw_made : (t : TargetState) (k : Kept) → m < length k.ports → MadeFrom k (by_csw t k asked).kept
   csw_made t k lt = by_needs (needs_csw k asked)
@@ -137,12 +137,12 @@ module _ (size m address : ℕ) (read : Bool) (value : ℕ) where
       v : ℕ
       v = gives t (first_plan k m)
 
-      by_needs : (b : Bool) → MadeFrom k (cond b (before (steps_of Leads (first_plan k m)) (by_plan (learned k m v) asked)) (by_plan k asked)).kept
+      by_needs : (b : Bool) → MadeFrom k (cond b (before (steps_of Leads (first_plan k m)) (by_plan (kept_after_csw k m v) asked)) (by_plan k asked)).kept
       by_needs true = record {
-        from = learned k m v;
+        from = kept_after_csw k m v;
         is = refl;
-        table = table_kept k m (record (known k m) { csw = Some v });
-        large = ap (λ (a : Known). a.large) (known_same k m (record (known k m) { csw = Some v }) lt);
+        table = table_kept k m (record (known_at k m) { csw = Some v });
+        large = ap (λ (a : Known). a.large) (known_same k m (record (known_at k m) { csw = Some v }) lt);
       }
       by_needs false = record { from = k; is = refl; table = refl; large = refl }
 
@@ -156,7 +156,7 @@ module _ (size m address : ℕ) (read : Bool) (value : ℕ) where
       subst (λ (b : Bool). First n k (cond b (before (steps_of Leads (plans.cfg_plan k m)) (by_cfg_read (after t (making (plans.cfg_plan k m))) k asked (gives t (plans.cfg_plan k m)))) (by_csw t k asked))) (sym narrow)
       (record { few = csw_own n t k lt; made = csw_made t k lt })
 
-  pub first_unit : (n : ℕ) (t : TargetState) (k : Kept) → m < length k.ports → plans.needs_cfg k asked ≡ false → First n k (planned t k asked)
+  pub first_unit : (n : ℕ) (t : TargetState) (k : Kept) → m < length k.ports → plans.needs_cfg k asked ≡ false → First n k (issue_of_plan t k asked)
   first_unit n t k lt narrow = by_settle (needs_settle k asked)
     where
       v : TargetState
@@ -165,11 +165,11 @@ module _ (size m address : ℕ) (read : Bool) (value : ℕ) where
       by_settle : (b : Bool) → First n k (cond b (after_settling t k (λ u l. by_cfg u l asked)) (by_cfg t k asked))
       by_settle true =
           let e = settled_large k m in
-          let g = cfg_first n v (settled k) (let h = e.1 in omega arith) (ap (λ (b : Bool). nat_lt 0xFFFF_FFFF address && not b) e.0 ∙ narrow) in
-          let a = own_steps_append n false (steps_of Settles (settle k)) (by_cfg v (settled k) asked).steps in
+          let g = cfg_first n v (kept_after_settling k) (let h = e.1 in omega arith) (ap (λ (b : Bool). nat_lt 0xFFFF_FFFF address && not b) e.0 ∙ narrow) in
+          let a = own_steps_append n false (steps_of Settles (settle k)) (by_cfg v (kept_after_settling k) asked).steps in
           let b = own_settling n false (settle k) in
           let few = g.few in
-          let same : extra (settled k) ≡ extra k = ap (λ (b : Bool). cond b 1 0) e.0 in
+          let same : extra (kept_after_settling k) ≡ extra k = ap (λ (b : Bool). cond b 1 0) e.0 in
           let made = g.made in
           record {
             few = omega (arith, a, b, few, same);
@@ -183,11 +183,11 @@ module _ (size m address : ℕ) (read : Bool) (value : ℕ) where
 pub record Ready (size m address : ℕ) (k : Kept) : Type 0 where
   pub table : m < length k.ports
   pub select : is_known k.select (select_value m 0) ≡ true
-  pub csw : is_known (known k m).csw (planned_csw (csw_of (known k m)) size) ≡ true
-  pub some : is_none (known k m).csw ≡ false
-  pub high : (not (known k m).large || is_known (known k m).high (address / 2 ^ 32)) ≡ true
-  pub tar : is_known (known k m).tar (address % 2 ^ 32) ≡ true
-  pub narrow : (nat_lt 0xFFFF_FFFF address && not (known k m).large) ≡ false
+  pub csw : is_known (known_at k m).csw (planned_csw (csw_of (known_at k m)) size) ≡ true
+  pub some : is_none (known_at k m).csw ≡ false
+  pub high : (not (known_at k m).large || is_known (known_at k m).high (address / 2 ^ 32)) ≡ true
+  pub tar : is_known (known_at k m).tar (address % 2 ^ 32) ≡ true
+  pub narrow : (nat_lt 0xFFFF_FFFF address && not (known_at k m).large) ≡ false
 
 low_next : (address size : ℕ) → address % 1024 + size < 1024 → (address + size) % 2 ^ 32 ≡ address % 2 ^ 32 + size
 low_next address size fits = omega arith
@@ -207,21 +207,21 @@ module _ (size m address : ℕ) (read : Bool) (value : ℕ) where
       ap (λ (b : Bool). is_some k.unsettled && (b || not (is_known k.select (select_value m 0)))) r.narrow
       ∙ ap (λ (b : Bool). is_some k.unsettled && not b) r.select ∙ and-false (is_some k.unsettled)
 
-  pub ready_plan : (t : TargetState) (k : Kept) → Ready size m address k → planned t k unit_here ≡ by_plan k unit_here
+  pub ready_plan : (t : TargetState) (k : Kept) → Ready size m address k → issue_of_plan t k unit_here ≡ by_plan k unit_here
   ready_plan t k r =
       ap (λ (b : Bool). cond b (after_settling t k (λ u l. by_cfg u l unit_here)) (by_cfg t k unit_here)) (ready_settle k r)
       ∙ ap (λ (b : Bool). cond b (before (steps_of Leads (plans.cfg_plan k m)) (by_cfg_read (after t (making (plans.cfg_plan k m))) k unit_here (gives t (plans.cfg_plan k m)))) (by_csw t k unit_here)) r.narrow
-      ∙ ap (λ (b : Bool). cond b (before (steps_of Leads (first_plan k m)) (by_plan (learned k m (gives t (first_plan k m))) unit_here)) (by_plan k unit_here)) r.some
+      ∙ ap (λ (b : Bool). cond b (before (steps_of Leads (first_plan k m)) (by_plan (kept_after_csw k m (gives t (first_plan k m))) unit_here)) (by_plan k unit_here)) r.some
 
   pub ready_leads : (k : Kept) → Ready size m address k → leads k unit_here ≡ []
   ready_leads k r =
-      let a : Known = known k m in
+      let a : Known = known_at k m in
       ap (λ (b : Bool). unless b (select_of m 0) ++ port_writes a size address) r.select
       ∙ ap (λ (b : Bool). unless b (ap_access_of false 0 (planned_csw (csw_of a) size)) ++ (high_needed a address ++ tar_needed a address)) r.csw
       ∙ ap (λ (b : Bool). unless b (ap_access_of false 8 (address / 2 ^ 32)) ++ tar_needed a address) r.high
       ∙ ap (λ (b : Bool). unless b (ap_access_of false 4 (address % 2 ^ 32))) r.tar
 
-  ready_own : (n : ℕ) (t : TargetState) (k : Kept) → Ready size m address k → own_steps n false (planned t k unit_here).steps ≡ 1
+  ready_own : (n : ℕ) (t : TargetState) (k : Kept) → Ready size m address k → own_steps n false (issue_of_plan t k unit_here).steps ≡ 1
   ready_own n t k r =
       ap (λ (i : Issue). own_steps n false i.steps) (ready_plan t k r)
       ∙ ap (λ (l : List RegAccess). own_steps n false (steps_of Leads l ++ record { part = Ends; action = Makes (drw_of read address value) } ∷ [])) (ready_leads k r)
@@ -235,11 +235,11 @@ module _ (size m address : ℕ) (read : Bool) (value : ℕ) where
   made_narrow l (inl e) = ap (λ (b : Bool). nat_lt 0xFFFF_FFFF (address + size) && not b) e ∙ and-false (nat_lt 0xFFFF_FFFF (address + size))
   made_narrow l (inr less) = ap (λ (b : Bool). b && not l) (le-ltb 0xFFFF_FFFF (address + size) (omega arith))
 
-  pub made_ready : (k : Kept) → m < length k.ports → 0 < size → address % 1024 + size < 1024 → ((known k m).large ≡ true) ⊎ (address + size < 2 ^ 32) → Ready size m (address + size) (made k unit_here)
+  pub made_ready : (k : Kept) → m < length k.ports → 0 < size → address % 1024 + size < 1024 → ((known_at k m).large ≡ true) ⊎ (address + size < 2 ^ 32) → Ready size m (address + size) (kept_after_plan k unit_here)
   made_ready k lt some fits where_ =
-      let a : Known = known k m in
+      let a : Known = known_at k m in
       let b : Known = after_drw a size address in
-      let here : known (made k unit_here) m ≡ b = known_same k m b lt in
+      let here : known_at (kept_after_plan k unit_here) m ≡ b = known_same k m b lt in
       record {
         table = subst (λ (x : ℕ). m < x) (sym (table_kept k m b)) lt;
         select = eq-eqb (select_value m 0) (select_value m 0) refl;
@@ -252,18 +252,18 @@ module _ (size m address : ℕ) (read : Bool) (value : ℕ) where
         narrow = ap (λ (x : Known). nat_lt 0xFFFF_FFFF (address + size) && not x.large) here ∙ made_narrow a.large where_;
       }
 
-  pub made_large : (k : Kept) → m < length k.ports → (known (made k unit_here) m).large ≡ (known k m).large
-  made_large k lt = ap (λ (x : Known). x.large) (known_same k m (after_drw (known k m) size address) lt)
+  pub made_large : (k : Kept) → m < length k.ports → (known_at (kept_after_plan k unit_here) m).large ≡ (known_at k m).large
+  made_large k lt = ap (λ (x : Known). x.large) (known_same k m (after_drw (known_at k m) size address) lt)
 
   -- the journal of one such unit and more
   abbrev pub here_asked : Ask
   here_asked = record { call = Access unit_here; forgive = false; settled = false }
 
   pub own_first : (n : ℕ) (k : Kept) (t : TargetState) (cs : List Ask) → own_entries (issued_from Managed n k t (here_asked ∷ cs))
-      ≡ own_steps n false (planned t k unit_here).steps + own_entries (issued_from Managed (n + 1) (planned t k unit_here).kept (after t (actions_of (steps_at Managed t k here_asked))) cs)
+      ≡ own_steps n false (issue_of_plan t k unit_here).steps + own_entries (issued_from Managed (n + 1) (issue_of_plan t k unit_here).kept (after t (actions_of (steps_at Managed t k here_asked))) cs)
   own_first n k t cs =
-      let a = own_append (entries_at Managed n t k here_asked) (issued_from Managed (n + 1) (planned t k unit_here).kept (after t (actions_of (steps_at Managed t k here_asked))) cs) in
-      let b = own_append (numbered n false (planned t k unit_here).steps) [] in
+      let a = own_append (entries_at Managed n t k here_asked) (issued_from Managed (n + 1) (issue_of_plan t k unit_here).kept (after t (actions_of (steps_at Managed t k here_asked))) cs) in
+      let b = own_append (numbered_entries n false (issue_of_plan t k unit_here).steps) [] in
       omega (arith, a, b)
 
 pub next_where : (l : Bool) (address size n : ℕ) → (l ≡ true) ⊎ (address + size * suc (suc n) ≤ 2 ^ 32) → 0 < size → (l ≡ true) ⊎ (address + size < 2 ^ 32)
@@ -276,7 +276,7 @@ rest_where l address size n (inr le) = inr (let a = mul-suc size n in omega (ari
 
 -- units after one that was made need one entry each
 pub ready_few : (c : Ask) (cs : List Ask) (n : ℕ) (k : Kept) (t : TargetState) (size m address : ℕ) → 0 < size → address % 1024 + size * suc (length cs) ≤ 1024 → AreNeighbours size m address (c ∷ cs) →
-    ((known k m).large ≡ true) ⊎ (address + size * suc (length cs) ≤ 2 ^ 32) → Ready size m address k → own_entries (issued_from Managed n k t (c ∷ cs)) ≤ suc (length cs)
+    ((known_at k m).large ≡ true) ⊎ (address + size * suc (length cs) ≤ 2 ^ 32) → Ready size m address k → own_entries (issued_from Managed n k t (c ∷ cs)) ≤ suc (length cs)
 ready_few c [] n k t size m address some fits near where_ ready =
     let u = near.0 in
     let a = own_first size m address u.read u.value n k t [] in
@@ -285,14 +285,14 @@ ready_few c [] n k t size m address some fits near where_ ready =
 ready_few c (d ∷ ds) n k t size m address some fits near where_ ready =
     let u = near.0 in
     let here : AccessUnit = unit_here size m address u.read u.value in
-    let e : (planned t k here).kept ≡ made k here = ap (λ (i : Issue). i.kept) (ready_plan size m address u.read u.value t k ready) in
+    let e : (issue_of_plan t k here).kept ≡ kept_after_plan k here = ap (λ (i : Issue). i.kept) (ready_plan size m address u.read u.value t k ready) in
     let inside : address % 1024 + size < 1024 = (let x = mul-suc size (suc (length ds)) in let y = mul-suc size (length ds) in omega (arith, x, y)) in
     let more : (address + size) % 1024 + size * suc (length ds) ≤ 1024 = (let x = mul-suc size (suc (length ds)) in omega (arith, x)) in
-    let next = made_ready size m address u.read u.value k ready.table some inside (next_where (known k m).large address size (length ds) where_ some) in
-    let large : (known (made k here) m).large ≡ (known k m).large = made_large size m address u.read u.value k ready.table in
-    let rest = rest_where (known k m).large address size (suc (length ds)) where_ in
-    let g = ready_few d ds (n + 1) (planned t k here).kept (after t (actions_of (steps_at Managed t k (here_asked size m address u.read u.value)))) size m (address + size) some more near.1
-    (subst (λ (x : Kept). ((known x m).large ≡ true) ⊎ ((address + size) + size * suc (length ds) ≤ 2 ^ 32)) (sym e)
+    let next = made_ready size m address u.read u.value k ready.table some inside (next_where (known_at k m).large address size (length ds) where_ some) in
+    let large : (known_at (kept_after_plan k here) m).large ≡ (known_at k m).large = made_large size m address u.read u.value k ready.table in
+    let rest = rest_where (known_at k m).large address size (suc (length ds)) where_ in
+    let g = ready_few d ds (n + 1) (issue_of_plan t k here).kept (after t (actions_of (steps_at Managed t k (here_asked size m address u.read u.value)))) size m (address + size) some more near.1
+    (subst (λ (x : Kept). ((known_at x m).large ≡ true) ⊎ ((address + size) + size * suc (length ds) ≤ 2 ^ 32)) (sym e)
     (subst (λ (l : Bool). (l ≡ true) ⊎ ((address + size) + size * suc (length ds) ≤ 2 ^ 32)) (sym large) rest))
     (subst (Ready size m (address + size)) (sym e) next) in
     let a = own_first size m address u.read u.value n k t (d ∷ ds) in
@@ -318,35 +318,35 @@ extra_bound false = refl
 
 -- where CFG is not read
 pub narrow_few : (n : ℕ) (k : Kept) (t : TargetState) (size m address : ℕ) (calls : List Ask) → length k.ports ≡ 256 → m < 256 → ((size ≡ 1) ⊎ ((size ≡ 2) ⊎ (size ≡ 4))) →
-    address % size ≡ 0 → address % 1024 + size * length calls ≤ 1024 → AreNeighbours size m address calls → ((known k m).large ≡ true) ⊎ (address < 2 ^ 32) →
-    own_entries (issued_from Managed n k t calls) ≤ length calls + cond (known k m).large 5 4
+    address % size ≡ 0 → address % 1024 + size * length calls ≤ 1024 → AreNeighbours size m address calls → ((known_at k m).large ≡ true) ⊎ (address < 2 ^ 32) →
+    own_entries (issued_from Managed n k t calls) ≤ length calls + cond (known_at k m).large 5 4
 narrow_few n k t size m address [] table lt is aligned fits near where_ = omega arith
 narrow_few n k t size m address (c ∷ []) table lt is aligned fits near where_ =
     let u = near.0 in
-    let f = first_unit size m address u.read u.value n t k (omega arith) (start_narrow (known k m).large address where_) in
+    let f = first_unit size m address u.read u.value n t k (omega arith) (start_narrow (known_at k m).large address where_) in
     let few = f.few in
     let a = own_first size m address u.read u.value n k t [] in
-    let b = extra_bound (known k m).large in
-    subst (λ (x : Ask). own_entries (issued_from Managed n k t (x ∷ [])) ≤ 1 + cond (known k m).large 5 4) (sym u.is) (omega (arith, a, few, b))
+    let b = extra_bound (known_at k m).large in
+    subst (λ (x : Ask). own_entries (issued_from Managed n k t (x ∷ [])) ≤ 1 + cond (known_at k m).large 5 4) (sym u.is) (omega (arith, a, few, b))
 narrow_few n k t size m address (c ∷ d ∷ ds) table lt is aligned fits near where_ =
     let u = near.0 in
     let some : 0 < size = some_size size is in
     let here : AccessUnit = unit_here size m address u.read u.value in
-    let f = first_unit size m address u.read u.value n t k (omega arith) (start_narrow (known k m).large address where_) in
+    let f = first_unit size m address u.read u.value n t k (omega arith) (start_narrow (known_at k m).large address where_) in
     let few = f.few in
     let made_ = f.made in
     let from : Kept = made_.from in
     let below : m < length from.ports = (let x = made_.table in omega arith) in
     let inside : address % 1024 + size < 1024 = (let x = mul-suc size (suc (length ds)) in let y = mul-suc size (length ds) in omega (arith, x, y)) in
     let more : (address + size) % 1024 + size * suc (length ds) ≤ 1024 = (let x = mul-suc size (suc (length ds)) in omega (arith, x)) in
-    let stored : ((known k m).large ≡ true) ⊎ (address + size * suc (suc (length ds)) ≤ 2 ^ 32) = start_where (known k m).large address size (suc (suc (length ds))) where_ fits in
+    let stored : ((known_at k m).large ≡ true) ⊎ (address + size * suc (suc (length ds)) ≤ 2 ^ 32) = start_where (known_at k m).large address size (suc (suc (length ds))) where_ fits in
     let next = made_ready size m address u.read u.value from below some inside
-    (subst (λ (l : Bool). (l ≡ true) ⊎ (address + size < 2 ^ 32)) (sym made_.large) (next_where (known k m).large address size (length ds) stored some)) in
-    let large : (known (made from here) m).large ≡ (known k m).large = made_large size m address u.read u.value from below ∙ made_.large in
-    let g = ready_few d ds (n + 1) (planned t k here).kept (after t (actions_of (steps_at Managed t k (here_asked size m address u.read u.value)))) size m (address + size) some more near.1
-    (subst (λ (x : Kept). ((known x m).large ≡ true) ⊎ ((address + size) + size * suc (length ds) ≤ 2 ^ 32)) (sym made_.is)
-    (subst (λ (l : Bool). (l ≡ true) ⊎ ((address + size) + size * suc (length ds) ≤ 2 ^ 32)) (sym large) (rest_where (known k m).large address size (suc (length ds)) stored)))
+    (subst (λ (l : Bool). (l ≡ true) ⊎ (address + size < 2 ^ 32)) (sym made_.large) (next_where (known_at k m).large address size (length ds) stored some)) in
+    let large : (known_at (kept_after_plan from here) m).large ≡ (known_at k m).large = made_large size m address u.read u.value from below ∙ made_.large in
+    let g = ready_few d ds (n + 1) (issue_of_plan t k here).kept (after t (actions_of (steps_at Managed t k (here_asked size m address u.read u.value)))) size m (address + size) some more near.1
+    (subst (λ (x : Kept). ((known_at x m).large ≡ true) ⊎ ((address + size) + size * suc (length ds) ≤ 2 ^ 32)) (sym made_.is)
+    (subst (λ (l : Bool). (l ≡ true) ⊎ ((address + size) + size * suc (length ds) ≤ 2 ^ 32)) (sym large) (rest_where (known_at k m).large address size (suc (length ds)) stored)))
     (subst (Ready size m (address + size)) (sym made_.is) next) in
     let a = own_first size m address u.read u.value n k t (d ∷ ds) in
-    let b = extra_bound (known k m).large in
-    subst (λ (x : Ask). own_entries (issued_from Managed n k t (x ∷ d ∷ ds)) ≤ suc (suc (length ds)) + cond (known k m).large 5 4) (sym u.is) (omega (arith, a, few, g, b))
+    let b = extra_bound (known_at k m).large in
+    subst (λ (x : Ask). own_entries (issued_from Managed n k t (x ∷ d ∷ ds)) ≤ suc (suc (length ds)) + cond (known_at k m).large 5 4) (sym u.is) (omega (arith, a, few, g, b))

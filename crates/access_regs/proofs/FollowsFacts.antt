@@ -7,7 +7,7 @@ use Rattle.target_machine.specs.Attempt.{Attempt, stored_csw, acknowledges}
 use Rattle.target_machine.specs.Plain.{Makes, contains, select_of, is_fault}
 use Rattle.target_machine.specs.State.{TargetState}
 use Rattle.target_machine.specs.declared.ap.ApState.{ApState}
-use Rattle.access_regs.specs.Kept.{Kept, known, with_known, csw_of, is_known, selected}
+use Rattle.access_regs.specs.Kept.{Kept, known_at, with_known, csw_of, is_known, kept_with_select}
 use Rattle.access_regs.specs.Plan.{select_value, unless, select_needed}
 use Rattle.access_regs.specs.Journal.{making}
 use Rattle.access_regs.specs.Follows.{Follows, FollowsPort, IsTrueOf, unsettled_tar}
@@ -47,7 +47,7 @@ module _ (k : Kept) (large : List ℕ) (t u : TargetState) (f : Follows k large 
 
   module _ (n bank : ℕ) (lt : n < 256) (banked : bank < 16) where
     -- SELECT is written on both, or known to have the value
-    pub follows_select : ((s : Unsettled) → k.unsettled ≡ Some s → select_value n bank ≡ select_value s.ap 0) → Follows (selected k (select_value n bank)) large (at_select t n bank) (at_select u n bank)
+    pub follows_select : ((s : Unsettled) → k.unsettled ≡ Some s → select_value n bank ≡ select_value s.ap 0) → Follows (kept_with_select k (select_value n bank)) large (at_select t n bank) (at_select u n bank)
     follows_select stays = record {
       rest = ap (λ (s : TargetState). at_select s n bank) f.rest;
       clear = f.clear;
@@ -92,21 +92,21 @@ learned_port a unsettled c (Some p) None none read h = h
 
 -- what is kept of one AP changes, and holds of it
 module _ (k : Kept) (large : List ℕ) (t u : TargetState) (f : Follows k large t u) (n : ℕ) (a : Known) (lt : n < 256)
-    (is_large : a.large ≡ (known k n).large) (port : FollowsPort a (unsettled_tar k n) (map.get t.aps n) (map.get u.aps n)) where
+    (is_large : a.large ≡ (known_at k n).large) (port : FollowsPort a (unsettled_tar k n) (map.get t.aps n) (map.get u.aps n)) where
   abbrev k' : Kept
   k' = with_known k n a
 
-  here : known k' n ≡ a
+  here : known_at k' n ≡ a
   here = let e = f.table in known_same k n a (omega arith)
 
-  port_at : (q : ℕ) → (q ≡ n) ⊎ (q ≢ n) → FollowsPort (known k' q) (unsettled_tar k q) (map.get t.aps q) (map.get u.aps q)
+  port_at : (q : ℕ) → (q ≡ n) ⊎ (q ≢ n) → FollowsPort (known_at k' q) (unsettled_tar k q) (map.get t.aps q) (map.get u.aps q)
   port_at q (inl same) =
-      subst (λ (i : ℕ). FollowsPort (known k' i) (unsettled_tar k i) (map.get t.aps i) (map.get u.aps i)) (sym same)
+      subst (λ (i : ℕ). FollowsPort (known_at k' i) (unsettled_tar k i) (map.get t.aps i) (map.get u.aps i)) (sym same)
       (subst (λ (c : Known). FollowsPort c (unsettled_tar k n) (map.get t.aps n) (map.get u.aps n)) (sym here) port)
   port_at q (inr ne) = subst (λ (c : Known). FollowsPort c (unsettled_tar k q) (map.get t.aps q) (map.get u.aps q)) (sym (known_other k n q a ne)) (f.ports q)
 
-  large_at : (q : ℕ) → q < 256 → (q ≡ n) ⊎ (q ≢ n) → (known k' q).large ≡ contains large q
-  large_at q less (inl same) = ap (λ (i : ℕ). (known k' i).large) same ∙ ap (λ (c : Known). c.large) here ∙ is_large ∙ f.larges n lt ∙ ap (contains large) (sym same)
+  large_at : (q : ℕ) → q < 256 → (q ≡ n) ⊎ (q ≢ n) → (known_at k' q).large ≡ contains large q
+  large_at q less (inl same) = ap (λ (i : ℕ). (known_at k' i).large) same ∙ ap (λ (c : Known). c.large) here ∙ is_large ∙ f.larges n lt ∙ ap (contains large) (sym same)
   large_at q less (inr ne) = ap (λ (c : Known). c.large) (known_other k n q a ne) ∙ f.larges q less
 
   pub follows_known : Follows k' large t u

@@ -1,7 +1,7 @@
 -- A unit made alone: none of its actions but the access that it is for changes the memory.
 use Rattle.std.proofs.Common.{◌≡◌, ◌∙◌, ℕ, ◌/◌, ◌%◌, ◌<◌, ◌⊎◌, inl, inr, Bool, true, false, cond, ◌&&◌, List, [], ◌∷◌, ◌++◌, Option, Some, None, refl, sym, ap, subst, append-nil}
 use Rattle.target_machine.specs.Attempt.{Attempt, attempt}
-use Rattle.target_machine.specs.Plain.{Action, Makes, Polls, Commands, in_order, is_fault, given, issued, contains, select_of, ap_access_of, needs_cfg, has_large, transfer_actions, unit_actions, call_done, ended, result_of, large_after, is_small, commanded, forgives, may_forgive}
+use Rattle.target_machine.specs.Plain.{Action, Makes, Polls, Commands, in_order, is_fault, given_number, issued_actions, contains, select_of, ap_access_of, needs_cfg, has_large, transfer_actions, unit_actions, call_done, ended_call, result_of, large_after, is_small, command_attempt, forgives, may_forgive}
 use Rattle.target_machine.specs.State.{TargetState}
 use Rattle.target_machine.specs.declared.access.RegAccess.{RegAccess}
 use Rattle.target_machine.specs.declared.unit.Call.TheVariants.{Access}
@@ -13,7 +13,7 @@ use Rattle.target_calls.specs.Asks.{IsUnitInRange}
 use Rattle.access_regs.specs.Alone.{KeepsMemory}
 use Rattle.access_regs.specs.Closed.{closes}
 use Rattle.access_regs.specs.Kept.{Kept}
-use Rattle.access_regs.specs.Plan.{settle, settled, settling}
+use Rattle.access_regs.specs.Plan.{settle, kept_after_settling, settling}
 use Rattle.access_regs.specs.Journal.{Step, steps_of, making, parts_of, is_last, is_early, large_of, alone_at, after_settling}
 use Rattle.access_regs.specs.Follows.{Follows}
 use Rattle.access_regs.specs.declared.known.Unsettled.{Unsettled}
@@ -37,7 +37,7 @@ Leading asked (Commands c ∷ xs) = ⊥
 abbrev pub AreSkips : (Part → Type 0) → List Step → Type 0
 AreSkips P ys = AllParts P ys × OneEnd P ys × ((v : TargetState) → KeepsMemory v ys)
 
-abort_words : (t : TargetState) → (commanded t forgives).next.words ≡ t.words
+abort_words : (t : TargetState) → (command_attempt t forgives).next.words ≡ t.words
 abort_words t = ap (λ (x : Attempt). x.next.words) (forgiving.aborts t)
 
 unfoldable pub skip : Bool → Step
@@ -52,7 +52,7 @@ no_skips P = (tt, tt, (λ v. tt))
 
 module _ (P : Part → Type 0) (early : Bool) (asked : AccessUnit) where
   abbrev steps : TargetState → List Action → List Step
-  steps v xs = parts_of early asked (issued v xs)
+  steps v xs = parts_of early asked (issued_actions v xs)
 
   -- from a bank without memory
   leading_keep : (v t : TargetState) (xs : List Action) (ys : List Step) → Leading asked xs → AreSkips P ys → IsPlainBank t → KeepsMemory t (steps v xs ++ ys)
@@ -61,15 +61,15 @@ module _ (P : Part → Type 0) (early : Bool) (asked : AccessUnit) where
       let l = lead_plain t a h.0 plain in
       ((λ ne. l.0), by_fault (is_fault (attempt v a).outcome) (leading_keep (attempt v a).next (attempt t a).next xs ys h.1.1 s l.1))
     where
-      by_fault : (b : Bool) → KeepsMemory (attempt t a).next (steps (attempt v a).next xs ++ ys) → KeepsMemory (attempt t a).next (parts_of early asked (cond b [] (issued (attempt v a).next xs)) ++ ys)
+      by_fault : (b : Bool) → KeepsMemory (attempt t a).next (steps (attempt v a).next xs ++ ys) → KeepsMemory (attempt t a).next (parts_of early asked (cond b [] (issued_actions (attempt v a).next xs)) ++ ys)
       by_fault true rest = s.2 (attempt t a).next
       by_fault false rest = rest
   leading_keep v t (Makes a ∷ xs) ys (inr h) s plain =
       ((λ ne. absurd (ne (ap (λ (b : Bool). cond b Ends Leads) h.0))), by_fault (is_fault (attempt v a).outcome))
     where
-      by_fault : (b : Bool) → KeepsMemory (attempt t a).next (parts_of early asked (cond b [] (issued (attempt v a).next xs)) ++ ys)
+      by_fault : (b : Bool) → KeepsMemory (attempt t a).next (parts_of early asked (cond b [] (issued_actions (attempt v a).next xs)) ++ ys)
       by_fault true = s.2 (attempt t a).next
-      by_fault false = subst (λ (l : List Action). KeepsMemory (attempt t a).next (parts_of early asked (issued (attempt v a).next l) ++ ys)) (sym h.1) (s.2 (attempt t a).next)
+      by_fault false = subst (λ (l : List Action). KeepsMemory (attempt t a).next (parts_of early asked (issued_actions (attempt v a).next l) ++ ys)) (sym h.1) (s.2 (attempt t a).next)
   leading_keep v t (Polls mask value turns ∷ xs) ys h s plain = absurd h
   leading_keep v t (Commands c ∷ xs) ys h s plain = absurd h
 
@@ -77,18 +77,18 @@ module _ (P : Part → Type 0) (early : Bool) (asked : AccessUnit) where
   leading_one v [] ys h s = s.1
   leading_one v (Makes a ∷ xs) ys (inl h) s = ((λ e. never (closes (cond (is_last asked a) Ends Leads)) (ap (λ (b : Bool). closes (cond b Ends Leads)) h.1.0) e), by_fault (is_fault (attempt v a).outcome) (leading_one (attempt v a).next xs ys h.1.1 s))
     where
-      by_fault : (b : Bool) → OneEnd P (steps (attempt v a).next xs ++ ys) → OneEnd P (parts_of early asked (cond b [] (issued (attempt v a).next xs)) ++ ys)
+      by_fault : (b : Bool) → OneEnd P (steps (attempt v a).next xs ++ ys) → OneEnd P (parts_of early asked (cond b [] (issued_actions (attempt v a).next xs)) ++ ys)
       by_fault true rest = s.1
       by_fault false rest = rest
   leading_one v (Makes a ∷ xs) ys (inr h) s = ((λ e. rest (is_fault (attempt v a).outcome)), one (is_fault (attempt v a).outcome))
     where
-      rest : (b : Bool) → AllParts P (parts_of early asked (cond b [] (issued (attempt v a).next xs)) ++ ys)
+      rest : (b : Bool) → AllParts P (parts_of early asked (cond b [] (issued_actions (attempt v a).next xs)) ++ ys)
       rest true = s.0
-      rest false = subst (λ (l : List Action). AllParts P (parts_of early asked (issued (attempt v a).next l) ++ ys)) (sym h.1) s.0
+      rest false = subst (λ (l : List Action). AllParts P (parts_of early asked (issued_actions (attempt v a).next l) ++ ys)) (sym h.1) s.0
 
-      one : (b : Bool) → OneEnd P (parts_of early asked (cond b [] (issued (attempt v a).next xs)) ++ ys)
+      one : (b : Bool) → OneEnd P (parts_of early asked (cond b [] (issued_actions (attempt v a).next xs)) ++ ys)
       one true = s.1
-      one false = subst (λ (l : List Action). OneEnd P (parts_of early asked (issued (attempt v a).next l) ++ ys)) (sym h.1) s.1
+      one false = subst (λ (l : List Action). OneEnd P (parts_of early asked (issued_actions (attempt v a).next l) ++ ys)) (sym h.1) s.1
   leading_one v (Polls mask value turns ∷ xs) ys h s = absurd h
   leading_one v (Commands c ∷ xs) ys h s = absurd h
 
@@ -100,7 +100,7 @@ module _ (P : Part → Type 0) (early : Bool) (asked : AccessUnit) where
       w : TargetState
       w = (attempt t (select_of n bank)).next
 
-      by_fault : (b : Bool) → KeepsMemory w (parts_of early asked (cond b [] (issued (attempt v (select_of n bank)).next xs)) ++ ys)
+      by_fault : (b : Bool) → KeepsMemory w (parts_of early asked (cond b [] (issued_actions (attempt v (select_of n bank)).next xs)) ++ ys)
       by_fault true = s.2 w
       by_fault false = leading_keep (attempt v (select_of n bank)).next w xs ys h s (plain_select t n bank lt banked clear)
 
@@ -153,7 +153,7 @@ pub record Keeps (P : Part → Type 0) (t : TargetState) (steps_ : List Step) : 
 
 -- its actions with the skip, where there is one
 pub parts_ended : (early : Bool) (asked : AccessUnit) (b forgive small : Bool) (x : ℕ) (next : TargetState) (large : List ℕ) (actions : List Action) → (P : List Step → Type 0) →
-    (forgive ≡ true → P (parts_of early asked actions ++ skip early ∷ [])) → P (parts_of early asked actions ++ []) → P (parts_of early asked (ended b forgive small x next large actions).actions)
+    (forgive ≡ true → P (parts_of early asked actions ++ skip early ∷ [])) → P (parts_of early asked actions ++ []) → P (parts_of early asked (ended_call b forgive small x next large actions).actions)
 unfolding skip
 parts_ended early asked true true small x next large actions P with_ without = subst P (sym (forgiving.parts_append early asked actions (Commands forgives ∷ []))) (with_ refl)
 parts_ended early asked true false small x next large actions P with_ without = subst P (append-nil (parts_of early asked actions)) without
@@ -170,9 +170,9 @@ module _ (P : Part → Type 0) (forgive : Bool) (may_skip : forgive ≡ true →
   memory_keeps : (v : TargetState) (k : Kept) (size : ℕ) (read : Bool) (n address value : ℕ) → n < 256 → AloneKeeps P v k forgive (unit.Memory size read n address value)
   unfolding call_done
   memory_keeps v k size read n address value lt = record {
-    one = by_end (OneEnd P) (λ ys s. subst (λ (l : List Action). OneEnd P (parts_of early here (issued v l) ++ ys)) (sym b.is) (leading_one P early here v (Makes (select_of n b.bank) ∷ b.rest) ys all s));
-    clear = λ c. by_end (KeepsMemory v) (λ ys s. subst (λ (l : List Action). KeepsMemory v (parts_of early here (issued v l) ++ ys)) (sym b.is) (selecting_keep P early here v v n b.bank b.rest ys lt b.banked c b.leading s));
-    plain = λ t p. by_end (KeepsMemory t) (λ ys s. subst (λ (l : List Action). KeepsMemory t (parts_of early here (issued v l) ++ ys)) (sym b.is) (leading_keep P early here v t (Makes (select_of n b.bank) ∷ b.rest) ys all s p));
+    one = by_end (OneEnd P) (λ ys s. subst (λ (l : List Action). OneEnd P (parts_of early here (issued_actions v l) ++ ys)) (sym b.is) (leading_one P early here v (Makes (select_of n b.bank) ∷ b.rest) ys all s));
+    clear = λ c. by_end (KeepsMemory v) (λ ys s. subst (λ (l : List Action). KeepsMemory v (parts_of early here (issued_actions v l) ++ ys)) (sym b.is) (selecting_keep P early here v v n b.bank b.rest ys lt b.banked c b.leading s));
+    plain = λ t p. by_end (KeepsMemory t) (λ ys s. subst (λ (l : List Action). KeepsMemory t (parts_of early here (issued_actions v l) ++ ys)) (sym b.is) (leading_keep P early here v t (Makes (select_of n b.bank) ∷ b.rest) ys all s p));
   }
     where
       here : AccessUnit
@@ -193,8 +193,8 @@ module _ (P : Part → Type 0) (forgive : Bool) (may_skip : forgive ≡ true →
       ran : Attempt
       ran = in_order v (unit_actions v large here)
 
-      by_end : (Q : List Step → Type 0) → ((ys : List Step) → AreSkips P ys → Q (parts_of early here (issued v (unit_actions v large here)) ++ ys)) → Q (alone_at forgive here v k).steps
-      by_end Q each = parts_ended early here (is_fault ran.outcome) (forgive && true) (is_small v large (Access here)) (result_of (Access here) (given ran.outcome)) ran.next (large_after v large (Access here)) (issued v (unit_actions v large here)) Q
+      by_end : (Q : List Step → Type 0) → ((ys : List Step) → AreSkips P ys → Q (parts_of early here (issued_actions v (unit_actions v large here)) ++ ys)) → Q (alone_at forgive here v k).steps
+      by_end Q each = parts_ended early here (is_fault ran.outcome) (forgive && true) (is_small v large (Access here)) (result_of (Access here) (given_number ran.outcome)) ran.next (large_after v large (Access here)) (issued_actions v (unit_actions v large here)) Q
           (λ e. each (skip early ∷ []) (may_skip (first_true forgive true e) early)) (each [] (no_skips P))
 
   port_keeps : (v : TargetState) (k : Kept) (read : Bool) (n addr value : ℕ) → AloneKeeps P v k forgive (unit.Ap read n addr value)
@@ -224,14 +224,14 @@ module _ (P : Part → Type 0) (forgive : Bool) (may_skip : forgive ≡ true →
       after_own t ys s true = s.2 t
       after_own t ys s false = s.2 t
 
-      keep : (t : TargetState) (ys : List Step) → AreSkips P ys → (b : Bool) → KeepsMemory t (parts_of early here (Makes first ∷ cond b [] (issued (attempt v first).next (Makes own ∷ []))) ++ ys)
+      keep : (t : TargetState) (ys : List Step) → AreSkips P ys → (b : Bool) → KeepsMemory t (parts_of early here (Makes first ∷ cond b [] (issued_actions (attempt v first).next (Makes own ∷ []))) ++ ys)
       keep t ys s true = ((λ ne. select_words t n (addr / 16)), s.2 (attempt t first).next)
       keep t ys s false = (
         (λ ne. select_words t n (addr / 16)),
         ((λ ne. absurd (ne refl)), after_own (attempt (attempt t first).next own).next ys s (is_fault (attempt (attempt v first).next own).outcome)),
       )
 
-      one : (ys : List Step) → AreSkips P ys → (b : Bool) → OneEnd P (parts_of early here (Makes first ∷ cond b [] (issued (attempt v first).next (Makes own ∷ []))) ++ ys)
+      one : (ys : List Step) → AreSkips P ys → (b : Bool) → OneEnd P (parts_of early here (Makes first ∷ cond b [] (issued_actions (attempt v first).next (Makes own ∷ []))) ++ ys)
       one ys s true = ((λ e. absurd (cc)), s.1)
       one ys s false = ((λ e. absurd (cc)), ((λ e. none (is_fault (attempt (attempt v first).next own).outcome)), rest (is_fault (attempt (attempt v first).next own).outcome)))
         where
@@ -246,8 +246,8 @@ module _ (P : Part → Type 0) (forgive : Bool) (may_skip : forgive ≡ true →
       ran : Attempt
       ran = in_order v (unit_actions v large here)
 
-      by_end : (Q : List Step → Type 0) → ((ys : List Step) → AreSkips P ys → Q (parts_of early here (issued v (unit_actions v large here)) ++ ys)) → Q (alone_at forgive here v k).steps
-      by_end Q each = parts_ended early here (is_fault ran.outcome) (forgive && true) (is_small v large (Access here)) (result_of (Access here) (given ran.outcome)) ran.next (large_after v large (Access here)) (issued v (unit_actions v large here)) Q
+      by_end : (Q : List Step → Type 0) → ((ys : List Step) → AreSkips P ys → Q (parts_of early here (issued_actions v (unit_actions v large here)) ++ ys)) → Q (alone_at forgive here v k).steps
+      by_end Q each = parts_ended early here (is_fault ran.outcome) (forgive && true) (is_small v large (Access here)) (result_of (Access here) (given_number ran.outcome)) ran.next (large_after v large (Access here)) (issued_actions v (unit_actions v large here)) Q
           (λ e. each (skip early ∷ []) (may_skip (first_true forgive true e) early)) (each [] (no_skips P))
 
   alone_keeps : (v : TargetState) (k : Kept) (asked : AccessUnit) → IsUnitInRange asked → may_forgive (Access asked) ≡ true → AloneKeeps P v k forgive asked
@@ -264,10 +264,10 @@ module _ (P : Part → Type 0) (forgive : Bool) (may_skip : forgive ≡ true →
       v = after u (making (settle k))
 
       rest : List Step
-      rest = (alone_at forgive asked v (settled k)).steps
+      rest = (alone_at forgive asked v (kept_after_settling k)).steps
 
-      h : AloneKeeps P v (settled k) forgive asked
-      h = alone_keeps v (settled k) asked range may
+      h : AloneKeeps P v (kept_after_settling k) forgive asked
+      h = alone_keeps v (kept_after_settling k) asked range may
 
       by_unsettled : (o : Option Unsettled) → k.unsettled ≡ o → Keeps P u (steps_of Settles (settle k) ++ rest)
       by_unsettled None none =

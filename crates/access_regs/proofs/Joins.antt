@@ -9,7 +9,7 @@ use Rattle.target_calls.specs.Asks.{is_forgiving}
 use Rattle.target_calls.specs.Journal.{Entry, actions_in, lines_before, settles, target_after}
 use Rattle.target_calls.specs.declared.calls.Ask.{Ask}
 use Rattle.access_regs.specs.Kept.{Kept}
-use Rattle.access_regs.specs.Journal.{Step, entries_at, finish_of, issue_of, kept_at, numbered, target_at, issued_from, kept_from}
+use Rattle.access_regs.specs.Journal.{Step, entries_at, finish_of, issue_of, kept_at, numbered_entries, target_at, issued_from, kept_from}
 use Rattle.access_regs.specs.Laws.{JournalJoins, KeptJoins, LaterEntries, SettlingEnds}
 use Rattle.access_regs.proofs.Lists.{actions_in_append, actions_entries}
 use Rattle.access_regs.proofs.Settle.{settled_calm}
@@ -52,7 +52,7 @@ later_number : (n : ℕ) (b : Bool) → n ≤ (if b then (if b then n else n + 1
 later_number n true = omega arith
 later_number n false = omega arith
 
-later_numbered : (low n : ℕ) (forgiving : Bool) (steps : List Step) → low ≤ n → AllByRecursion (λ e. low ≤ lines_before e) (numbered n forgiving steps)
+later_numbered : (low n : ℕ) (forgiving : Bool) (steps : List Step) → low ≤ n → AllByRecursion (λ e. low ≤ lines_before e) (numbered_entries n forgiving steps)
 later_numbered low n forgiving [] h = tt
 later_numbered low n forgiving (s ∷ steps) h = ((let l = later_number n (settles s.part) in omega (arith, l, h)), later_numbered low n forgiving steps h)
 
@@ -64,7 +64,7 @@ later_from : (low : ℕ) (p : Planner) (n : ℕ) (k : Kept) (t : TargetState) (c
 later_from low p n k t [] h = tt
 later_from low p n k t (c ∷ cs) h =
     later_append low (entries_at p n t k c) (issued_from p (n + 1) (kept_at p t k c) (target_at p t k c) cs)
-    (later_append low (numbered n (is_forgiving c) (issue_of p t k c).steps) (numbered (n + 1) false (finish_of p t k c).steps)
+    (later_append low (numbered_entries n (is_forgiving c) (issue_of p t k c).steps) (numbered_entries (n + 1) false (finish_of p t k c).steps)
     (later_numbered low n (is_forgiving c) (issue_of p t k c).steps h)
     (later_numbered low (n + 1) false (finish_of p t k c).steps (omega (arith, h))))
     (later_from low p (n + 1) (kept_at p t k c) (target_at p t k c) cs (omega (arith, h)))

@@ -6,9 +6,9 @@ use Rattle.target_machine.specs.State.{TargetState}
 use Rattle.target_machine.specs.declared.access.RegAccess.{RegAccess}
 use Rattle.target_machine.specs.declared.unit.Unit.{Unit as AccessUnit}
 use Rattle.target_machine.specs.declared.unit.Unit.TheVariants as unit
-use Rattle.access_regs.specs.Kept.{Kept, known, is_known, csw_of}
-use Rattle.access_regs.specs.Plan.{select_value, unless, select_needed, port_writes, planned_csw, first_plan, learned, learned_cfg, cfg_plan, settle, settled, settling, needs_csw, needs_cfg, must_follow_settling}
-use Rattle.access_regs.specs.Journal.{Issue, Step, steps_of, making, before, gives, by_plan, by_csw, by_cfg_read, by_cfg, after_settling, planned}
+use Rattle.access_regs.specs.Kept.{Kept, known_at, is_known, csw_of}
+use Rattle.access_regs.specs.Plan.{select_value, unless, select_needed, port_writes, planned_csw, first_plan, kept_after_csw, learned_cfg, cfg_plan, settle, kept_after_settling, settling, needs_csw, needs_cfg, must_follow_settling}
+use Rattle.access_regs.specs.Journal.{Issue, Step, steps_of, making, before, gives, by_plan, by_csw, by_cfg_read, by_cfg, after_settling, issue_of_plan}
 use Rattle.access_regs.specs.Alone.{KeepsMemory}
 use Rattle.access_regs.specs.Follows.{Follows}
 use Rattle.access_regs.specs.declared.known.Known.{Known}
@@ -66,16 +66,16 @@ module _ (size : ℕ) (read : Bool) (n address value : ℕ) (lt : n < 256) where
 
   plan_keep : (u : TargetState) (k : Kept) → Begins u k n → KeepsMemory u (by_plan k asked).steps
   unfolding Begins
-  plan_keep u k begins = begins 0 (inl refl) (port_writes (known k n) size address) _ (port_leads (known k n) size address) (λ v p. ((λ ne. absurd (ne refl)), tt))
+  plan_keep u k begins = begins 0 (inl refl) (port_writes (known_at k n) size address) _ (port_leads (known_at k n) size address) (λ v p. ((λ ne. absurd (ne refl)), tt))
 
   csw_keep : (t u : TargetState) (k : Kept) → Begins u k n → KeepsMemory u (by_csw t k asked).steps
   unfolding Begins
   csw_keep t u k begins = by_needs (needs_csw k asked)
     where
-      by_needs : (b : Bool) → KeepsMemory u (cond b (before (steps_of Leads (first_plan k n)) (by_plan (learned k n (gives t (first_plan k n))) asked)) (by_plan k asked)).steps
+      by_needs : (b : Bool) → KeepsMemory u (cond b (before (steps_of Leads (first_plan k n)) (by_plan (kept_after_csw k n (gives t (first_plan k n))) asked)) (by_plan k asked)).steps
       by_needs true =
-          begins 0 (inl refl) (ap_access_of true 0 0 ∷ []) (by_plan (learned k n (gives t (first_plan k n))) asked).steps (inr (refl, inl refl), tt)
-          (λ v p. plan_keep v (learned k n (gives t (first_plan k n))) (begins_plain v (learned k n (gives t (first_plan k n))) n lt p))
+          begins 0 (inl refl) (ap_access_of true 0 0 ∷ []) (by_plan (kept_after_csw k n (gives t (first_plan k n))) asked).steps (inr (refl, inl refl), tt)
+          (λ v p. plan_keep v (kept_after_csw k n (gives t (first_plan k n))) (begins_plain v (kept_after_csw k n (gives t (first_plan k n))) n lt p))
       by_needs false = plan_keep u k begins
 
   cfg_keep : (t u : TargetState) (k : Kept) → Begins u k n → KeepsMemory u (by_cfg t k asked).steps
@@ -106,7 +106,7 @@ settle_keep k large t u f s some more then =
     (leads_keep Settles (settling k (Some s)) more u (inr (refl, inl refl), (inr (refl, inr (inl refl)), tt)) (inl (ap (λ (x : ℕ). bit_and x 0xF0) at ∙ bank_zero_bits s.ap)) then)
 
 module _ (k : Kept) (large : List ℕ) (t u : TargetState) (f : Follows k large t u) where
-  by_settling : (b : Bool) (next : TargetState → Kept → Issue) (i : Issue) → ((w v : TargetState) → IsPlainBank v → KeepsMemory v (next w (settled k)).steps) → KeepsMemory u i.steps →
+  by_settling : (b : Bool) (next : TargetState → Kept → Issue) (i : Issue) → ((w v : TargetState) → IsPlainBank v → KeepsMemory v (next w (kept_after_settling k)).steps) → KeepsMemory u i.steps →
       KeepsMemory u (cond (is_some k.unsettled && b) (after_settling u k next) i).steps
   by_settling b next i then here = by_unsettled k.unsettled refl b
     where
@@ -114,7 +114,7 @@ module _ (k : Kept) (large : List ℕ) (t u : TargetState) (f : Follows k large 
       by_unsettled None none c = subst (λ (o : Option Unsettled). KeepsMemory u (cond (is_some o && c) (after_settling u k next) i).steps) (sym none) here
       by_unsettled (Some s) some true =
           subst (λ (o : Option Unsettled). KeepsMemory u (cond (is_some o && true) (after_settling u k next) i).steps) (sym some)
-          (settle_keep k large t u f s some (next (after u (making (settle k))) (settled k)).steps (λ v p. then (after u (making (settle k))) v p))
+          (settle_keep k large t u f s some (next (after u (making (settle k))) (kept_after_settling k)).steps (λ v p. then (after u (making (settle k))) v p))
       by_unsettled (Some s) some false = subst (λ (o : Option Unsettled). KeepsMemory u (cond (is_some o && false) (after_settling u k next) i).steps) (sym some) here
 
   -- SELECT alone leads to an access of an AP
@@ -126,14 +126,14 @@ module _ (k : Kept) (large : List ℕ) (t u : TargetState) (f : Follows k large 
       by_known false = ((λ ne. select_words v n (addr / 16)), ((λ ne. absurd (ne refl)), tt))
 
   -- Each step of a unit that is not forgiving, but the access that it is for, leaves the memory.
-  pub planned_keep : (asked : AccessUnit) → IsUnitInRange asked → KeepsMemory u (planned u k asked).steps
+  pub planned_keep : (asked : AccessUnit) → IsUnitInRange asked → KeepsMemory u (issue_of_plan u k asked).steps
   planned_keep (unit.Memory size read n address value) range =
       by_settling (must_follow_settling k (unit.Memory size read n address value)) (λ w l. by_cfg w l (unit.Memory size read n address value)) (by_cfg u k (unit.Memory size read n address value))
-      (λ w v p. cfg_keep size read n address value range.0 w v (settled k) (begins_plain v (settled k) n range.0 p))
+      (λ w v p. cfg_keep size read n address value range.0 w v (kept_after_settling k) (begins_plain v (kept_after_settling k) n range.0 p))
       (cfg_keep size read n address value range.0 u u k (begins_follows k large t u n range.0 f))
   planned_keep (unit.Ap read n addr value) range =
       by_settling true (λ w l. by_plan l (unit.Ap read n addr value)) (by_plan k (unit.Ap read n addr value))
-      (λ w v p. ap_keep v (settled k) read n addr value) (ap_keep u k read n addr value)
+      (λ w v p. ap_keep v (kept_after_settling k) read n addr value) (ap_keep u k read n addr value)
   planned_keep (unit.Dp read addr value) range =
       by_settling (must_follow_settling k (unit.Dp read addr value)) (λ w l. by_plan l (unit.Dp read addr value)) (by_plan k (unit.Dp read addr value))
       (λ w v p. ((λ ne. absurd (ne refl)), tt)) ((λ ne. absurd (ne refl)), tt)

@@ -8,22 +8,22 @@ use Rattle.access_regs.proofs.Transfer.{plain_part}
 use Rattle.access_regs.specs.Entries.{LeadsAreGood, NoneFault, SelectIsGood, before_drw}
 use Rattle.access_regs.specs.Journal.{making}
 use Rattle.access_regs.specs.Plan.{select_value}
-use Rattle.target_machine.specs.Attempt.{Attempt, acknowledges, attempt, done}
+use Rattle.target_machine.specs.Attempt.{Attempt, acknowledges, attempt, done_attempt}
 use Rattle.target_machine.specs.Lists.{PassTo}
 use Rattle.target_machine.specs.State.{TargetState}
-use Rattle.target_machine.specs.Plain.{Makes, acted, select_of, ap_access_of, is_fault}
+use Rattle.target_machine.specs.Plain.{Makes, action_attempt, select_of, ap_access_of, is_fault}
 use Rattle.target_machine.specs.declared.access.RegAccess.{RegAccess}
 
 pass_good : (u v : TargetState) (xs : List RegAccess) → PassTo u (making xs) v → NoneFault u xs
 pass_good u v [] h = tt
-pass_good u v (x ∷ xs) h = (h.0, pass_good (acted u (Makes x)).next v xs h.1)
+pass_good u v (x ∷ xs) h = (h.0, pass_good (action_attempt u (Makes x)).next v xs h.1)
 
 pub select_is_good : SelectIsGood
 select_is_good t n bank port banked clear = (ap (λ (x : Attempt). is_fault x.outcome) (select_write n bank port banked t clear), tt)
 
 pub leads_are_good : LeadsAreGood
 leads_are_good t n csw address large port clear good =
-    let s : attempt t (select_of n 0) ≡ done (record t { select = select_value n 0 }) = select_write n 0 port (omega arith) t clear in
+    let s : attempt t (select_of n 0) ≡ done_attempt (record t { select = select_value n 0 }) = select_write n 0 port (omega arith) t clear in
     let at : (attempt t (select_of n 0)).next ≡ record t { select = select_value n 0 } = ap (λ (x : Attempt). x.next) s in
     subst (λ (v : TargetState). NoneFault (attempt v (ap_access_of true 0 0)).next (before_drw csw large address)) (sym at)
     (by_power (record t { select = select_value n 0 }) clear refl (subst (λ (v : TargetState). is_fault (attempt v (ap_access_of true 0 0)).outcome ≡ false) at good) (acknowledges (record t { select = select_value n 0 }) 0x1000_0000) refl)

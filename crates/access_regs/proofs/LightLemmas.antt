@@ -1,9 +1,9 @@
 -- How much calls weigh at most.
 use Rattle.std.proofs.Common.{◌≡◌, ℕ, zero, suc, ◌+◌, ◌*◌, ◌/◌, ◌%◌, ◌^◌, ◌≤◌, Bool, true, false, cond, eqb, not, ◌&&◌, ◌||◌, bit_and, List, [], ◌∷◌, ◌++◌, length, Option, Some, None, refl, sym, ap, subst, arith, length-append}
-use Rattle.access_regs.specs.Journal.{Issue, Step, actions_of, after_settling, alone_at, before, by_cfg, by_cfg_read, by_csw, by_plan, done_alone, entries_at, finish, finish_of, gives, is_alone, is_early, issue, issue_of, issued_from, large_of, last_action, making, numbered, parts_of, planned, port_of, steps_at, steps_of}
-use Rattle.access_regs.specs.Kept.{Kept, csw_of, is_known, known, nothing_kept}
+use Rattle.access_regs.specs.Journal.{Issue, Step, actions_of, after_settling, alone_at, before, by_cfg, by_cfg_read, by_csw, by_plan, done_alone, entries_at, finish, finish_of, gives, is_alone, is_early, issue, issue_of, issued_from, large_of, last_action, making, numbered_entries, parts_of, issue_of_plan, port_of, steps_at, steps_of}
+use Rattle.access_regs.specs.Kept.{Kept, csw_of, is_known, known_at, nothing_kept}
 use Rattle.access_regs.specs.Light.{JournalIsLight}
-use Rattle.access_regs.specs.Plan.{cfg_plan, csw_needed, first_plan, high_needed, planned_csw, tar_needed, leads, learned, learned_cfg, needs_cfg, needs_csw, needs_settle, port_writes, select_needed, settle, settled, settling}
+use Rattle.access_regs.specs.Plan.{cfg_plan, csw_needed, first_plan, high_needed, planned_csw, tar_needed, leads, kept_after_csw, learned_cfg, needs_cfg, needs_csw, needs_settle, port_writes, select_needed, settle, kept_after_settling, settling}
 use Rattle.access_regs.specs.declared.known.Unsettled.{Unsettled}
 use Rattle.access_regs.specs.declared.planner.Planner.{Planner}
 use Rattle.target_calls.specs.Asks.{AreAskable}
@@ -20,7 +20,7 @@ use Rattle.dap_base.specs.Bits.{has_bit}
 use Rattle.dap_base.proofs.Basics.{second_true}
 use Rattle.target_machine.specs.Attempt.{attempt}
 use Rattle.target_machine.specs.Lists.{after}
-use Rattle.target_machine.specs.Plain.{Action, Makes, Polls, Commands, Polled, acted, is_fault, looked, polled, dp_read_of, issued as made_of, call_done, ended, forgives, cfg_actions, memory_actions, after_cfg, unit_actions, has_large, needs_cfg as wants_cfg, contains, may_forgive, in_order, ap_access_of}
+use Rattle.target_machine.specs.Plain.{Action, Makes, Polls, Commands, Polled, action_attempt, is_fault, poll_read, poll_result, dp_read_of, issued_actions as made_of, call_done, ended_call, forgives, cfg_actions, memory_actions, after_cfg, unit_actions, has_large, needs_cfg as wants_cfg, contains, may_forgive, in_order, ap_access_of}
 use Rattle.target_machine.specs.Sound.{IsSoundCall}
 use Rattle.target_machine.specs.State.{TargetState}
 use Rattle.target_machine.specs.declared.access.Outcome.{Outcome}
@@ -39,7 +39,7 @@ most (Makes a) = 1
 most (Polls mask requested turns) = turns
 most (Commands c) = commands_for c
 
-pub looked_few : (o : Outcome) (t : TargetState) (mask requested n : ℕ) (rest : Polled) → rest.reads ≤ n → (looked o t mask requested rest).reads ≤ suc n
+pub looked_few : (o : Outcome) (t : TargetState) (mask requested n : ℕ) (rest : Polled) → rest.reads ≤ n → (poll_read o t mask requested rest).reads ≤ suc n
 looked_few (Value v) t mask requested n rest le = one (eqb (bit_and v mask) requested)
   where
     one : (b : Bool) → (cond b (record { outcome = Value 1; reads = 1; next = t }) (record rest { reads = rest.reads + 1 })).reads ≤ suc n
@@ -48,12 +48,12 @@ looked_few (Value v) t mask requested n rest le = one (eqb (bit_and v mask) requ
 looked_few Done t mask requested n rest le = omega (arith, le)
 looked_few Fault t mask requested n rest le = omega arith
 
-pub polled_few : (turns mask requested : ℕ) (t : TargetState) → (polled turns mask requested t).reads ≤ turns
-unfolding polled
+pub polled_few : (turns mask requested : ℕ) (t : TargetState) → (poll_result turns mask requested t).reads ≤ turns
+unfolding poll_result
 polled_few zero mask requested t = omega arith
 polled_few (suc turns) mask requested t =
     let first = attempt t (dp_read_of 4) in
-    looked_few first.outcome first.next mask requested turns (polled turns mask requested first.next) (polled_few turns mask requested first.next)
+    looked_few first.outcome first.next mask requested turns (poll_result turns mask requested first.next) (polled_few turns mask requested first.next)
 
 weight_most : (t : TargetState) (a : Action) → weight t a ≤ most a
 weight_most t (Makes a) = omega arith
@@ -77,9 +77,9 @@ actions_both : (xs ys : List Action) → most_in (xs ++ ys) ≡ most_in xs + mos
 actions_both [] ys = omega arith
 actions_both (x ∷ xs) ys = let e = actions_both xs ys in omega (arith, e)
 
-entries_light : (n : ℕ) (b : Bool) (t : TargetState) (steps : List Step) → weight_in t (numbered n b steps) ≤ most_of steps
+entries_light : (n : ℕ) (b : Bool) (t : TargetState) (steps : List Step) → weight_in t (numbered_entries n b steps) ≤ most_of steps
 entries_light n b t [] = omega arith
-entries_light n b t (s ∷ steps) = let w = weight_most t s.action in let r = entries_light n b (acted t s.action).next steps in omega (arith, w, r)
+entries_light n b t (s ∷ steps) = let w = weight_most t s.action in let r = entries_light n b (action_attempt t s.action).next steps in omega (arith, w, r)
 
 makes_most : (part : Part) (xs : List RegAccess) → most_of (steps_of part xs) ≡ length xs
 makes_most part [] = refl
@@ -104,7 +104,7 @@ then_one xs a n le = let e = length-append xs (a ∷ []) in omega (arith, e, le)
 pub leads_short : (k : Kept) (asked : AccessUnit) → length (leads k asked) ≤ 4
 leads_short k (unit.Memory size read n address value) =
     let s : List RegAccess = select_needed k n 0 in
-    let c = length-append s (port_writes (known k n) size address) in
+    let c = length-append s (port_writes (known_at k n) size address) in
     let a = short_select k n 0 in
     let b = short_writes k n size address in
     omega (arith, a, b, c)
@@ -115,9 +115,9 @@ leads_short k (unit.Memory size read n address value) =
     three : (x y z : List RegAccess) → length x ≤ 1 → length y ≤ 1 → length z ≤ 1 → length (x ++ (y ++ z)) ≤ 3
     three x y z a b c = let e = length-append x (y ++ z) in let f = length-append y z in omega (arith, a, b, c, e, f)
 
-    short_writes : (k : Kept) (n size address : ℕ) → length (port_writes (known k n) size address) ≤ 3
+    short_writes : (k : Kept) (n size address : ℕ) → length (port_writes (known_at k n) size address) ≤ 3
     short_writes k n size address =
-        let n' = known k n in
+        let n' = known_at k n in
         three (csw_needed n' size) (high_needed n' address) (tar_needed n' address)
         (few_unless (is_known n'.csw (planned_csw (csw_of n') size)) (ap_access_of false 0 (planned_csw (csw_of n') size)))
         (few_unless (not n'.large || is_known n'.high (address / 2 ^ 32)) (ap_access_of false 8 (address / 2 ^ 32)))
@@ -142,7 +142,7 @@ either_light false x y m h k = k
 
 csw_light : (t : TargetState) (k : Kept) (asked : AccessUnit) → most_of (by_csw t k asked).steps ≤ 6 + most (last_action asked)
 csw_light t k asked =
-    let l : Kept = learned k (port_of asked) (gives t (first_plan k (port_of asked))) in
+    let l : Kept = kept_after_csw k (port_of asked) (gives t (first_plan k (port_of asked))) in
     let x : most_of (before (steps_of Leads (first_plan k (port_of asked))) (by_plan l asked)).steps ≤ 2 + (4 + most (last_action asked)) =
     before_light (first_plan k (port_of asked)) (by_plan l asked) Leads 2 (4 + most (last_action asked)) (then_one (select_needed k (port_of asked) 0) _ 1 (few_unless _ _)) (plan_light l asked) in
     let y = plan_light k asked in
@@ -163,9 +163,9 @@ cfg_light t k asked =
     either_light (needs_cfg k asked) _ (by_csw t k asked) (8 + most (last_action asked)) (omega (arith, x)) (omega (arith, y))
 
 settling_light : (t : TargetState) (k : Kept) (f : TargetState → Kept → Issue) (m : ℕ) → ((u : TargetState) (l : Kept) → most_of (f u l).steps ≤ m) → most_of (after_settling t k f).steps ≤ 2 + m
-settling_light t k f m h = before_light (settle k) (f (after t (making (settle k))) (settled k)) Settles 2 m (settle_short k) (h (after t (making (settle k))) (settled k))
+settling_light t k f m h = before_light (settle k) (f (after t (making (settle k))) (kept_after_settling k)) Settles 2 m (settle_short k) (h (after t (making (settle k))) (kept_after_settling k))
 
-planned_light : (t : TargetState) (k : Kept) (asked : AccessUnit) → most_of (planned t k asked).steps ≤ 10 + most (last_action asked)
+planned_light : (t : TargetState) (k : Kept) (asked : AccessUnit) → most_of (issue_of_plan t k asked).steps ≤ 10 + most (last_action asked)
 planned_light t k asked =
     let x = settling_light t k (λ u l. by_cfg u l asked) (8 + most (last_action asked)) (λ u l. cfg_light u l asked) in
     let y = cfg_light t k asked in
@@ -175,13 +175,13 @@ planned_light t k asked =
 
 made_light : (t : TargetState) (xs : List Action) → most_in (made_of t xs) ≤ most_in xs
 made_light t [] = omega arith
-made_light t (x ∷ xs) = by_fault (is_fault (acted t x).outcome) (made_light (acted t x).next xs)
+made_light t (x ∷ xs) = by_fault (is_fault (action_attempt t x).outcome) (made_light (action_attempt t x).next xs)
   where
-    by_fault : (b : Bool) → most_in (made_of (acted t x).next xs) ≤ most_in xs → most x + most_in (cond b [] (made_of (acted t x).next xs)) ≤ most x + most_in xs
+    by_fault : (b : Bool) → most_in (made_of (action_attempt t x).next xs) ≤ most_in xs → most x + most_in (cond b [] (made_of (action_attempt t x).next xs)) ≤ most x + most_in xs
     by_fault true h = omega arith
     by_fault false h = omega (arith, h)
 
-ended_light : (b f s : Bool) (v : ℕ) (t : TargetState) (l : List ℕ) (xs : List Action) → most_in (ended b f s v t l xs).actions ≤ most_in xs + 1
+ended_light : (b f s : Bool) (v : ℕ) (t : TargetState) (l : List ℕ) (xs : List Action) → most_in (ended_call b f s v t l xs).actions ≤ most_in xs + 1
 ended_light true true s v t l xs = let e = actions_both xs (Commands forgives ∷ []) in omega (arith, e)
 ended_light true false s v t l xs = omega arith
 ended_light false f true v t l xs = omega arith
@@ -235,7 +235,7 @@ command_light other h = omega arith
 issue_light : (p : Planner) (t : TargetState) (k : Kept) (forgive : Bool) (call : Call) → IsSoundCall call → most_of (issue p t k forgive call).steps ≤ 60000010
 issue_light p t k forgive (Access asked) h = by_mark (is_alone p forgive && may_forgive (Access asked)) refl
   where
-    by_mark : (b : Bool) → (is_alone p forgive && may_forgive (Access asked)) ≡ b → most_of (cond b (after_settling t k (alone_at forgive asked)) (planned t k asked)).steps ≤ 60000010
+    by_mark : (b : Bool) → (is_alone p forgive && may_forgive (Access asked)) ≡ b → most_of (cond b (after_settling t k (alone_at forgive asked)) (issue_of_plan t k asked)).steps ≤ 60000010
     by_mark true e = (let x = settling_light t k (alone_at forgive asked) 9 (λ u l. alone_light u l forgive asked (second_true (is_alone p forgive) (may_forgive (Access asked)) e)) in omega (arith, x))
     by_mark false e = (let x = planned_light t k asked in let y = last_light asked h in omega (arith, x, y))
 issue_light p t k forgive (Probe c) h = let x = command_light c h in omega (arith, x)
@@ -247,8 +247,8 @@ finish_light false k = omega arith
 list_light : (p : Planner) (n : ℕ) (k : Kept) (t : TargetState) (asks : List Ask) → AreAskable asks → weight_in t (issued_from p n k t asks) ≤ 60000012 * length asks
 list_light p n k t [] h = omega arith
 list_light p n k t (ask ∷ asks) h =
-    let own : List Entry = numbered n (ask.forgive && may_forgive ask.call) (issue_of p t k ask).steps in
-    let fin : List Entry = numbered (n + 1) false (finish_of p t k ask).steps in
+    let own : List Entry = numbered_entries n (ask.forgive && may_forgive ask.call) (issue_of p t k ask).steps in
+    let fin : List Entry = numbered_entries (n + 1) false (finish_of p t k ask).steps in
     let rest : List Entry = issued_from p (n + 1) (finish_of p t k ask).kept (after t (actions_of (steps_at p t k ask))) asks in
     let split = weight_append t (entries_at p n t k ask) rest in
     let half = weight_append t own fin in

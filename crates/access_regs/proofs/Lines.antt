@@ -2,9 +2,9 @@
 use Rattle.std.proofs.Common.{◌≡◌, ◌∙◌, ℕ, ◌+◌, ◌-◌, ◌^◌, ◌<◌, ◌≤◌, Bool, true, false, cond, eqb, leb, not, ◌&&◌, min, List, Option, Some, None, refl, sym, ap, subst, arith, bit_and, zero, suc}
 use Rattle.std.specs.FinMap as map
 use Rattle.std.proofs.lemmas.Bool.{leb-true, le-leb, and_parts}
-use Rattle.target_machine.specs.Attempt.{Attempt, attempt, done, answers, acknowledges, bank, ctrl_stat, ctrl_written, is_free, dp_access, ap_access}
-use Rattle.target_machine.specs.Lines.{pins_set, line_shifted, clock_set, delayed}
-use Rattle.target_machine.specs.Plain.{dp_read_of, dp_write_of, is_fault, polled, looked, Polled, commanded}
+use Rattle.target_machine.specs.Attempt.{Attempt, attempt, done_attempt, answers, acknowledges, bank, ctrl_stat, ctrl_written, is_free, dp_access, ap_access}
+use Rattle.target_machine.specs.Lines.{pins_set, line_shifted, clock_set, delayed_target}
+use Rattle.target_machine.specs.Plain.{dp_read_of, dp_write_of, is_fault, poll_result, poll_read, Polled, command_attempt}
 use Rattle.target_machine.specs.State.{TargetState}
 use Rattle.target_machine.specs.declared.ap.ApState.{ApState}
 use Rattle.target_machine.specs.declared.access.Outcome.{Outcome}
@@ -12,7 +12,7 @@ use Rattle.target_machine.specs.declared.access.Outcome.TheVariants.{Value, Done
 use Rattle.target_machine.specs.declared.access.RegAccess.{RegAccess}
 use Rattle.target_machine.specs.declared.unit.ProbeCall.{ProbeCall}
 use Rattle.target_machine.specs.declared.unit.ProbeCall.TheVariants as probe
-use Rattle.access_regs.specs.Kept.{Kept, known, selected}
+use Rattle.access_regs.specs.Kept.{Kept, known_at, kept_with_select}
 use Rattle.access_regs.specs.Follows.{Follows, FollowsPort, unsettled_tar}
 use Rattle.access_regs.specs.declared.known.Unsettled.{Unsettled}
 use Rattle.access_regs.proofs.Drw.{Ports, other}
@@ -31,12 +31,12 @@ module _ (k : Kept) (large : List ℕ) (t u : TargetState) (f : Follows k large 
   image : g u ≡ other (g t) u.rdbuff u.aps
   image = ap g f.rest ∙ beside.commutes u.rdbuff u.aps
 
-  port_at : (q : ℕ) → FollowsPort (known k q) (unsettled_tar k q) (map.get (g t).aps q) (map.get (g u).aps q)
+  port_at : (q : ℕ) → FollowsPort (known_at k q) (unsettled_tar k q) (map.get (g t).aps q) (map.get (g u).aps q)
   port_at q =
       let x : map.get (g t).aps q ≡ map.get t.aps q = ap (λ (m : Ports). map.get m q) beside.ports in
       let y : map.get (g u).aps q ≡ map.get u.aps q = ap (λ (s : TargetState). map.get s.aps q) image in
-      subst (λ (o : Option ApState). FollowsPort (known k q) (unsettled_tar k q) o (map.get (g u).aps q)) (sym x)
-      (subst (λ (o : Option ApState). FollowsPort (known k q) (unsettled_tar k q) (map.get t.aps q) o) (sym y) (f.ports q))
+      subst (λ (o : Option ApState). FollowsPort (known_at k q) (unsettled_tar k q) o (map.get (g u).aps q)) (sym x)
+      (subst (λ (o : Option ApState). FollowsPort (known_at k q) (unsettled_tar k q) (map.get t.aps q) o) (sym y) (f.ports q))
 
   pub follows_beside : (g t).select ≡ t.select → ((s : Unsettled) → k.unsettled ≡ Some s → acknowledges t 0x1000_0000 ≡ true → acknowledges (g t) 0x1000_0000 ≡ true) → Follows k large (g t) (g u)
   follows_beside same_select power = record {
@@ -51,7 +51,7 @@ module _ (k : Kept) (large : List ℕ) (t u : TargetState) (f : Follows k large 
   }
 
   -- where nothing is unsettled SELECT may change
-  pub follows_selected : (v : ℕ) → k.unsettled ≡ None → (g t).select ≡ bit_and v 0xFF00_00FF → Follows (selected k v) large (g t) (g u)
+  pub follows_selected : (v : ℕ) → k.unsettled ≡ None → (g t).select ≡ bit_and v 0xFF00_00FF → Follows (kept_with_select k v) large (g t) (g u)
   follows_selected v calm is = record {
     rest = image ∙ sym (ap (λ (s : TargetState). other (g t) s.rdbuff s.aps) image);
     clear = beside.clear f.clear;
@@ -133,13 +133,13 @@ select_stored v t = record t { select = bit_and v 0xFF00_00FF }
 pub id_reads : (t : TargetState) → t.sticky ≡ false → attempt t (dp_read_of 0) ≡ answers t.dpidr t
 id_reads t clear = dp_clear t (dp_read_of 0) clear refl
 
-pub abort_writes : (t : TargetState) (v : ℕ) → t.sticky ≡ false → attempt t (dp_write_of 0 v) ≡ done (abort_write v t)
+pub abort_writes : (t : TargetState) (v : ℕ) → t.sticky ≡ false → attempt t (dp_write_of 0 v) ≡ done_attempt (abort_write v t)
 abort_writes t v clear = dp_clear t (dp_write_of 0 v) clear refl
 
-pub ctrl_writes : (t : TargetState) (v : ℕ) → t.sticky ≡ false → attempt t (dp_write_of 4 v) ≡ done (ctrl_write v t)
+pub ctrl_writes : (t : TargetState) (v : ℕ) → t.sticky ≡ false → attempt t (dp_write_of 4 v) ≡ done_attempt (ctrl_write v t)
 ctrl_writes t v clear = dp_clear t (dp_write_of 4 v) clear refl
 
-pub select_writes : (t : TargetState) (v : ℕ) → t.sticky ≡ false → attempt t (dp_write_of 8 v) ≡ done (select_stored v t)
+pub select_writes : (t : TargetState) (v : ℕ) → t.sticky ≡ false → attempt t (dp_write_of 8 v) ≡ done_attempt (select_stored v t)
 select_writes t v clear = dp_clear t (dp_write_of 8 v) clear refl
 
 pub abort_beside : (v : ℕ) (t : TargetState) → Beside (abort_write v) t
@@ -167,14 +167,14 @@ abort_power v t on = either (λ s. acknowledges s 0x1000_0000 ≡ true) (has_bit
 -- ---- polls
 
 pub record Polls' (turns mask requested : ℕ) (t : TargetState) : Type 0 where
-  pub commutes : (r : ℕ) (m : Ports) → (polled turns mask requested (other t r m)).next ≡ other (polled turns mask requested t).next r m
-  pub outcome : (r : ℕ) (m : Ports) → (polled turns mask requested (other t r m)).outcome ≡ (polled turns mask requested t).outcome
-  pub good : is_fault (polled turns mask requested t).outcome ≡ false
-  pub ports : (polled turns mask requested t).next.aps ≡ t.aps
-  pub clear : (polled turns mask requested t).next.sticky ≡ false
-  pub few : (polled turns mask requested t).next.power_reads ≡ t.power_reads
-  pub select : (polled turns mask requested t).next.select ≡ t.select
-  pub power : acknowledges t 0x1000_0000 ≡ true → acknowledges (polled turns mask requested t).next 0x1000_0000 ≡ true
+  pub commutes : (r : ℕ) (m : Ports) → (poll_result turns mask requested (other t r m)).next ≡ other (poll_result turns mask requested t).next r m
+  pub outcome : (r : ℕ) (m : Ports) → (poll_result turns mask requested (other t r m)).outcome ≡ (poll_result turns mask requested t).outcome
+  pub good : is_fault (poll_result turns mask requested t).outcome ≡ false
+  pub ports : (poll_result turns mask requested t).next.aps ≡ t.aps
+  pub clear : (poll_result turns mask requested t).next.sticky ≡ false
+  pub few : (poll_result turns mask requested t).next.power_reads ≡ t.power_reads
+  pub select : (poll_result turns mask requested t).next.select ≡ t.select
+  pub power : acknowledges t 0x1000_0000 ≡ true → acknowledges (poll_result turns mask requested t).next 0x1000_0000 ≡ true
 
 module _ (mask requested : ℕ) where
   abbrev hit : TargetState → Bool
@@ -183,12 +183,12 @@ module _ (mask requested : ℕ) where
   abbrev first_look : TargetState → Polled → Polled
   first_look t rest = cond (hit t) (record { outcome = Value 1; reads = 1; next = stat_read t }) (record rest { reads = rest.reads + 1 })
 
-  poll_step : (n : ℕ) (t : TargetState) → t.sticky ≡ false → polled (suc n) mask requested t ≡ first_look t (polled n mask requested (stat_read t))
-  unfolding polled
-  poll_step n t clear = ap (λ (x : Attempt). looked x.outcome x.next mask requested (polled n mask requested x.next)) (stat_reads t clear)
+  poll_step : (n : ℕ) (t : TargetState) → t.sticky ≡ false → poll_result (suc n) mask requested t ≡ first_look t (poll_result n mask requested (stat_read t))
+  unfolding poll_result
+  poll_step n t clear = ap (λ (x : Attempt). poll_read x.outcome x.next mask requested (poll_result n mask requested x.next)) (stat_reads t clear)
 
-  poll_zero : (t : TargetState) → polled zero mask requested t ≡ record { outcome = Value 0; reads = 0; next = t }
-  unfolding polled
+  poll_zero : (t : TargetState) → poll_result zero mask requested t ≡ record { outcome = Value 0; reads = 0; next = t }
+  unfolding poll_result
   poll_zero t = refl
 
   look_next : (b : Bool) (x y : Polled) → (cond b x (record y { reads = y.reads + 1 })).next ≡ cond b x.next y.next
@@ -199,11 +199,11 @@ module _ (mask requested : ℕ) where
   look_outcome true x y = refl
   look_outcome false x y = refl
 
-  poll_next : (n : ℕ) (t : TargetState) → t.sticky ≡ false → (polled (suc n) mask requested t).next ≡ cond (hit t) (stat_read t) (polled n mask requested (stat_read t)).next
-  poll_next n t clear = ap (λ (p : Polled). p.next) (poll_step n t clear) ∙ look_next (hit t) _ (polled n mask requested (stat_read t))
+  poll_next : (n : ℕ) (t : TargetState) → t.sticky ≡ false → (poll_result (suc n) mask requested t).next ≡ cond (hit t) (stat_read t) (poll_result n mask requested (stat_read t)).next
+  poll_next n t clear = ap (λ (p : Polled). p.next) (poll_step n t clear) ∙ look_next (hit t) _ (poll_result n mask requested (stat_read t))
 
-  poll_outcome : (n : ℕ) (t : TargetState) → t.sticky ≡ false → (polled (suc n) mask requested t).outcome ≡ cond (hit t) (Value 1) (polled n mask requested (stat_read t)).outcome
-  poll_outcome n t clear = ap (λ (p : Polled). p.outcome) (poll_step n t clear) ∙ look_outcome (hit t) _ (polled n mask requested (stat_read t))
+  poll_outcome : (n : ℕ) (t : TargetState) → t.sticky ≡ false → (poll_result (suc n) mask requested t).outcome ≡ cond (hit t) (Value 1) (poll_result n mask requested (stat_read t)).outcome
+  poll_outcome n t clear = ap (λ (p : Polled). p.outcome) (poll_step n t clear) ∙ look_outcome (hit t) _ (poll_result n mask requested (stat_read t))
 
   not_fault : (b : Bool) (o : Outcome) → is_fault o ≡ false → is_fault (cond b (Value 1) o) ≡ false
   not_fault true o e = refl
@@ -226,33 +226,33 @@ module _ (mask requested : ℕ) where
       let clear' : t'.sticky ≡ false = b.clear clear in
       let few' : t'.power_reads < 2 ^ 32 = subst (λ (x : ℕ). x < 2 ^ 32) (sym b.few) few in
       let h = polls_are n t' clear' few' in
-      let next : (polled (suc n) mask requested t).next ≡ cond (hit t) t' (polled n mask requested t').next = poll_next n t clear in
+      let next : (poll_result (suc n) mask requested t).next ≡ cond (hit t) t' (poll_result n mask requested t').next = poll_next n t clear in
       record {
         commutes = λ r m.
             poll_next n (other t r m) clear
-            ∙ ap (λ (x : TargetState). cond (hit t) x (polled n mask requested x).next) (b.commutes r m)
+            ∙ ap (λ (x : TargetState). cond (hit t) x (poll_result n mask requested x).next) (b.commutes r m)
             ∙ ap (λ (x : TargetState). cond (hit t) (other t' r m) x) (h.commutes r m)
-            ∙ cond_other (hit t) t' (polled n mask requested t').next r m
+            ∙ cond_other (hit t) t' (poll_result n mask requested t').next r m
             ∙ ap (λ (x : TargetState). other x r m) (sym next);
         outcome = λ r m.
             poll_outcome n (other t r m) clear
-            ∙ ap (λ (x : TargetState). cond (hit t) (Value 1) (polled n mask requested x).outcome) (b.commutes r m)
+            ∙ ap (λ (x : TargetState). cond (hit t) (Value 1) (poll_result n mask requested x).outcome) (b.commutes r m)
             ∙ ap (λ (x : Outcome). cond (hit t) (Value 1) x) (h.outcome r m)
             ∙ sym (poll_outcome n t clear);
-        good = ap is_fault (poll_outcome n t clear) ∙ not_fault (hit t) (polled n mask requested t').outcome h.good;
-        ports = ap (λ (x : TargetState). x.aps) next ∙ either (λ s. s.aps ≡ t.aps) (hit t) t' (polled n mask requested t').next b.ports (h.ports ∙ b.ports);
-        clear = ap (λ (x : TargetState). x.sticky) next ∙ either (λ s. s.sticky ≡ false) (hit t) t' (polled n mask requested t').next clear' h.clear;
-        few = ap (λ (x : TargetState). x.power_reads) next ∙ either (λ s. s.power_reads ≡ t.power_reads) (hit t) t' (polled n mask requested t').next b.few (h.few ∙ b.few);
-        select = ap (λ (x : TargetState). x.select) next ∙ either (λ s. s.select ≡ t.select) (hit t) t' (polled n mask requested t').next (stat_select t) (h.select ∙ stat_select t);
+        good = ap is_fault (poll_outcome n t clear) ∙ not_fault (hit t) (poll_result n mask requested t').outcome h.good;
+        ports = ap (λ (x : TargetState). x.aps) next ∙ either (λ s. s.aps ≡ t.aps) (hit t) t' (poll_result n mask requested t').next b.ports (h.ports ∙ b.ports);
+        clear = ap (λ (x : TargetState). x.sticky) next ∙ either (λ s. s.sticky ≡ false) (hit t) t' (poll_result n mask requested t').next clear' h.clear;
+        few = ap (λ (x : TargetState). x.power_reads) next ∙ either (λ s. s.power_reads ≡ t.power_reads) (hit t) t' (poll_result n mask requested t').next b.few (h.few ∙ b.few);
+        select = ap (λ (x : TargetState). x.select) next ∙ either (λ s. s.select ≡ t.select) (hit t) t' (poll_result n mask requested t').next (stat_select t) (h.select ∙ stat_select t);
         power = λ on. (let on' = stat_power t few on in
-            ap (λ (x : TargetState). acknowledges x 0x1000_0000) next ∙ either (λ s. acknowledges s 0x1000_0000 ≡ true) (hit t) t' (polled n mask requested t').next on' (h.power on'));
+            ap (λ (x : TargetState). acknowledges x 0x1000_0000) next ∙ either (λ s. acknowledges s 0x1000_0000 ≡ true) (hit t) t' (poll_result n mask requested t').next on' (h.power on'));
       }
 
 -- ---- commands
 
 abbrev pub commands : ProbeCall → TargetState → TargetState
 commands (probe.Abort value) t = abort_write value t
-commands other t = (commanded t other).next
+commands other t = (command_attempt t other).next
 
 pub commands_beside : (c : ProbeCall) (t : TargetState) → Beside (commands c) t
 commands_beside (probe.Abort value) t = abort_beside value t
@@ -271,6 +271,6 @@ abbrev pub command_outcome : ProbeCall → TargetState → Outcome
 command_outcome (probe.Pins output select wait) t = Value (pins_set t output select).lines.pins
 command_outcome _ t = Done
 
-pub commanded_is : (c : ProbeCall) (t : TargetState) → t.sticky ≡ false → commanded t c ≡ record { outcome = command_outcome c t; next = commands c t }
+pub commanded_is : (c : ProbeCall) (t : TargetState) → t.sticky ≡ false → command_attempt t c ≡ record { outcome = command_outcome c t; next = commands c t }
 commanded_is (probe.Abort value) t clear = abort_writes t value clear
 commanded_is other t clear = refl

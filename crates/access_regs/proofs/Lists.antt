@@ -1,11 +1,11 @@
 -- Lists of calls, by their journal.
 use Rattle.std.proofs.Common.{◌≡◌, ◌≢◌, ◌∙◌, ℕ, ◌+◌, Bool, true, false, cond, not, ◌&&◌, List, [], ◌∷◌, ◌++◌, append_assoc, refl, sym, ap, subst, arith, length}
-use Rattle.target_machine.specs.Plain.{Action, acted, is_fault, given, result_of, call_done, CallDone, CallEnd, Answered, Skipped, Faulted, Small}
+use Rattle.target_machine.specs.Plain.{Action, action_attempt, is_fault, given_number, result_of, call_done, CallDone, CallEnd, Answered, Skipped, Faulted, Small}
 use Rattle.target_machine.specs.State.{TargetState}
 use Rattle.target_machine.specs.declared.unit.Call.{Call}
 use Rattle.access_regs.specs.Kept.{Kept}
-use Rattle.access_regs.specs.Plan.{settle, settled}
-use Rattle.access_regs.specs.Journal.{Issue, Step, making, steps_of, actions_of, finish, issue_of, finish_of, steps_at, entries_at, numbered, issued_from, kept_from}
+use Rattle.access_regs.specs.Plan.{settle, kept_after_settling}
+use Rattle.access_regs.specs.Journal.{Issue, Step, making, steps_of, actions_of, finish, issue_of, finish_of, steps_at, entries_at, numbered_entries, issued_from, kept_from}
 use Rattle.access_regs.specs.Alone.{call_alone, alone_after, large_of_all, NoneFaults, StopsAt, AnswersWith}
 use Rattle.access_regs.specs.Follows.{Follows}
 use Rattle.access_regs.proofs.Course.{actions_append, actions_steps}
@@ -25,7 +25,7 @@ use Rattle.access_regs.proofs.Seams.{passes_both}
 
 -- ---- entries and steps
 
-pub actions_numbered : (n : ℕ) (forgiving : Bool) (steps : List Step) → actions_in (numbered n forgiving steps) ≡ actions_of steps
+pub actions_numbered : (n : ℕ) (forgiving : Bool) (steps : List Step) → actions_in (numbered_entries n forgiving steps) ≡ actions_of steps
 actions_numbered n forgiving [] = refl
 actions_numbered n forgiving (s ∷ steps) = ap (λ (l : List Action). s.action ∷ l) (actions_numbered n forgiving steps)
 
@@ -35,8 +35,8 @@ actions_in_append (x ∷ xs) ys = ap (λ (l : List Action). x.action ∷ l) (act
 
 pub actions_entries : (p : Planner) (n : ℕ) (u : TargetState) (k : Kept) (c : Ask) → actions_in (entries_at p n u k c) ≡ actions_of (steps_at p u k c)
 actions_entries p n u k c =
-    actions_in_append (numbered n (is_forgiving c) (issue_of p u k c).steps) (numbered (n + 1) false (finish_of p u k c).steps)
-    ∙ ap (λ (l : List Action). l ++ actions_in (numbered (n + 1) false (finish_of p u k c).steps)) (actions_numbered n (is_forgiving c) (issue_of p u k c).steps)
+    actions_in_append (numbered_entries n (is_forgiving c) (issue_of p u k c).steps) (numbered_entries (n + 1) false (finish_of p u k c).steps)
+    ∙ ap (λ (l : List Action). l ++ actions_in (numbered_entries (n + 1) false (finish_of p u k c).steps)) (actions_numbered n (is_forgiving c) (issue_of p u k c).steps)
     ∙ ap (λ (l : List Action). actions_of (issue_of p u k c).steps ++ l) (actions_numbered (n + 1) false (finish_of p u k c).steps)
     ∙ sym (actions_append (issue_of p u k c).steps (finish_of p u k c).steps)
 
@@ -46,10 +46,10 @@ actions_entries p n u k c =
 pub course_follows : (i : Issue) (d : CallDone) (call : Call) (u : TargetState) → Course i d call u → d.end ≢ Faulted → Follows i.kept d.large d.next (after u (actions_of i.steps))
 course_follows i d call u (answered a) ne =
     let last : List Step = record { part = Ends; action = a.action } ∷ [] in
-    let e : after u (actions_of i.steps) ≡ (acted a.at a.action).next =
+    let e : after u (actions_of i.steps) ≡ (action_attempt a.at a.action).next =
     ap (λ (l : List Step). after u (actions_of l)) a.steps
     ∙ ap (after u) (actions_append a.leads last) ∙ after_append u (actions_of a.leads) (actions_of last)
-    ∙ ap (λ (s : TargetState). (acted s a.action).next) (pass_after u a.at (actions_of a.leads) a.pass) in
+    ∙ ap (λ (s : TargetState). (action_attempt s a.action).next) (pass_after u a.at (actions_of a.leads) a.pass) in
     subst (Follows i.kept d.large d.next) (sym e) a.follows
 course_follows i d call u (stopped a) ne = absurd (ne a.end)
 course_follows i d call u (small a) ne = subst (Follows i.kept d.large d.next) (sym (pass_after u a.at (actions_of i.steps) a.pass)) a.follows
@@ -59,7 +59,7 @@ finish_follows : (b : Bool) (k : Kept) (large : List ℕ) (t u : TargetState) �
 finish_follows false k large t u f = f
 finish_follows true k large t u f =
     let g = settling.settles k large t u f in
-    subst (Follows (settled k) large t)
+    subst (Follows (kept_after_settling k) large t)
     (sym (ap (after u) (actions_steps Settles (settle k)) ∙ pass_after u g.at (making (settle k)) g.pass)) g.follows
 
 module _ (p : Planner) (Ok : Ask → Type 0) (each : (k : Kept) (large : List ℕ) (t u : TargetState) → Follows k large t u → (c : Ask) → Ok c → Course (issue_of p u k c) (call_alone t large c) c.call u) where
@@ -93,36 +93,36 @@ module _ (p : Planner) (Ok : Ask → Type 0) (each : (k : Kept) (large : List �
 
 -- ---- entries that pass
 
-passes_numbered : (n : ℕ) (forgiving : Bool) (u v : TargetState) (steps : List Step) → PassTo u (actions_of steps) v → Passes u (numbered n forgiving steps)
+passes_numbered : (n : ℕ) (forgiving : Bool) (u v : TargetState) (steps : List Step) → PassTo u (actions_of steps) v → Passes u (numbered_entries n forgiving steps)
 passes_numbered n forgiving u v [] h = tt
 passes_numbered n forgiving u v (s ∷ steps) h =
-    (ap (λ (b : Bool). b && not (forgiving && not (settles s.part))) h.0, passes_numbered n forgiving (acted u s.action).next v steps h.1)
+    (ap (λ (b : Bool). b && not (forgiving && not (settles s.part))) h.0, passes_numbered n forgiving (action_attempt u s.action).next v steps h.1)
 
 not_not : (a b : Bool) → (a && b) ≡ false → (a && not (true && not b)) ≡ false
 not_not a true e = e
 not_not a false e = e
 
-passes_forgiving : (n : ℕ) (u : TargetState) (steps : List Step) → IsPassing u steps → Passes u (numbered n true steps)
+passes_forgiving : (n : ℕ) (u : TargetState) (steps : List Step) → IsPassing u steps → Passes u (numbered_entries n true steps)
 passes_forgiving n u [] h = tt
-passes_forgiving n u (s ∷ steps) h = (not_not (is_fault (acted u s.action).outcome) (settles s.part) h.0, passes_forgiving n (acted u s.action).next steps h.1)
+passes_forgiving n u (s ∷ steps) h = (not_not (is_fault (action_attempt u s.action).outcome) (settles s.part) h.0, passes_forgiving n (action_attempt u s.action).next steps h.1)
 
 skipped_forgiving : (t : TargetState) (large : List ℕ) (c : Ask) → (call_alone t large c).end ≡ Skipped → is_forgiving c ≡ true
 unfolding call_done
 skipped_forgiving t large c e = end_skipped _ (is_forgiving c) _ _ _ _ _ e
 
-course_passes : (n : ℕ) (u t : TargetState) (large : List ℕ) (i : Issue) (c : Ask) → Course i (call_alone t large c) c.call u → (call_alone t large c).end ≢ Faulted → Passes u (numbered n (is_forgiving c) i.steps)
+course_passes : (n : ℕ) (u t : TargetState) (large : List ℕ) (i : Issue) (c : Ask) → Course i (call_alone t large c) c.call u → (call_alone t large c).end ≢ Faulted → Passes u (numbered_entries n (is_forgiving c) i.steps)
 course_passes n u t large i c (answered a) ne =
     let last : List Step = record { part = Ends; action = a.action } ∷ [] in
-    subst (λ (l : List Step). Passes u (numbered n (is_forgiving c) l)) (sym a.steps)
-    (passes_numbered n (is_forgiving c) u (acted a.at a.action).next (a.leads ++ last)
-    (subst (λ (l : List Action). PassTo u l (acted a.at a.action).next) (sym (actions_append a.leads last))
-    (pass_append u a.at (acted a.at a.action).next (actions_of a.leads) (actions_of last) a.pass (a.good, refl))))
+    subst (λ (l : List Step). Passes u (numbered_entries n (is_forgiving c) l)) (sym a.steps)
+    (passes_numbered n (is_forgiving c) u (action_attempt a.at a.action).next (a.leads ++ last)
+    (subst (λ (l : List Action). PassTo u l (action_attempt a.at a.action).next) (sym (actions_append a.leads last))
+    (pass_append u a.at (action_attempt a.at a.action).next (actions_of a.leads) (actions_of last) a.pass (a.good, refl))))
 course_passes n u t large i c (stopped a) ne = absurd (ne a.end)
 course_passes n u t large i c (small a) ne = passes_numbered n (is_forgiving c) u a.at i.steps a.pass
 course_passes n u t large i c (skipped a) ne =
-    subst (λ (b : Bool). Passes u (numbered n b i.steps)) (sym (skipped_forgiving t large c a.end)) (passes_forgiving n u i.steps a.passes)
+    subst (λ (b : Bool). Passes u (numbered_entries n b i.steps)) (sym (skipped_forgiving t large c a.end)) (passes_forgiving n u i.steps a.passes)
 
-finish_passes : (n : ℕ) (b : Bool) (k : Kept) (large : List ℕ) (t u : TargetState) → Follows k large t u → Passes u (numbered n false (finish b k).steps)
+finish_passes : (n : ℕ) (b : Bool) (k : Kept) (large : List ℕ) (t u : TargetState) → Follows k large t u → Passes u (numbered_entries n false (finish b k).steps)
 finish_passes n false k large t u f = tt
 finish_passes n true k large t u f =
     let g = settling.settles k large t u f in
@@ -135,9 +135,9 @@ module _ (p : Planner) (Ok : Ask → Type 0) (each : (k : Kept) (large : List �
       let course : Course (issue_of p u k c) d c.call u = each k large t u f c ok in
       let g = course_follows (issue_of p u k c) d c.call u course ne in
       let v : TargetState = after u (actions_of (issue_of p u k c).steps) in
-      passes_both u (numbered n (is_forgiving c) (issue_of p u k c).steps) (numbered (n + 1) false (finish_of p u k c).steps)
+      passes_both u (numbered_entries n (is_forgiving c) (issue_of p u k c).steps) (numbered_entries (n + 1) false (finish_of p u k c).steps)
       (course_passes n u t large (issue_of p u k c) c course ne)
-      (subst (λ (l : List Action). Passes (after u l) (numbered (n + 1) false (finish_of p u k c).steps)) (sym (actions_numbered n (is_forgiving c) (issue_of p u k c).steps))
+      (subst (λ (l : List Action). Passes (after u l) (numbered_entries (n + 1) false (finish_of p u k c).steps)) (sym (actions_numbered n (is_forgiving c) (issue_of p u k c).steps))
       (finish_passes (n + 1) c.settled (issue_of p u k c).kept d.large d.next v g))
 
   -- no entry of a list of calls of which none ends at a fault stops
@@ -160,9 +160,9 @@ pub record Stops (p : Planner) (n units : ℕ) (k : Kept) (u : TargetState) (cs 
   pub unit : entry.unit ≡ units
   pub own : entry.part ≢ Settles
   -- the memory is the one that the calls leave
-  pub words : (acted (after u (actions_in front)) entry.action).next.words ≡ left.words
+  pub words : (action_attempt (after u (actions_in front)) entry.action).next.words ≡ left.words
 
-pub numbered_append : (n : ℕ) (b : Bool) (xs ys : List Step) → numbered n b (xs ++ ys) ≡ numbered n b xs ++ numbered n b ys
+pub numbered_append : (n : ℕ) (b : Bool) (xs ys : List Step) → numbered_entries n b (xs ++ ys) ≡ numbered_entries n b xs ++ numbered_entries n b ys
 numbered_append n b [] ys = refl
 numbered_append n b (x ∷ xs) ys = ap (λ (l : List Entry). record { unit = cond (settles x.part) n (n + 1); part = x.part; forgiving = b && not (settles x.part); action = x.action } ∷ l) (numbered_append n b xs ys)
 
@@ -189,22 +189,22 @@ module _ (p : Planner) (n : ℕ) (k : Kept) (large : List ℕ) (t u : TargetStat
   abbrev entry_of : Step → Entry
   entry_of s = record { unit = cond (settles s.part) n (n + 1); part = s.part; forgiving = is_forgiving c && not (settles s.part); action = s.action }
 
-  stop_entries : entries_at p n u k c ++ rest ≡ numbered n (is_forgiving c) stop.leads ++ entry_of stop.step ∷ (numbered n (is_forgiving c) stop.more ++ (numbered (n + 1) false (finish_of p u k c).steps ++ rest))
+  stop_entries : entries_at p n u k c ++ rest ≡ numbered_entries n (is_forgiving c) stop.leads ++ entry_of stop.step ∷ (numbered_entries n (is_forgiving c) stop.more ++ (numbered_entries (n + 1) false (finish_of p u k c).steps ++ rest))
   stop_entries =
-      ap (λ (l : List Step). (numbered n (is_forgiving c) l ++ numbered (n + 1) false (finish_of p u k c).steps) ++ rest) stop.steps
-      ∙ append_assoc (numbered n (is_forgiving c) (stop.leads ++ stop.step ∷ stop.more)) (numbered (n + 1) false (finish_of p u k c).steps) rest
-      ∙ ap (λ (l : List Entry). l ++ (numbered (n + 1) false (finish_of p u k c).steps ++ rest)) (numbered_append n (is_forgiving c) stop.leads (stop.step ∷ stop.more))
-      ∙ append_assoc (numbered n (is_forgiving c) stop.leads) (numbered n (is_forgiving c) (stop.step ∷ stop.more)) (numbered (n + 1) false (finish_of p u k c).steps ++ rest)
+      ap (λ (l : List Step). (numbered_entries n (is_forgiving c) l ++ numbered_entries (n + 1) false (finish_of p u k c).steps) ++ rest) stop.steps
+      ∙ append_assoc (numbered_entries n (is_forgiving c) (stop.leads ++ stop.step ∷ stop.more)) (numbered_entries (n + 1) false (finish_of p u k c).steps) rest
+      ∙ ap (λ (l : List Entry). l ++ (numbered_entries (n + 1) false (finish_of p u k c).steps ++ rest)) (numbered_append n (is_forgiving c) stop.leads (stop.step ∷ stop.more))
+      ∙ append_assoc (numbered_entries n (is_forgiving c) stop.leads) (numbered_entries n (is_forgiving c) (stop.step ∷ stop.more)) (numbered_entries (n + 1) false (finish_of p u k c).steps ++ rest)
 
-  stop_at : after u (actions_in (numbered n (is_forgiving c) stop.leads)) ≡ stop.at
+  stop_at : after u (actions_in (numbered_entries n (is_forgiving c) stop.leads)) ≡ stop.at
   stop_at = ap (after u) (actions_numbered n (is_forgiving c) stop.leads) ∙ pass_after u stop.at (actions_of stop.leads) stop.pass
 
-  call_stops : StopsAt u (entries_at p n u k c ++ rest) (numbered n (is_forgiving c) stop.leads) (entry_of stop.step)
+  call_stops : StopsAt u (entries_at p n u k c ++ rest) (numbered_entries n (is_forgiving c) stop.leads) (entry_of stop.step)
   call_stops = record {
-    more = numbered n (is_forgiving c) stop.more ++ (numbered (n + 1) false (finish_of p u k c).steps ++ rest);
+    more = numbered_entries n (is_forgiving c) stop.more ++ (numbered_entries (n + 1) false (finish_of p u k c).steps ++ rest);
     is = stop_entries;
     passes = passes_numbered n (is_forgiving c) u stop.at stop.leads stop.pass;
-    faults = ap (λ (s : TargetState). is_fault (acted s stop.step.action).outcome) stop_at ∙ stop.bad;
+    faults = ap (λ (s : TargetState). is_fault (action_attempt s stop.step.action).outcome) stop_at ∙ stop.bad;
     strict = ap (λ (b : Bool). b && not (settles stop.step.part)) (faulted_strict t large c bad);
   }
 
@@ -217,12 +217,12 @@ module _ (p : Planner) (Ok : Ask → Type 0) (each : (k : Kept) (large : List �
       let course : Course (issue_of p u k c) (call_alone t large c) c.call u = each k large t u f c okc in
       let st = stop p n k large t u c course bad [] in
       record {
-        front = numbered n (is_forgiving c) st.leads;
+        front = numbered_entries n (is_forgiving c) st.leads;
         entry = entry_of p n k large t u c course bad [] st.step;
         stops = call_stops p n k large t u c course bad [];
         unit = ap (λ (b : Bool). cond b n (n + 1)) (not_settling st.step.part st.own) ∙ omega arith;
         own = st.own;
-        words = ap (λ (s : TargetState). (acted s st.step.action).next.words) (stop_at p n k large t u c course bad []) ∙ st.words;
+        words = ap (λ (s : TargetState). (action_attempt s st.step.action).next.words) (stop_at p n k large t u c course bad []) ∙ st.words;
       }
   list_stops n k large t u f (b ∷ cs) c ok okc none bad =
       let d : CallDone = call_alone t large b in
@@ -241,12 +241,12 @@ module _ (p : Planner) (Ok : Ask → Type 0) (each : (k : Kept) (large : List �
           is = ap (λ (l : List Entry). entries_at p n u k b ++ l) s.is ∙ sym (append_assoc (entries_at p n u k b) g.front (g.entry ∷ s.more));
           passes = passes_both u (entries_at p n u k b) g.front (step_passes p Ok each n k large t u f b ok.0 none.0)
               (subst (λ (l : List Action). Passes (after u l) g.front) (sym (actions_entries p n u k b)) s.passes);
-          faults = ap (λ (x : TargetState). is_fault (acted x g.entry.action).outcome) at ∙ s.faults;
+          faults = ap (λ (x : TargetState). is_fault (action_attempt x g.entry.action).outcome) at ∙ s.faults;
           strict = s.strict;
         };
         unit = g.unit ∙ omega arith;
         own = g.own;
-        words = ap (λ (x : TargetState). (acted x g.entry.action).next.words) at ∙ g.words;
+        words = ap (λ (x : TargetState). (action_attempt x g.entry.action).next.words) at ∙ g.words;
       }
 
 is_answered : (i : Issue) (d : CallDone) (call : Call) (u : TargetState) (v : ℕ) → Course i d call u → d.end ≡ Answered v → IsAnswered i d call u
@@ -260,22 +260,22 @@ call_answers : (p : Planner) (n : ℕ) (k : Kept) (large : List ℕ) (t u : Targ
 call_answers p n k large t u c v course e rest =
     let a = is_answered (issue_of p u k c) (call_alone t large c) c.call u v course e in
     let last : Step = record { part = Ends; action = a.action } in
-    let fin : List Entry = numbered (n + 1) false (finish_of p u k c).steps in
-    let at : after u (actions_in (numbered n (is_forgiving c) a.leads)) ≡ a.at = ap (after u) (actions_numbered n (is_forgiving c) a.leads) ∙ pass_after u a.at (actions_of a.leads) a.pass in
-    let value : ◌≡◌ {A = CallEnd} (Answered (result_of c.call (given (acted a.at a.action).outcome))) (Answered v) = sym a.end ∙ e in
-    let same : result_of c.call (given (acted a.at a.action).outcome) ≡ v = cc in
+    let fin : List Entry = numbered_entries (n + 1) false (finish_of p u k c).steps in
+    let at : after u (actions_in (numbered_entries n (is_forgiving c) a.leads)) ≡ a.at = ap (after u) (actions_numbered n (is_forgiving c) a.leads) ∙ pass_after u a.at (actions_of a.leads) a.pass in
+    let value : ◌≡◌ {A = CallEnd} (Answered (result_of c.call (given_number (action_attempt a.at a.action).outcome))) (Answered v) = sym a.end ∙ e in
+    let same : result_of c.call (given_number (action_attempt a.at a.action).outcome) ≡ v = cc in
     record {
-      front = numbered n (is_forgiving c) a.leads;
+      front = numbered_entries n (is_forgiving c) a.leads;
       entry = record { unit = n + 1; part = Ends; forgiving = is_forgiving c && not false; action = a.action };
       more = fin ++ rest;
       is =
-          ap (λ (l : List Step). (numbered n (is_forgiving c) l ++ fin) ++ rest) a.steps
-          ∙ append_assoc (numbered n (is_forgiving c) (a.leads ++ last ∷ [])) fin rest
+          ap (λ (l : List Step). (numbered_entries n (is_forgiving c) l ++ fin) ++ rest) a.steps
+          ∙ append_assoc (numbered_entries n (is_forgiving c) (a.leads ++ last ∷ [])) fin rest
           ∙ ap (λ (l : List Entry). l ++ (fin ++ rest)) (numbered_append n (is_forgiving c) a.leads (last ∷ []))
-          ∙ append_assoc (numbered n (is_forgiving c) a.leads) (numbered n (is_forgiving c) (last ∷ [])) (fin ++ rest);
+          ∙ append_assoc (numbered_entries n (is_forgiving c) a.leads) (numbered_entries n (is_forgiving c) (last ∷ [])) (fin ++ rest);
       unit = refl;
       ends = refl;
-      gives = ap (λ (s : TargetState). result_of c.call (given (acted s a.action).outcome)) at ∙ same;
+      gives = ap (λ (s : TargetState). result_of c.call (given_number (action_attempt s a.action).outcome)) at ∙ same;
     }
 
 module _ (p : Planner) (Ok : Ask → Type 0) (each : (k : Kept) (large : List ℕ) (t u : TargetState) → Follows k large t u → (c : Ask) → Ok c → Course (issue_of p u k c) (call_alone t large c) c.call u) where
@@ -300,5 +300,5 @@ module _ (p : Planner) (Ok : Ask → Type 0) (each : (k : Kept) (large : List �
         is = ap (λ (l : List Entry). entries_at p n u k b ++ l) g.is ∙ sym (append_assoc (entries_at p n u k b) g.front (g.entry ∷ g.more));
         unit = g.unit ∙ omega arith;
         ends = g.ends;
-        gives = ap (λ (x : TargetState). result_of c.call (given (acted x g.entry.action).outcome)) at ∙ g.gives;
+        gives = ap (λ (x : TargetState). result_of c.call (given_number (action_attempt x g.entry.action).outcome)) at ∙ g.gives;
       }

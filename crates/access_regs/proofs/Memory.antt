@@ -3,8 +3,8 @@ use Rattle.std.proofs.Common.{◌≡◌, ◌≢◌, ◌∙◌, ℕ, ◌/◌, ◌
 use Rattle.std.specs.FinMap as finite
 use Rattle.std.specs.Option.{unwrap_or}
 use Rattle.std.proofs.lemmas.Bool.{eq-eqb}
-use Rattle.target_machine.specs.Attempt.{Attempt, attempt, posted, bus_error, acknowledges}
-use Rattle.target_machine.specs.Plain.{Action, Makes, acted, in_order, contains, select_of, ap_access_of, drw_of, csw_for, is_fault, given, call_done, ended, result_of, needs_cfg, csw_actions, memory_actions, transfer_actions, issued, CallDone, Answered}
+use Rattle.target_machine.specs.Attempt.{Attempt, attempt, posted_attempt, bus_error, acknowledges}
+use Rattle.target_machine.specs.Plain.{Action, Makes, action_attempt, in_order, contains, select_of, ap_access_of, drw_of, csw_for, is_fault, given_number, call_done, ended_call, result_of, needs_cfg, csw_actions, memory_actions, transfer_actions, issued_actions, CallDone, Answered}
 use Rattle.target_machine.specs.State.{TargetState}
 use Rattle.target_machine.specs.declared.ap.ApState.{ApState}
 use Rattle.target_machine.specs.declared.access.RegAccess.{RegAccess}
@@ -13,8 +13,8 @@ use Rattle.target_machine.specs.declared.unit.Call.{Call}
 use Rattle.target_machine.specs.declared.unit.Call.TheVariants.{Access}
 use Rattle.target_machine.specs.declared.unit.Unit.{Unit as AccessUnit}
 use Rattle.target_machine.specs.declared.unit.Unit.TheVariants as unit
-use Rattle.access_regs.specs.Kept.{Kept, known, csw_of, is_known, selected}
-use Rattle.access_regs.specs.Plan.{select_value, unless, select_needed, port_writes, made, learned, first_plan, needs_csw, planned_csw}
+use Rattle.access_regs.specs.Kept.{Kept, known_at, csw_of, is_known, kept_with_select}
+use Rattle.access_regs.specs.Plan.{select_value, unless, select_needed, port_writes, kept_after_plan, kept_after_csw, first_plan, needs_csw, planned_csw}
 use Rattle.access_regs.specs.Journal.{Issue, Step, making, steps_of, actions_of, before, gives, by_plan, by_csw}
 use Rattle.access_regs.specs.Follows.{Follows, unsettled_tar}
 use Rattle.access_regs.specs.declared.known.Known.{Known}
@@ -54,7 +54,7 @@ head_of true true true x y z i j l = tt
 
 pub record CswRead (t : TargetState) (n : ℕ) : Type 0 where
   pub csw : ℕ
-  pub is : attempt t (ap_access_of true 0 0) ≡ posted csw t
+  pub is : attempt t (ap_access_of true 0 0) ≡ posted_attempt csw t
   pub shows : (p : ApState) → finite.get t.aps n ≡ Some p → csw ≡ bit_or p.csw 0x40
 
 pub csw_reads : (t : TargetState) (n : ℕ) → Selects t n → CswRead t n
@@ -81,8 +81,8 @@ transfer_is false size read address value csw = refl
 
 abbrev pub memory_done : TargetState → List ℕ → ℕ → Bool → ℕ → ℕ → ℕ → Attempt → CallDone
 memory_done t large size read n address value x =
-    ended (is_fault x.outcome) false false (result_of (Access (unit.Memory size read n address value)) (given x.outcome)) x.next large
-    (issued t (memory_actions t (contains large n) size read n address value))
+    ended_call (is_fault x.outcome) false false (result_of (Access (unit.Memory size read n address value)) (given_number x.outcome)) x.next large
+    (issued_actions t (memory_actions t (contains large n) size read n address value))
 
 pub done_memory : (t : TargetState) (large : List ℕ) (size : ℕ) (read : Bool) (n address value : ℕ) → needs_cfg large n address ≡ false →
     call_done t large false (Access (unit.Memory size read n address value))
@@ -102,9 +102,9 @@ module _ (large : List ℕ) (size : ℕ) (read : Bool) (n address value : ℕ) (
 
   -- what a plan has after SELECT
   abbrev tail : Kept → Issue
-  tail k = record { steps = steps_of Leads (port_writes (known k n) size address) ++ last ∷ []; kept = made k asked }
+  tail k = record { steps = steps_of Leads (port_writes (known_at k n) size address) ++ last ∷ []; kept = kept_after_plan k asked }
 
-  module _ (k : Kept) (t0 t u : TargetState) (f : Follows k large t u) (knows : (known k n).csw ≡ Some (csw_of (known k n))) (at : Selects t n) (selects : t.select ≡ select_value n 0)
+  module _ (k : Kept) (t0 t u : TargetState) (f : Follows k large t u) (knows : (known_at k n).csw ≡ Some (csw_of (known_at k n))) (at : Selects t n) (selects : t.select ≡ select_value n 0)
       (idle : (q : ℕ) → q ≢ n → unsettled_tar k q ≡ None) (csw : ℕ) (csw_read : (p : ApState) → finite.get t.aps n ≡ Some p → csw ≡ bit_or p.csw 0x40) where
     abbrev X : Attempt
     X = stage.X k large t u size read n address value lt is aligned f knows at selects idle csw csw_read
@@ -121,32 +121,32 @@ module _ (large : List ℕ) (size : ℕ) (read : Bool) (n address value : ℕ) (
     together : stage.Drws k large t u size read n address value lt is aligned f knows at selects idle csw csw_read u3
     together = stage.together k large t u size read n address value lt is aligned f knows at selects idle csw csw_read
 
-    writes_pass : PassTo u (actions_of (steps_of Leads (port_writes (known k n) size address))) u3
+    writes_pass : PassTo u (actions_of (steps_of Leads (port_writes (known_at k n) size address))) u3
     writes_pass =
         let p = stage.planned k large t u size read n address value lt is aligned f knows at selects idle csw csw_read in
-        subst (λ (l : List Action). PassTo u l u3) (sym (actions_steps Leads (port_writes (known k n) size address))) p.pass
+        subst (λ (l : List Action). PassTo u l u3) (sym (actions_steps Leads (port_writes (known_at k n) size address))) p.pass
 
     abbrev ended_by : Bool → CallDone
-    ended_by b = ended b false false (result_of call (given X.outcome)) X.next large (issued t0 (memory_actions t0 (contains large n) size read n address value))
+    ended_by b = ended_call b false false (result_of call (given_number X.outcome)) X.next large (issued_actions t0 (memory_actions t0 (contains large n) size read n address value))
 
     by_fault : (b : Bool) → is_fault X.outcome ≡ b → Course (tail k) d call u
     by_fault false e =
         let same : d ≡ ended_by false = ap ended_by e in
         answered (record {
-          leads = steps_of Leads (port_writes (known k n) size address);
+          leads = steps_of Leads (port_writes (known_at k n) size address);
           action = Makes (drw_of read address value);
           at = u3;
           steps = refl;
           pass = writes_pass;
           good = ap is_fault together.outcome ∙ e;
-          end = ap (λ (c : CallDone). c.end) same ∙ ap (λ (o : Outcome). Answered (result_of call (given o))) (sym together.outcome);
-          follows = subst (λ (c : CallDone). Follows (made k asked) c.large c.next Y.next) (sym same)
+          end = ap (λ (c : CallDone). c.end) same ∙ ap (λ (o : Outcome). Answered (result_of call (given_number o))) (sym together.outcome);
+          follows = subst (λ (c : CallDone). Follows (kept_after_plan k asked) c.large c.next Y.next) (sym same)
               (stage.follows k large t u size read n address value lt is aligned f knows at selects idle csw csw_read e);
         })
     by_fault true e =
         let same : d ≡ ended_by true = ap ended_by e in
         stopped (record {
-          leads = steps_of Leads (port_writes (known k n) size address);
+          leads = steps_of Leads (port_writes (known_at k n) size address);
           step = last;
           more = [];
           at = u3;
@@ -171,7 +171,7 @@ module _ (large : List ℕ) (size : ℕ) (read : Bool) (n address value : ℕ) (
     us = at_select u n 0
 
     abbrev k1 : Kept
-    k1 = selected k (select_value n 0)
+    k1 = kept_with_select k (select_value n 0)
 
     abbrev csw_access : RegAccess
     csw_access = ap_access_of true 0 0
@@ -202,9 +202,9 @@ module _ (large : List ℕ) (size : ℕ) (read : Bool) (n address value : ℕ) (
       plain_fails =
           let x = no_power ts csw_access f.clear off refl in
           pass_then_fault t ts (Makes (select_of n 0) ∷ []) (Makes csw_access)
-          (transfer_actions (contains large n) size read address value (given (in_order t (csw_actions n)).outcome)) (plain_select k large t u f n 0 lt (omega arith)) (ap (λ (y : Attempt). is_fault y.outcome) x) ∙ x
+          (transfer_actions (contains large n) size read address value (given_number (in_order t (csw_actions n)).outcome)) (plain_select k large t u f n 0 lt (omega arith)) (ap (λ (y : Attempt). is_fault y.outcome) x) ∙ x
 
-      stops_at : (i : Issue) (step : Step) (more : List Step) → i.steps ≡ steps_of Leads (select_needed k n 0) ++ step ∷ more → step.part ≢ Settles → acted us step.action ≡ bus_error us → Course i done_call call u
+      stops_at : (i : Issue) (step : Step) (more : List Step) → i.steps ≡ steps_of Leads (select_needed k n 0) ++ step ∷ more → step.part ≢ Settles → action_attempt us step.action ≡ bus_error us → Course i done_call call u
       stops_at i step more steps own x =
           let e : done_call ≡ memory_done t large size read n address value (bus_error ts) = done_by (bus_error ts) plain_fails in
           stopped (record {
@@ -223,7 +223,7 @@ module _ (large : List ℕ) (size : ℕ) (read : Bool) (n address value : ℕ) (
       off_planned : (a : RegAccess) → a.ap ≡ true → attempt us a ≡ bus_error us
       off_planned a is = no_power us a (planned_clear k large t u f) (same_power k large t u f ∙ off) is
 
-      stops_in : (xs : List RegAccess) → HeadIsAp xs → Course (record { steps = steps_of Leads (select_needed k n 0 ++ xs) ++ last ∷ []; kept = made k asked }) done_call call u
+      stops_in : (xs : List RegAccess) → HeadIsAp xs → Course (record { steps = steps_of Leads (select_needed k n 0 ++ xs) ++ last ∷ []; kept = kept_after_plan k asked }) done_call call u
       unfolding HeadIsAp
       stops_in [] head =
           stops_at _ last [] (ap (λ (l : List Step). l ++ last ∷ []) (steps_append Leads (select_needed k n 0) [] ∙ append-nil (steps_of Leads (select_needed k n 0)))) (λ q. absurd (cc)) (off_planned (drw_of read address value) refl)
@@ -236,19 +236,19 @@ module _ (large : List ℕ) (size : ℕ) (read : Bool) (n address value : ℕ) (
       off_course = by_needs (needs_csw k asked)
         where
           first : Issue
-          first = before (steps_of Leads (first_plan k n)) (by_plan (learned k n (gives u (first_plan k n))) asked)
+          first = before (steps_of Leads (first_plan k n)) (by_plan (kept_after_csw k n (gives u (first_plan k n))) asked)
 
           by_needs : (b : Bool) → Course (cond b first (by_plan k asked)) done_call call u
           by_needs true =
-              let rest : List Step = (by_plan (learned k n (gives u (first_plan k n))) asked).steps in
+              let rest : List Step = (by_plan (kept_after_csw k n (gives u (first_plan k n))) asked).steps in
               stops_at first (record { part = Leads; action = Makes csw_access }) rest
               (ap (λ (l : List Step). l ++ rest) (steps_append Leads (select_needed k n 0) (csw_access ∷ []))
               ∙ append_assoc (steps_of Leads (select_needed k n 0)) (steps_of Leads (csw_access ∷ [])) rest)
               (λ q. absurd (cc)) (off_planned csw_access refl)
           by_needs false =
-              stops_in (port_writes (known k n) size address)
-              (head_of (is_known (known k n).csw (planned_csw (csw_of (known k n)) size)) (not (known k n).large || is_known (known k n).high (address / 2 ^ 32)) (is_known (known k n).tar (address % 2 ^ 32))
-              (ap_access_of false 0 (planned_csw (csw_of (known k n)) size)) (ap_access_of false 8 (address / 2 ^ 32)) (ap_access_of false 4 (address % 2 ^ 32)) refl refl refl)
+              stops_in (port_writes (known_at k n) size address)
+              (head_of (is_known (known_at k n).csw (planned_csw (csw_of (known_at k n)) size)) (not (known_at k n).large || is_known (known_at k n).high (address / 2 ^ 32)) (is_known (known_at k n).tar (address % 2 ^ 32))
+              (ap_access_of false 0 (planned_csw (csw_of (known_at k n)) size)) (ap_access_of false 8 (address / 2 ^ 32)) (ap_access_of false 4 (address % 2 ^ 32)) refl refl refl)
 
     -- ---- with power
 
@@ -276,12 +276,12 @@ module _ (large : List ℕ) (size : ℕ) (read : Bool) (n address value : ℕ) (
           pass_append t ts t2 (Makes (select_of n 0) ∷ []) (Makes csw_access ∷ []) (plain_select k large t u f n 0 lt (omega arith))
           (ap (λ (x : Attempt). is_fault x.outcome) rt.is, ap (λ (x : Attempt). x.next) (sym rt.is))
 
-      read_order : in_order t (csw_actions n) ≡ posted rt.csw ts
+      read_order : in_order t (csw_actions n) ≡ posted_attempt rt.csw ts
       read_order = pass_last t ts (Makes (select_of n 0) ∷ []) (Makes csw_access) (plain_select k large t u f n 0 lt (omega arith)) ∙ rt.is
 
-      module _ (k2 : Kept) (u2 : TargetState) (f2 : Follows k2 large t2 u2) (knows : (known k2 n).csw ≡ Some (csw_of (known k2 n))) (idle : (q : ℕ) → q ≢ n → unsettled_tar k2 q ≡ None) where
+      module _ (k2 : Kept) (u2 : TargetState) (f2 : Follows k2 large t2 u2) (knows : (known_at k2 n).csw ≡ Some (csw_of (known_at k2 n))) (idle : (q : ℕ) → q ≢ n → unsettled_tar k2 q ≡ None) where
         abbrev writes : List Action
-        writes = making (plain_writes (csw_for rt.csw size) (known k2 n).large address)
+        writes = making (plain_writes (csw_for rt.csw size) (known_at k2 n).large address)
 
         abbrev drw_action : Action
         drw_action = Makes (drw_of read address value)
@@ -291,9 +291,9 @@ module _ (large : List ℕ) (size : ℕ) (read : Bool) (n address value : ℕ) (
 
         plain_is : R ≡ attempt t3 (drw_of read address value)
         plain_is =
-            ap (λ (x : Attempt). in_order t (csw_actions n ++ transfer_actions (contains large n) size read address value (given x.outcome))) read_order
+            ap (λ (x : Attempt). in_order t (csw_actions n ++ transfer_actions (contains large n) size read address value (given_number x.outcome))) read_order
             ∙ ap (λ (l : Bool). in_order t (csw_actions n ++ transfer_actions l size read address value rt.csw)) (sym (f2.larges n lt))
-            ∙ ap (λ (l : List Action). in_order t (csw_actions n ++ l)) (transfer_is (known k2 n).large size read address value rt.csw)
+            ∙ ap (λ (l : List Action). in_order t (csw_actions n ++ l)) (transfer_is (known_at k2 n).large size read address value rt.csw)
             ∙ ap (in_order t) (sym (append_assoc (csw_actions n) writes (drw_action ∷ [])))
             ∙ pass_last t t3 (csw_actions n ++ writes) drw_action
             (pass_append t t2 t3 (csw_actions n) writes read_pass (let p = stage.plain k2 large t2 u2 size read n address value lt is aligned f2 knows at2 refl idle rt.csw rt.shows in p.pass))
@@ -307,36 +307,36 @@ module _ (large : List ℕ) (size : ℕ) (read : Bool) (n address value : ℕ) (
       idle_selected q ne = idle_at q ne
 
       -- CSW is known
-      known_course : (known k n).csw ≡ Some (csw_of (known k n)) → Course (by_plan k asked) done_call call u
+      known_course : (known_at k n).csw ≡ Some (csw_of (known_at k n)) → Course (by_plan k asked) done_call call u
       known_course knows =
           let S : List RegAccess = select_needed k n 0 in
-          let W : List RegAccess = port_writes (known k n) size address in
+          let W : List RegAccess = port_writes (known_at k n) size address in
           let f2 : Follows k1 large t2 us = follows_rdbuff k1 large ts us f1 rt.csw us.rdbuff in
           let c : Course (before (steps_of Leads S) (tail k1)) done_call call u =
           course_before (tail k1) done_call call u us (steps_of Leads S) (subst (λ (l : List Action). PassTo u l us) (sym (actions_steps Leads S)) (planned_select k large t u f n 0 lt (omega arith)))
           (on_tail k1 us f2 knows idle_selected) in
           let same : steps_of Leads (S ++ W) ++ last ∷ [] ≡ steps_of Leads S ++ (steps_of Leads W ++ last ∷ []) =
           ap (λ (l : List Step). l ++ last ∷ []) (steps_append Leads S W) ∙ append_assoc (steps_of Leads S) (steps_of Leads W) (last ∷ []) in
-          subst (λ (l : List Step). Course (record { steps = l; kept = made k asked }) done_call call u) (sym same) c
+          subst (λ (l : List Step). Course (record { steps = l; kept = kept_after_plan k asked }) done_call call u) (sym same) c
 
       -- CSW is read first
       abbrev learned_known : Known
-      learned_known = record (known k n) { csw = Some ru.csw }
+      learned_known = record (known_at k n) { csw = Some ru.csw }
 
       abbrev k2 : Kept
-      k2 = learned k n ru.csw
+      k2 = kept_after_csw k n ru.csw
 
       abbrev u2 : TargetState
       u2 = record us { rdbuff = ru.csw }
 
-      known_is : known k2 n ≡ learned_known
+      known_is : known_at k2 n ≡ learned_known
       known_is = let e = f.table in known_same k n learned_known (omega arith)
 
-      learned_follows : (known k n).csw ≡ None → Follows k2 large t2 u2
+      learned_follows : (known_at k n).csw ≡ None → Follows k2 large t2 u2
       learned_follows none =
           let g : Follows k2 large ts us =
           follows_known k1 large ts us f1 n learned_known lt refl
-          (learned_port (known k n) (unsettled_tar k n) ru.csw (finite.get ts.aps n) (finite.get us.aps n) none (λ r e. ru.shows r e) (f1.ports n)) in
+          (learned_port (known_at k n) (unsettled_tar k n) ru.csw (finite.get ts.aps n) (finite.get us.aps n) none (λ r e. ru.shows r e) (f1.ports n)) in
           follows_rdbuff k2 large ts us g rt.csw ru.csw
 
       first_pass : PassTo u (actions_of (steps_of Leads (first_plan k n))) u2
@@ -347,35 +347,35 @@ module _ (large : List ℕ) (size : ℕ) (read : Bool) (n address value : ℕ) (
 
       gives_csw : gives u (first_plan k n) ≡ ru.csw
       gives_csw =
-          ap (λ (l : List Action). given (in_order u l).outcome) (making_append (select_needed k n 0) (csw_access ∷ []))
-          ∙ ap (λ (x : Attempt). given x.outcome) (pass_last u us (making (select_needed k n 0)) (Makes csw_access) (planned_select k large t u f n 0 lt (omega arith)) ∙ ru.is)
+          ap (λ (l : List Action). given_number (in_order u l).outcome) (making_append (select_needed k n 0) (csw_access ∷ []))
+          ∙ ap (λ (x : Attempt). given_number x.outcome) (pass_last u us (making (select_needed k n 0)) (Makes csw_access) (planned_select k large t u f n 0 lt (omega arith)) ∙ ru.is)
 
       selected_plan : by_plan k2 asked ≡ tail k2
       selected_plan =
           ap (λ (b : Bool). with_select (unless b (select_of n 0))) (eq-eqb (select_value n 0) (select_value n 0) refl)
         where
           with_select : List RegAccess → Issue
-          with_select xs = record { steps = steps_of Leads (xs ++ port_writes (known k2 n) size address) ++ last ∷ []; kept = made k2 asked }
+          with_select xs = record { steps = steps_of Leads (xs ++ port_writes (known_at k2 n) size address) ++ last ∷ []; kept = kept_after_plan k2 asked }
 
-      unknown_course : (known k n).csw ≡ None → Course (before (steps_of Leads (first_plan k n)) (by_plan (learned k n (gives u (first_plan k n))) asked)) done_call call u
+      unknown_course : (known_at k n).csw ≡ None → Course (before (steps_of Leads (first_plan k n)) (by_plan (kept_after_csw k n (gives u (first_plan k n))) asked)) done_call call u
       unknown_course none =
-          let knows : (known k2 n).csw ≡ Some (csw_of (known k2 n)) = subst (λ (a : Known). a.csw ≡ Some (csw_of a)) (sym known_is) refl in
+          let knows : (known_at k2 n).csw ≡ Some (csw_of (known_at k2 n)) = subst (λ (a : Known). a.csw ≡ Some (csw_of a)) (sym known_is) refl in
           let c : Course (by_plan k2 asked) done_call call u2 =
           subst (λ (i : Issue). Course i done_call call u2) (sym selected_plan) (on_tail k2 u2 (learned_follows none) knows idle_selected) in
-          subst (λ (v : ℕ). Course (before (steps_of Leads (first_plan k n)) (by_plan (learned k n v) asked)) done_call call u) (sym gives_csw)
+          subst (λ (v : ℕ). Course (before (steps_of Leads (first_plan k n)) (by_plan (kept_after_csw k n v) asked)) done_call call u) (sym gives_csw)
           (course_before (by_plan k2 asked) done_call call u u2 (steps_of Leads (first_plan k n)) first_pass c)
 
       pub on_course : Course (by_csw u k asked) done_call call u
-      on_course = by_csw_known (known k n).csw refl
+      on_course = by_csw_known (known_at k n).csw refl
         where
           first : Issue
-          first = before (steps_of Leads (first_plan k n)) (by_plan (learned k n (gives u (first_plan k n))) asked)
+          first = before (steps_of Leads (first_plan k n)) (by_plan (kept_after_csw k n (gives u (first_plan k n))) asked)
 
-          by_csw_known : (o : Option ℕ) → (known k n).csw ≡ o → Course (by_csw u k asked) done_call call u
+          by_csw_known : (o : Option ℕ) → (known_at k n).csw ≡ o → Course (by_csw u k asked) done_call call u
           by_csw_known None none =
               subst (λ (i : Issue). Course i done_call call u) (sym (ap (λ (o : Option ℕ). cond (is_none o) first (by_plan k asked)) none)) (unknown_course none)
           by_csw_known (Some c) some =
-              let knows : (known k n).csw ≡ Some (csw_of (known k n)) = some ∙ ap (λ (o : Option ℕ). Some (unwrap_or o 0)) (sym some) in
+              let knows : (known_at k n).csw ≡ Some (csw_of (known_at k n)) = some ∙ ap (λ (o : Option ℕ). Some (unwrap_or o 0)) (sym some) in
               subst (λ (i : Issue). Course i done_call call u) (sym (ap (λ (o : Option ℕ). cond (is_none o) first (by_plan k asked)) some)) (known_course knows)
 
     -- The unit is answered, or stops, as the plain unit does.

@@ -2,7 +2,7 @@
 use Rattle.std.proofs.Common.{◌≡◌, ◌≢◌, ◌∙◌, ◌⊎◌, inl, inr, ℕ, ◌+◌, ◌-◌, ◌≤◌, Bool, true, false, cond, ◌&&◌, List, [], ◌∷◌, ◌++◌, append-nil, append_assoc, Option, Some, None, refl, sym, ap, subst, arith, zero, suc, take}
 use Rattle.std.proofs.lemmas.Bool.{and_parts}
 use Rattle.target_machine.specs.Lists.{after}
-use Rattle.target_machine.specs.Plain.{acted, may_forgive, Faulted, CallDone}
+use Rattle.target_machine.specs.Plain.{action_attempt, may_forgive, Faulted, CallDone}
 use Rattle.target_machine.specs.State.{TargetState}
 use Rattle.target_machine.specs.declared.unit.Call.{Call}
 use Rattle.target_machine.specs.declared.unit.Call.TheVariants.{Access, Probe}
@@ -17,7 +17,7 @@ use Rattle.target_calls.proofs.EntryLemmas.{pass_front}
 use Rattle.access_regs.specs.Alone.{KeepsMemory, call_alone, alone_after}
 use Rattle.access_regs.specs.Closed.{MemoryFollowsCalls, closed_after, closed_by, closes}
 use Rattle.access_regs.specs.Follows.{Follows}
-use Rattle.access_regs.specs.Journal.{Step, steps_of, actions_of, issue, issue_of, finish, finish_of, steps_at, entries_at, numbered, issued_from, planned, after_settling, alone_at, is_alone}
+use Rattle.access_regs.specs.Journal.{Step, steps_of, actions_of, issue, issue_of, finish, finish_of, steps_at, entries_at, numbered_entries, issued_from, issue_of_plan, after_settling, alone_at, is_alone}
 use Rattle.access_regs.specs.Kept.{Kept, nothing_kept}
 use Rattle.access_regs.specs.Plan.{settle, settling}
 use Rattle.access_regs.specs.declared.known.Unsettled.{Unsettled}
@@ -36,7 +36,7 @@ pub issue_keeps : (p : Planner) (k : Kept) (large : List ℕ) (t u : TargetState
 issue_keeps p k large t u f c ok = by_call c.call ok.range
   where
     by_mark : (asked : AccessUnit) (b : Bool) → (is_alone p c.forgive && may_forgive (Access asked)) ≡ b → IsCallInRange (Access asked) →
-        Keeps IsNoEnd u (cond b (after_settling u k (alone_at c.forgive asked)) (planned u k asked)).steps
+        Keeps IsNoEnd u (cond b (after_settling u k (alone_at c.forgive asked)) (issue_of_plan u k asked)).steps
     by_mark asked false e range = record { memory = planned_keep k large t u f asked range; one = planned_one IsNoEnd u k asked }
     by_mark asked true e range = settled_keeps IsNoEnd c.forgive (λ h early. skips early) k large t u f asked range (and_parts (is_alone p c.forgive) (may_forgive (Access asked)) e).1
 
@@ -64,14 +64,14 @@ AllAre P (e ∷ es) = P e.part × AllAre P es
 pub EntriesKeep : (Part → Type 0) → ℕ → TargetState → List Entry → Type 0
 EntriesKeep P n u [] = Unit {0}
 EntriesKeep P n u (e ∷ es) =
-    (e.part ≢ Ends → (acted u e.action).next.words ≡ u.words) × ((closes e.part ≡ true → (e.unit ≡ n + 1) × AllAre P es) × EntriesKeep P n (acted u e.action).next es)
+    (e.part ≢ Ends → (action_attempt u e.action).next.words ≡ u.words) × ((closes e.part ≡ true → (e.unit ≡ n + 1) × AllAre P es) × EntriesKeep P n (action_attempt u e.action).next es)
 
 all_append : (P : Part → Type 0) (xs ys : List Entry) → AllAre P xs → AllAre P ys → AllAre P (xs ++ ys)
 unfolding AllAre
 all_append P [] ys h k = k
 all_append P (x ∷ xs) ys h k = (h.0, all_append P xs ys h.1 k)
 
-pub all_numbered : (P : Part → Type 0) (n : ℕ) (b : Bool) (steps : List Step) → AllParts P steps → AllAre P (numbered n b steps)
+pub all_numbered : (P : Part → Type 0) (n : ℕ) (b : Bool) (steps : List Step) → AllParts P steps → AllAre P (numbered_entries n b steps)
 unfolding AllAre
 all_numbered P n b [] h = tt
 all_numbered P n b (s ∷ steps) h = (h.0, all_numbered P n b steps h.1)
@@ -83,21 +83,21 @@ closing_unit Ends n e = refl
 closing_unit (Skips attempted) n e = refl
 
 pub keep_numbered : (P : Part → Type 0) (n m : ℕ) (b : Bool) (steps finishing : List Step) (u : TargetState) → KeepsMemory u steps → OneEnd P steps → AllParts P finishing →
-    EntriesKeep P n (after u (actions_of steps)) (numbered m false finishing) → EntriesKeep P n u (numbered n b steps ++ numbered m false finishing)
+    EntriesKeep P n (after u (actions_of steps)) (numbered_entries m false finishing) → EntriesKeep P n u (numbered_entries n b steps ++ numbered_entries m false finishing)
 unfolding EntriesKeep
 keep_numbered P n m b [] finishing u h one all k = k
 keep_numbered P n m b (s ∷ steps) finishing u h one all k = (
   h.0,
   (
-    (λ e. (closing_unit s.part n e, all_append P (numbered n b steps) (numbered m false finishing) (all_numbered P n b steps (one.0 e)) (all_numbered P m false finishing all))),
-    keep_numbered P n m b steps finishing (acted u s.action).next h.1 one.1 all k,
+    (λ e. (closing_unit s.part n e, all_append P (numbered_entries n b steps) (numbered_entries m false finishing) (all_numbered P n b steps (one.0 e)) (all_numbered P m false finishing all))),
+    keep_numbered P n m b steps finishing (action_attempt u s.action).next h.1 one.1 all k,
   ),
 )
 
-pub settling_keep : (P : Part → Type 0) (n m : ℕ) (steps : List Step) (u : TargetState) → AllParts IsSettling steps → KeepsMemory u steps → EntriesKeep P n u (numbered m false steps)
+pub settling_keep : (P : Part → Type 0) (n m : ℕ) (steps : List Step) (u : TargetState) → AllParts IsSettling steps → KeepsMemory u steps → EntriesKeep P n u (numbered_entries m false steps)
 unfolding EntriesKeep
 settling_keep P n m [] u only h = tt
-settling_keep P n m (s ∷ steps) u only h = (h.0, ((λ e. never (closes s.part) (ap closes only.0) e), settling_keep P n m steps (acted u s.action).next only.1 h.1))
+settling_keep P n m (s ∷ steps) u only h = (h.0, ((λ e. never (closes s.part) (ap closes only.0) e), settling_keep P n m steps (action_attempt u s.action).next only.1 h.1))
 
 -- ---- a part of the entries of one call, from the front
 
@@ -108,7 +108,7 @@ still n u [] (y ∷ front) more h none is = absurd (cc)
 still n u (x ∷ es) (y ∷ front) more h none is =
     let head : x ≡ y = cc in
     let tail : es ≡ front ++ more = cc in
-    subst (λ (e : Entry). (target_after (acted u e.action).next front).words ≡ u.words) head (still n (acted u x.action).next es front more h.1.1 none.1 tail ∙ h.0 none.0)
+    subst (λ (e : Entry). (target_after (action_attempt u e.action).next front).words ≡ u.words) head (still n (action_attempt u x.action).next es front more h.1.1 none.1 tail ∙ h.0 none.0)
 
 -- the unit is not closed, and the memory is that before it; or it is, and the memory is that after it
 pub data Cut (n units : ℕ) (u : TargetState) (es front : List Entry) : Type 0 where
@@ -122,10 +122,10 @@ cut n units u [] (y ∷ front) more h is = absurd (cc)
 cut n units u (x ∷ es) (y ∷ front) more h is =
     let head : x ≡ y = cc in
     let tail : es ≡ front ++ more = cc in
-    subst (λ (e : Entry). Cut n units u (x ∷ es) (e ∷ front)) head (by_part (closes x.part) refl tail (λ m. cut n m (acted u x.action).next es front more h.1.1 tail))
+    subst (λ (e : Entry). Cut n units u (x ∷ es) (e ∷ front)) head (by_part (closes x.part) refl tail (λ m. cut n m (action_attempt u x.action).next es front more h.1.1 tail))
   where
     v : TargetState
-    v = (acted u x.action).next
+    v = (action_attempt u x.action).next
 
     shut_after : (m : ℕ) → m ≡ n + 1 → Cut n m v es front → closed_after m front ≡ n + 1
     shut_after m e (open_ same words) = same ∙ e
@@ -179,7 +179,7 @@ pub strict_one : (p : Planner) (k : Kept) (large : List ℕ) (t u : TargetState)
 strict_one p k large t u f c ok strict = by_call c.call ok.range strict
   where
     by_mark : (asked : AccessUnit) (b : Bool) → (is_alone p c.forgive && may_forgive (Access asked)) ≡ b → IsCallInRange (Access asked) → (c.forgive && may_forgive (Access asked)) ≡ false →
-        OneEnd IsSettling (cond b (after_settling u k (alone_at c.forgive asked)) (planned u k asked)).steps
+        OneEnd IsSettling (cond b (after_settling u k (alone_at c.forgive asked)) (issue_of_plan u k asked)).steps
     by_mark asked false e range mild = planned_one IsSettling u k asked
     by_mark asked true e range mild =
         let may = (and_parts (is_alone p c.forgive) (may_forgive (Access asked)) e).1 in
@@ -196,10 +196,10 @@ among P [] e more h = h.0
 among P (x ∷ xs) e more h = among P xs e more h.1
 
 -- an entry that is not the access of its unit leaves the memory
-pub kept_at : (n : ℕ) (u : TargetState) (front : List Entry) (e : Entry) (more : List Entry) → EntriesKeep IsSettling n u (front ++ e ∷ more) → e.part ≢ Ends → (acted (target_after u front) e.action).next.words ≡ (target_after u front).words
+pub kept_at : (n : ℕ) (u : TargetState) (front : List Entry) (e : Entry) (more : List Entry) → EntriesKeep IsSettling n u (front ++ e ∷ more) → e.part ≢ Ends → (action_attempt (target_after u front) e.action).next.words ≡ (target_after u front).words
 unfolding EntriesKeep
 kept_at n u [] e more h ne = h.0 ne
-kept_at n u (x ∷ front) e more h ne = kept_at n (acted u x.action).next front e more h.1.1 ne
+kept_at n u (x ∷ front) e more h ne = kept_at n (action_attempt u x.action).next front e more h.1.1 ne
 
 -- before an entry that settles nothing its unit is not closed, and the memory is that before it
 pub record Open (units : ℕ) (u : TargetState) (front : List Entry) : Type 0 where
@@ -209,12 +209,12 @@ pub record Open (units : ℕ) (u : TargetState) (front : List Entry) : Type 0 wh
 pub stays_open : (n units : ℕ) (u : TargetState) (front back : List Entry) (e : Entry) (more : List Entry) → EntriesKeep IsSettling n u (front ++ (back ++ e ∷ more)) → e.part ≢ Settles → Open units u front
 unfolding EntriesKeep
 stays_open n units u [] back e more h own = record { count = refl; words = refl }
-stays_open n units u (x ∷ front) back e more h own = by_part (closes x.part) refl (stays_open n units (acted u x.action).next front back e more h.1.1 own)
+stays_open n units u (x ∷ front) back e more h own = by_part (closes x.part) refl (stays_open n units (action_attempt u x.action).next front back e more h.1.1 own)
   where
     in_rest : (xs : List Entry) → AllAre IsSettling (xs ++ (back ++ e ∷ more)) → e.part ≡ Settles
     in_rest xs all = among IsSettling (xs ++ back) e more (subst (AllAre IsSettling) (sym (append_assoc xs back (e ∷ more))) all)
 
-    by_part : (b : Bool) → closes x.part ≡ b → Open units (acted u x.action).next front → Open units u (x ∷ front)
+    by_part : (b : Bool) → closes x.part ≡ b → Open units (action_attempt u x.action).next front → Open units u (x ∷ front)
     by_part true p rest = let own_end = h.1.0 p in absurd (own (in_rest front own_end.1))
     by_part false p rest =
         let same : closed_by units x ≡ units = ap (λ (b : Bool). cond b x.unit units) p in
@@ -232,10 +232,10 @@ pub faulted_open : (p : Planner) (n units : ℕ) (k : Kept) (large : List ℕ) (
     Passes u front → entries_at p n u k c ++ rest ≡ front ++ more → Open units u front
 unfolding unmarked
 faulted_open p n units k large t u f c ok bad front more rest pass is =
-    by_seam (seam own (numbered (n + 1) false (finish_of p u k c).steps ++ rest) front more (sym (append_assoc own (numbered (n + 1) false (finish_of p u k c).steps) rest) ∙ is))
+    by_seam (seam own (numbered_entries (n + 1) false (finish_of p u k c).steps ++ rest) front more (sym (append_assoc own (numbered_entries (n + 1) false (finish_of p u k c).steps) rest) ∙ is))
   where
     own : List Entry
-    own = numbered n (is_forgiving c) (issue_of p u k c).steps
+    own = numbered_entries n (is_forgiving c) (issue_of p u k c).steps
 
     b : FirstBreak p n k u (unmarked c)
     b = first_break p n k large t u f (unmarked c) (record { sound = ok.sound; range = ok.range }) bad
@@ -254,7 +254,7 @@ faulted_open p n units k large t u f c ok bad front more rest pass is =
     before back split (inr second_) =
         stays_open n units u front second_.back b.entry b.more (subst (EntriesKeep IsSettling n u) (split ∙ ap (λ (l : List Entry). front ++ l) second_.is) keeps) b.own
 
-    by_seam : Seam own (numbered (n + 1) false (finish_of p u k c).steps ++ rest) front more → Open units u front
+    by_seam : Seam own (numbered_entries (n + 1) false (finish_of p u k c).steps ++ rest) front more → Open units u front
     by_seam (first back split) = before back split (seam_in front back b.front b.entry b.more (sym split ∙ broken))
     by_seam (second back split tail) =
         absurd (passes_none u own b.front b.entry b.more (pass_front u own back (subst (Passes u) split pass)) broken b.bad)

@@ -1,6 +1,6 @@
 -- The actions of a memory unit that is made alone, by what decides them.
 use Rattle.std.proofs.Common.{◌≡◌, ℕ, ◌/◌, ◌%◌, ◌^◌, ◌<◌, inl, inr, Bool, true, false, cond, not, ◌&&◌, List, [], ◌∷◌, ◌++◌, Option, refl, ap, arith}
-use Rattle.target_machine.specs.Plain.{Action, Makes, in_order, given, issued, contains, select_of, ap_access_of, csw_for, drw_of, needs_cfg, has_large, cfg_actions, csw_actions, memory_actions, transfer_actions, after_cfg, unit_actions}
+use Rattle.target_machine.specs.Plain.{Action, Makes, in_order, given_number, issued_actions, contains, select_of, ap_access_of, csw_for, drw_of, needs_cfg, has_large, cfg_actions, csw_actions, memory_actions, transfer_actions, after_cfg, unit_actions}
 use Rattle.target_machine.specs.State.{TargetState, Agree}
 use Rattle.target_machine.specs.declared.access.Outcome.{Outcome}
 use Rattle.target_machine.specs.declared.unit.Unit.TheVariants as unit
@@ -18,7 +18,7 @@ module _ (size : ℕ) (read : Bool) (n address value : ℕ) where
   shape w b l csw = cond w (cfg_actions n ++ cond b (csw_actions n ++ tail true csw) []) (csw_actions n ++ tail l csw)
 
   abbrev pub csw_at : TargetState → Bool → ℕ
-  csw_at t w = given (in_order (cond w (in_order t (cfg_actions n)).next t) (csw_actions n)).outcome
+  csw_at t w = given_number (in_order (cond w (in_order t (cfg_actions n)).next t) (csw_actions n)).outcome
 
   pub memory_shape : (t : TargetState) (large : List ℕ) → unit_actions t large (unit.Memory size read n address value) ≡ shape (needs_cfg large n address) (has_large t n) (contains large n) (csw_at t (needs_cfg large n address))
   memory_shape t large = by_wide (needs_cfg large n address)
@@ -44,7 +44,7 @@ module _ (size : ℕ) (read : Bool) (n address value : ℕ) where
   of_tail false csw = (inr refl, (inr refl, (inr refl, tt)))
 
   -- it begins with SELECT
-  pub left_shape : (lt : n < 256) (u : TargetState) → u.sticky ≡ false → (written : Option ℕ) (w b l : Bool) (csw : ℕ) → Step' n u (select_after written (issued u (shape w b l csw))) (in_order u (shape w b l csw))
+  pub left_shape : (lt : n < 256) (u : TargetState) → u.sticky ≡ false → (written : Option ℕ) (w b l : Bool) (csw : ℕ) → Step' n u (select_after written (issued_actions u (shape w b l csw))) (in_order u (shape w b l csw))
   left_shape lt u clear written true true l csw =
       run_left n lt u 0xF (omega arith) (Makes (ap_access_of true 4 0) ∷ Makes (select_of n 0) ∷ Makes (ap_access_of true 0 0) ∷ tail true csw) written
       (inr refl, (inl (0, omega arith, refl), (inr refl, of_tail true csw))) clear
@@ -75,8 +75,8 @@ module _ (size : ℕ) (read : Bool) (n address value : ℕ) where
   pub shape_same : (t u : TargetState) → Agree t u → (w : Bool) → (has_large t n ≡ has_large u n) × (csw_at t w ≡ csw_at u w)
   shape_same t u agree w =
       let c = in_order_alike (cfg_actions n) t u agree (refl, (refl, tt)) in
-      (ap (λ (o : Outcome). has_bit (given o) 2) c.outcome, by_wide w c.next)
+      (ap (λ (o : Outcome). has_bit (given_number o) 2) c.outcome, by_wide w c.next)
     where
       by_wide : (w : Bool) → Agree (in_order t (cfg_actions n)).next (in_order u (cfg_actions n)).next → csw_at t w ≡ csw_at u w
-      by_wide true next = (let d = in_order_alike (csw_actions n) (in_order t (cfg_actions n)).next (in_order u (cfg_actions n)).next next (refl, (refl, tt)) in ap given d.outcome)
-      by_wide false next = (let d = in_order_alike (csw_actions n) t u agree (refl, (refl, tt)) in ap given d.outcome)
+      by_wide true next = (let d = in_order_alike (csw_actions n) (in_order t (cfg_actions n)).next (in_order u (cfg_actions n)).next next (refl, (refl, tt)) in ap given_number d.outcome)
+      by_wide false next = (let d = in_order_alike (csw_actions n) t u agree (refl, (refl, tt)) in ap given_number d.outcome)

@@ -10,8 +10,8 @@ use Rattle.target_calls.specs.declared.journal.Part.{Part}
 use Rattle.target_calls.specs.declared.journal.Part.TheVariants.{Settles, Leads, Ends}
 use Rattle.access_regs.specs.Closed.{closes}
 use Rattle.access_regs.specs.Kept.{Kept}
-use Rattle.access_regs.specs.Plan.{first_plan, learned, learned_cfg, cfg_plan, settle, settled, needs_csw, needs_cfg, needs_settle, leads}
-use Rattle.access_regs.specs.Journal.{Step, steps_of, making, gives, port_of, last_action, by_plan, by_csw, by_cfg_read, by_cfg, after_settling, planned, before, finish}
+use Rattle.access_regs.specs.Plan.{first_plan, kept_after_csw, learned_cfg, cfg_plan, settle, kept_after_settling, needs_csw, needs_cfg, needs_settle, leads}
+use Rattle.access_regs.specs.Journal.{Step, steps_of, making, gives, port_of, last_action, by_plan, by_csw, by_cfg_read, by_cfg, after_settling, issue_of_plan, before, finish}
 
 -- each of these steps is such a part
 abbrev pub AllParts : (Part → Type 0) → List Step → Type 0
@@ -45,8 +45,8 @@ plan_one P k asked = leads_one P Leads refl (leads k asked) (record { part = End
 csw_one : (P : Part → Type 0) (t : TargetState) (k : Kept) (asked : AccessUnit) → OneEnd P (by_csw t k asked).steps
 csw_one P t k asked = by_needs (needs_csw k asked)
   where
-    by_needs : (b : Bool) → OneEnd P (cond b (before (steps_of Leads (first_plan k (port_of asked))) (by_plan (learned k (port_of asked) (gives t (first_plan k (port_of asked)))) asked)) (by_plan k asked)).steps
-    by_needs true = leads_one P Leads refl (first_plan k (port_of asked)) _ (plan_one P (learned k (port_of asked) (gives t (first_plan k (port_of asked)))) asked)
+    by_needs : (b : Bool) → OneEnd P (cond b (before (steps_of Leads (first_plan k (port_of asked))) (by_plan (kept_after_csw k (port_of asked) (gives t (first_plan k (port_of asked)))) asked)) (by_plan k asked)).steps
+    by_needs true = leads_one P Leads refl (first_plan k (port_of asked)) _ (plan_one P (kept_after_csw k (port_of asked) (gives t (first_plan k (port_of asked)))) asked)
     by_needs false = plan_one P k asked
 
 read_one : (P : Part → Type 0) (t : TargetState) (k : Kept) (asked : AccessUnit) (cfg : ℕ) → OneEnd P (by_cfg_read t k asked cfg).steps
@@ -66,11 +66,11 @@ cfg_one P t k asked = by_needs (needs_cfg k asked)
     by_needs true = leads_one P Leads refl (cfg_plan k (port_of asked)) _ (read_one P w k asked (gives t (cfg_plan k (port_of asked))))
     by_needs false = csw_one P t k asked
 
-pub planned_one : (P : Part → Type 0) (t : TargetState) (k : Kept) (asked : AccessUnit) → OneEnd P (planned t k asked).steps
+pub planned_one : (P : Part → Type 0) (t : TargetState) (k : Kept) (asked : AccessUnit) → OneEnd P (issue_of_plan t k asked).steps
 planned_one P t k asked = by_settle (needs_settle k asked)
   where
     by_settle : (b : Bool) → OneEnd P (cond b (after_settling t k (λ u l. by_cfg u l asked)) (by_cfg t k asked)).steps
-    by_settle true = leads_one P Settles refl (settle k) _ (cfg_one P (after t (making (settle k))) (settled k) asked)
+    by_settle true = leads_one P Settles refl (settle k) _ (cfg_one P (after t (making (settle k))) (kept_after_settling k) asked)
     by_settle false = cfg_one P t k asked
 
 all_settling : (P : Part → Type 0) → P Settles → (xs : List RegAccess) → AllParts P (steps_of Settles xs)

@@ -10,10 +10,10 @@ use Rattle.access_regs.proofs.MemoryShape.{csw_at, memory_shape, shape}
 use Rattle.access_regs.proofs.Lists.{actions_entries, actions_in_append}
 use Rattle.access_regs.proofs.PortFacts.{known_other, known_same, table_kept}
 use Rattle.access_regs.specs.Alone.{actions_alone, call_alone, alone_after}
-use Rattle.access_regs.specs.Journal.{Issue, Step, actions_of, after_settling, alone_at, before, by_cfg, done_alone, entries_at, finish, finish_of, is_early, issue, issue_of, issued_from, kept_at, large_of, last_action, making, planned, port_of, steps_at, steps_of, target_at}
-use Rattle.access_regs.specs.Kept.{Kept, forgotten, known, nothing_kept, selected, unknown, with_known}
+use Rattle.access_regs.specs.Journal.{Issue, Step, actions_of, after_settling, alone_at, before, by_cfg, done_alone, entries_at, finish, finish_of, is_early, issue, issue_of, issued_from, kept_at, large_of, last_action, making, issue_of_plan, port_of, steps_at, steps_of, target_at}
+use Rattle.access_regs.specs.Kept.{Kept, forgotten, known_at, nothing_kept, kept_with_select, unknown, with_known}
 use Rattle.access_regs.specs.Laws.{PlainIsAlone}
-use Rattle.access_regs.specs.Plan.{made, must_follow_settling, settled_at, settling}
+use Rattle.access_regs.specs.Plan.{kept_after_plan, must_follow_settling, settled_at, settling}
 use Rattle.access_regs.specs.declared.known.Known.{Known}
 use Rattle.access_regs.specs.declared.known.Unsettled.{Unsettled}
 use Rattle.access_regs.specs.declared.planner.Planner.TheVariants.{Plain}
@@ -24,7 +24,7 @@ use Rattle.target_calls.specs.declared.calls.Ask.{Ask}
 use Rattle.target_calls.specs.declared.journal.Part.TheVariants.{Ends, Settles}
 use Rattle.target_machine.proofs.ActionLists.{after_append, after_issued}
 use Rattle.target_machine.specs.Lists.{after}
-use Rattle.target_machine.specs.Plain.{Action, CallDone, Commands, acted, call_actions, call_done, commanded, contains, ended, forgives, given, has_large, in_order, is_fault, issued, large_after, may_forgive, result_of, unit_actions}
+use Rattle.target_machine.specs.Plain.{Action, CallDone, Commands, action_attempt, call_actions, call_done, command_attempt, contains, ended_call, forgives, given_number, has_large, in_order, is_fault, issued_actions, large_after, may_forgive, result_of, unit_actions}
 use Rattle.target_machine.specs.State.{TargetState}
 use Rattle.target_machine.specs.declared.unit.Call.{Call}
 use Rattle.target_machine.specs.declared.unit.Call.TheVariants.{Access, Probe}
@@ -33,8 +33,8 @@ use Rattle.target_machine.specs.declared.unit.Unit.TheVariants as unit
 
 -- ---- a call alone
 
-ended_next : (b f s : Bool) (v : ℕ) (t u : TargetState) (l : List ℕ) (xs : List Action) → after t xs ≡ u → after t (ended b f s v u l xs).actions ≡ (ended b f s v u l xs).next
-ended_next true true s v t u l xs e = after_append t xs (Commands forgives ∷ []) ∙ ap (λ (w : TargetState). (commanded w forgives).next) e
+ended_next : (b f s : Bool) (v : ℕ) (t u : TargetState) (l : List ℕ) (xs : List Action) → after t xs ≡ u → after t (ended_call b f s v u l xs).actions ≡ (ended_call b f s v u l xs).next
+ended_next true true s v t u l xs e = after_append t xs (Commands forgives ∷ []) ∙ ap (λ (w : TargetState). (command_attempt w forgives).next) e
 ended_next true false s v t u l xs e = e
 ended_next false f true v t u l xs e = e
 ended_next false f false v t u l xs e = e
@@ -42,10 +42,10 @@ ended_next false f false v t u l xs e = e
 -- the target after a call is the one after what it issues
 next_after : (t : TargetState) (large : List ℕ) (forgive : Bool) (call : Call) → after t (call_done t large forgive call).actions ≡ (call_done t large forgive call).next
 unfolding call_done
-next_after t large forgive call = ended_next _ _ _ _ t (in_order t (call_actions t large call)).next _ (issued t (call_actions t large call)) (after_issued (call_actions t large call) t)
+next_after t large forgive call = ended_next _ _ _ _ t (in_order t (call_actions t large call)).next _ (issued_actions t (call_actions t large call)) (after_issued (call_actions t large call) t)
 
 -- the same except for the list of APs
-ended_other : (b f s : Bool) (v : ℕ) (t : TargetState) (l m : List ℕ) (xs : List Action) → (ended b f s v t l xs).actions ≡ (ended b f s v t m xs).actions
+ended_other : (b f s : Bool) (v : ℕ) (t : TargetState) (l m : List ℕ) (xs : List Action) → (ended_call b f s v t l xs).actions ≡ (ended_call b f s v t m xs).actions
 ended_other true true s v t l m xs = refl
 ended_other true false s v t l m xs = refl
 ended_other false f true v t l m xs = refl
@@ -58,7 +58,7 @@ record SameDone (n : ℕ) (large : List ℕ) (x y : CallDone) : Type 0 where
   others : (q : ℕ) → q ≢ n → contains y.large q ≡ contains large q
 
 ended_pair : (b f s : Bool) (v : ℕ) (t : TargetState) (xs : List Action) (n : ℕ) (l m : List ℕ) (joins : Bool) → contains l n ≡ contains m n →
-    SameDone n m (ended b f s v t (cond joins (l ++ n ∷ []) l) xs) (ended b f s v t (cond joins (m ++ n ∷ []) m) xs)
+    SameDone n m (ended_call b f s v t (cond joins (l ++ n ∷ []) l) xs) (ended_call b f s v t (cond joins (m ++ n ∷ []) m) xs)
 ended_pair b f s v t xs n l m joins same = record {
   actions = ended_other b f s v t (cond joins (l ++ n ∷ []) l) (cond joins (m ++ n ∷ []) m) xs;
   here =
@@ -79,8 +79,8 @@ module _ (t : TargetState) (forgive : Bool) (size : ℕ) (read : Bool) (n addres
 
   abbrev done_by : Bool → List ℕ → List Action → CallDone
   done_by c l xs =
-      ended (is_fault (in_order t xs).outcome) forgive (wide c && not (has_large t n)) (result_of (Access memory_unit) (given (in_order t xs).outcome)) (in_order t xs).next
-      (cond (wide c && has_large t n) (l ++ n ∷ []) l) (issued t xs)
+      ended_call (is_fault (in_order t xs).outcome) forgive (wide c && not (has_large t n)) (result_of (Access memory_unit) (given_number (in_order t xs).outcome)) (in_order t xs).next
+      (cond (wide c && has_large t n) (l ++ n ∷ []) l) (issued_actions t xs)
 
   done_is : (l : List ℕ) → call_done t l forgive (Access memory_unit) ≡ done_by (contains l n) l (acts (contains l n))
   done_is l = memory_done forgive t l size read n address value ∙ ap (done_by (contains l n) l) (memory_shape size read n address value t l)
@@ -89,7 +89,7 @@ module _ (t : TargetState) (forgive : Bool) (size : ℕ) (read : Bool) (n addres
   memory_same l m same =
       let xs : List Action = acts (contains m n) in
       let pair : SameDone n m (done_by (contains m n) l xs) (done_by (contains m n) m xs) =
-      ended_pair (is_fault (in_order t xs).outcome) forgive (wide (contains m n) && not (has_large t n)) (result_of (Access memory_unit) (given (in_order t xs).outcome)) (in_order t xs).next (issued t xs) n l m (wide (contains m n) && has_large t n) same in
+      ended_pair (is_fault (in_order t xs).outcome) forgive (wide (contains m n) && not (has_large t n)) (result_of (Access memory_unit) (given_number (in_order t xs).outcome)) (in_order t xs).next (issued_actions t xs) n l m (wide (contains m n) && has_large t n) same in
       subst (λ (x : CallDone). SameDone n m x (call_done t m forgive (Access memory_unit))) (sym (done_is l ∙ ap (λ (c : Bool). done_by c l (acts c)) same))
       (subst (SameDone n m (done_by (contains m n) l xs)) (sym (done_is m)) pair)
 
@@ -97,21 +97,21 @@ port_same : (t : TargetState) (forgive read : Bool) (n addr value : ℕ) (l m : 
     SameDone n m (call_done t l forgive (Access (unit.Ap read n addr value))) (call_done t m forgive (Access (unit.Ap read n addr value)))
 port_same t forgive read n addr value l m same =
     let xs : List Action = unit_actions t l (unit.Ap read n addr value) in
-    let D : List ℕ → CallDone = λ x. ended (is_fault (in_order t xs).outcome) forgive false (result_of (Access (unit.Ap read n addr value)) (given (in_order t xs).outcome)) (in_order t xs).next x (issued t xs) in
+    let D : List ℕ → CallDone = λ x. ended_call (is_fault (in_order t xs).outcome) forgive false (result_of (Access (unit.Ap read n addr value)) (given_number (in_order t xs).outcome)) (in_order t xs).next x (issued_actions t xs) in
     let pair : SameDone n m (D l) (D m) =
-    ended_pair (is_fault (in_order t xs).outcome) forgive false (result_of (Access (unit.Ap read n addr value)) (given (in_order t xs).outcome)) (in_order t xs).next (issued t xs) n l m false same in
+    ended_pair (is_fault (in_order t xs).outcome) forgive false (result_of (Access (unit.Ap read n addr value)) (given_number (in_order t xs).outcome)) (in_order t xs).next (issued_actions t xs) n l m false same in
     subst (λ (x : CallDone). SameDone n m x (call_done t m forgive (Access (unit.Ap read n addr value)))) (sym (port_done forgive t l read n addr value))
     (subst (SameDone n m (D l)) (sym (port_done forgive t m read n addr value)) pair)
 
 -- a call of one action
-one_action : (t : TargetState) (x : Action) → issued t (x ∷ []) ≡ x ∷ []
-one_action t x = by_fault (is_fault (acted t x).outcome)
+one_action : (t : TargetState) (x : Action) → issued_actions t (x ∷ []) ≡ x ∷ []
+one_action t x = by_fault (is_fault (action_attempt t x).outcome)
   where
     by_fault : (b : Bool) → x ∷ cond b [] [] ≡ x ∷ []
     by_fault true = refl
     by_fault false = refl
 
-ended_strict : (b f s : Bool) (v : ℕ) (t : TargetState) (l : List ℕ) (xs : List Action) → f ≡ false → (ended b f s v t l xs).actions ≡ xs
+ended_strict : (b f s : Bool) (v : ℕ) (t : TargetState) (l : List ℕ) (xs : List Action) → f ≡ false → (ended_call b f s v t l xs).actions ≡ xs
 ended_strict true true s v t l xs e = absurd (cc)
 ended_strict true false s v t l xs e = refl
 ended_strict false f true v t l xs e = refl
@@ -126,8 +126,8 @@ record IsSingle (call : Call) (x : Action) : Type 0 where
 single_actions : (t : TargetState) (large : List ℕ) (forgive : Bool) (call : Call) (x : Action) → IsSingle call x → (call_done t large forgive call).actions ≡ x ∷ []
 unfolding call_done
 single_actions t large forgive call x s =
-    ended_strict _ _ _ _ _ _ (issued t (call_actions t large call)) (ap (λ (b : Bool). forgive && b) s.strict ∙ and-false forgive)
-    ∙ ap (issued t) (s.acts t large) ∙ one_action t x
+    ended_strict _ _ _ _ _ _ (issued_actions t (call_actions t large call)) (ap (λ (b : Bool). forgive && b) s.strict ∙ and-false forgive)
+    ∙ ap (issued_actions t) (s.acts t large) ∙ one_action t x
 
 single_large : (t : TargetState) (large : List ℕ) (forgive : Bool) (call : Call) (x : Action) → IsSingle call x → (call_done t large forgive call).large ≡ large
 unfolding call_done
@@ -139,7 +139,7 @@ single_large t large forgive call x s = ended_large _ _ _ _ _ _ _ ∙ s.list t l
 record Knows (k : Kept) (large : List ℕ) : Type 0 where
   calm : k.unsettled ≡ None
   table : length k.ports ≡ 256
-  larges : (q : ℕ) → q < 256 → (known k q).large ≡ contains large q
+  larges : (q : ℕ) → q < 256 → (known_at k q).large ≡ contains large q
 
 -- a call issues what it makes alone, and that is known after it
 record GoesAlone (i : Issue) (d : CallDone) : Type 0 where
@@ -163,28 +163,28 @@ alone_goes k large t forgive asked d h lt same = record {
     n = port_of asked
 
     a : Known
-    a = record (forgotten (known k (port_of asked))) { large = contains (done_alone t k forgive asked).large (port_of asked) }
+    a = record (forgotten (known_at k (port_of asked))) { large = contains (done_alone t k forgive asked).large (port_of asked) }
 
     there : n < length k.ports
     there = (let e = h.table in omega (arith, e, lt))
 
-    larges_at : (q : ℕ) → q < 256 → (q ≡ n) ⊎ (q ≢ n) → (known (with_known k n a) q).large ≡ contains d.large q
-    larges_at q less (inl is) = ap (λ (i : ℕ). (known (with_known k n a) i).large) is ∙ ap (λ (x : Known). x.large) (known_same k n a there) ∙ same.here ∙ ap (contains d.large) (sym is)
+    larges_at : (q : ℕ) → q < 256 → (q ≡ n) ⊎ (q ≢ n) → (known_at (with_known k n a) q).large ≡ contains d.large q
+    larges_at q less (inl is) = ap (λ (i : ℕ). (known_at (with_known k n a) i).large) is ∙ ap (λ (x : Known). x.large) (known_same k n a there) ∙ same.here ∙ ap (contains d.large) (sym is)
     larges_at q less (inr ne) = ap (λ (x : Known). x.large) (known_other k n q a ne) ∙ h.larges q less ∙ sym (same.others q ne)
 
 -- a unit that has no more than its plan
-plan_goes : (k : Kept) (large : List ℕ) (t : TargetState) (forgive : Bool) (asked : AccessUnit) → Knows k large → IsSingle (Access asked) (last_action asked) → by_cfg t k asked ≡ record { steps = record { part = Ends; action = last_action asked } ∷ []; kept = made k asked } →
-    Knows (made k asked) large → GoesAlone (planned t k asked) (call_done t large forgive (Access asked))
+plan_goes : (k : Kept) (large : List ℕ) (t : TargetState) (forgive : Bool) (asked : AccessUnit) → Knows k large → IsSingle (Access asked) (last_action asked) → by_cfg t k asked ≡ record { steps = record { part = Ends; action = last_action asked } ∷ []; kept = kept_after_plan k asked } →
+    Knows (kept_after_plan k asked) large → GoesAlone (issue_of_plan t k asked) (call_done t large forgive (Access asked))
 plan_goes k large t forgive asked h single plan knows =
     subst (λ (i : Issue). GoesAlone i (call_done t large forgive (Access asked))) (sym (unsettled ∙ plan)) (record {
       actions = sym (single_actions t large forgive (Access asked) (last_action asked) single);
-      knows = subst (Knows (made k asked)) (sym (single_large t large forgive (Access asked) (last_action asked) single)) knows;
+      knows = subst (Knows (kept_after_plan k asked)) (sym (single_large t large forgive (Access asked) (last_action asked) single)) knows;
     })
   where
-    unsettled : planned t k asked ≡ by_cfg t k asked
+    unsettled : issue_of_plan t k asked ≡ by_cfg t k asked
     unsettled = ap (λ (o : Option Unsettled). cond (is_some o && must_follow_settling k asked) (after_settling t k (λ u l. by_cfg u l asked)) (by_cfg t k asked)) h.calm
 
-selects_knows : (k : Kept) (large : List ℕ) (b : Bool) (value : ℕ) → Knows k large → Knows (cond b (selected k value) k) large
+selects_knows : (k : Kept) (large : List ℕ) (b : Bool) (value : ℕ) → Knows k large → Knows (cond b (kept_with_select k value) k) large
 selects_knows k large true value h = record { calm = h.calm; table = h.table; larges = h.larges }
 selects_knows k large false value h = h
 
@@ -194,8 +194,8 @@ dp_single read addr value = record { strict = refl; acts = λ t large. refl; lis
 call_goes_alone : (k : Kept) (large : List ℕ) (t : TargetState) (c : Ask) → Knows k large → IsAskable c → GoesAlone (issue_of Plain t k c) (call_alone t large c)
 call_goes_alone k large t c h ok = by_call c.call ok.range
   where
-    one : (n : ℕ) → n < 256 → contains (cond (known k n).large (n ∷ []) []) n ≡ contains large n
-    one n lt = contains_one (known k n).large n ∙ h.larges n lt
+    one : (n : ℕ) → n < 256 → contains (cond (known_at k n).large (n ∷ []) []) n ≡ contains large n
+    one n lt = contains_one (known_at k n).large n ∙ h.larges n lt
 
     by_call : (call : Call) → IsCallInRange call → GoesAlone (issue Plain t k c.forgive call) (call_done t large c.forgive call)
     by_call (Access (unit.Memory size read n address value)) range =

@@ -4,7 +4,7 @@ use Rattle.std.specs.Option.{option_map}
 use Rattle.std.specs.FinMap as map
 use Rattle.std.proofs.lemmas.Bool.{eq-eqb, ne_eqb, cond-true, cond-false}
 use Rattle.target_machine.proofs.Maps.{got_inserted}
-use Rattle.target_machine.specs.Attempt.{Attempt, attempt, done, posted, acknowledges, stored_csw, with_ap, drw_read, drw_write, size_of}
+use Rattle.target_machine.specs.Attempt.{Attempt, attempt, done_attempt, posted_attempt, acknowledges, stored_csw, with_ap, drw_read, drw_write, size_of}
 use Rattle.target_machine.specs.Plain.{ap_access_of}
 use Rattle.target_machine.specs.State.{TargetState}
 use Rattle.target_machine.specs.declared.access.RegAccess.{RegAccess}
@@ -46,7 +46,7 @@ same_turns t n f same = record { rest = refl; port = by_port (map.get t.aps n) r
 
 -- writes of CSW, TAR and the upper word
 pub record Writes (x : Attempt) (t : TargetState) (ap : ℕ) (f : ApState → ApState) : Type 0 where
-  pub is : x ≡ done x.next
+  pub is : x ≡ done_attempt x.next
   pub turns : Turns t ap f x.next
 
 -- the upper word of TAR is written where the port has it
@@ -61,35 +61,35 @@ heightened_is v p = by_large p.large
     by_large false = refl
 
 module _ (t : TargetState) (n : ℕ) (at : Selects t n) where
-  pub attempt_none : (a : RegAccess) → a.ap ≡ true → map.get t.aps n ≡ None → attempt t a ≡ cond a.read (posted 0 t) (done t)
+  pub attempt_none : (a : RegAccess) → a.ap ≡ true → map.get t.aps n ≡ None → attempt t a ≡ cond a.read (posted_attempt 0 t) (done_attempt t)
   unfolding attempt
   attempt_none a is none = rw (at.clear, is, at.power, at.here, none) refl
 
-  placed : (q : ApState) → done (with_ap t q) ≡ done (put t n q)
-  placed q = ap (λ (i : ℕ). done (record t { aps = map.insert t.aps i q })) at.here
+  placed : (q : ApState) → done_attempt (with_ap t q) ≡ done_attempt (put t n q)
+  placed q = ap (λ (i : ℕ). done_attempt (record t { aps = map.insert t.aps i q })) at.here
 
-  csw_there : (p : ApState) (v : ℕ) → map.get t.aps n ≡ Some p → attempt t (ap_access_of false 0 v) ≡ done (with_ap t (record p { csw = stored_csw v }))
+  csw_there : (p : ApState) (v : ℕ) → map.get t.aps n ≡ Some p → attempt t (ap_access_of false 0 v) ≡ done_attempt (with_ap t (record p { csw = stored_csw v }))
   unfolding attempt
   csw_there p v some = let there : map.get t.aps (t.select / 2 ^ 24) ≡ Some p = ap (map.get t.aps) at.here ∙ some in rw (at.clear, at.power, there, at.bank) refl
 
-  csw_some : (p : ApState) (v : ℕ) → map.get t.aps n ≡ Some p → attempt t (ap_access_of false 0 v) ≡ done (put t n (record p { csw = stored_csw v }))
+  csw_some : (p : ApState) (v : ℕ) → map.get t.aps n ≡ Some p → attempt t (ap_access_of false 0 v) ≡ done_attempt (put t n (record p { csw = stored_csw v }))
   csw_some p v some = csw_there p v some ∙ placed (record p { csw = stored_csw v })
 
-  tar_there : (p : ApState) (v : ℕ) → map.get t.aps n ≡ Some p → attempt t (ap_access_of false 4 v) ≡ done (with_ap t (record p { tar = v }))
+  tar_there : (p : ApState) (v : ℕ) → map.get t.aps n ≡ Some p → attempt t (ap_access_of false 4 v) ≡ done_attempt (with_ap t (record p { tar = v }))
   unfolding attempt
   tar_there p v some = let there : map.get t.aps (t.select / 2 ^ 24) ≡ Some p = ap (map.get t.aps) at.here ∙ some in rw (at.clear, at.power, there, at.bank) refl
 
-  tar_some : (p : ApState) (v : ℕ) → map.get t.aps n ≡ Some p → attempt t (ap_access_of false 4 v) ≡ done (put t n (record p { tar = v }))
+  tar_some : (p : ApState) (v : ℕ) → map.get t.aps n ≡ Some p → attempt t (ap_access_of false 4 v) ≡ done_attempt (put t n (record p { tar = v }))
   tar_some p v some = tar_there p v some ∙ placed (record p { tar = v })
 
-  high_there : (p : ApState) (v : ℕ) → map.get t.aps n ≡ Some p → attempt t (ap_access_of false 8 v) ≡ done (with_ap t (cond p.large (record p { high = v }) p))
+  high_there : (p : ApState) (v : ℕ) → map.get t.aps n ≡ Some p → attempt t (ap_access_of false 8 v) ≡ done_attempt (with_ap t (cond p.large (record p { high = v }) p))
   unfolding attempt
   high_there p v some = let there : map.get t.aps (t.select / 2 ^ 24) ≡ Some p = ap (map.get t.aps) at.here ∙ some in rw (at.clear, at.power, there, at.bank) refl
 
-  high_some : (p : ApState) (v : ℕ) → map.get t.aps n ≡ Some p → attempt t (ap_access_of false 8 v) ≡ done (put t n (heightened v p))
-  high_some p v some = high_there p v some ∙ ap (λ (q : ApState). done (with_ap t q)) (heightened_is v p) ∙ placed (heightened v p)
+  high_some : (p : ApState) (v : ℕ) → map.get t.aps n ≡ Some p → attempt t (ap_access_of false 8 v) ≡ done_attempt (put t n (heightened v p))
+  high_some p v some = high_there p v some ∙ ap (λ (q : ApState). done_attempt (with_ap t q)) (heightened_is v p) ∙ placed (heightened v p)
 
-  pub read_some : (p : ApState) → map.get t.aps n ≡ Some p → attempt t (ap_access_of true 0 0) ≡ posted (bit_or p.csw 0x40) t
+  pub read_some : (p : ApState) → map.get t.aps n ≡ Some p → attempt t (ap_access_of true 0 0) ≡ posted_attempt (bit_or p.csw 0x40) t
   unfolding attempt
   read_some p some = rw (at.clear, at.power, at.here, some, at.bank) refl
 
@@ -99,12 +99,12 @@ module _ (t : TargetState) (n : ℕ) (at : Selects t n) where
   drw_some p read v some = rw (at.clear, at.power, at.here, some, at.bank) refl
 
   writes_by : (a : RegAccess) (f : ApState → ApState) → a.ap ≡ true → a.read ≡ false →
-      ((p : ApState) → map.get t.aps n ≡ Some p → attempt t a ≡ done (put t n (f p))) → Writes (attempt t a) t n f
+      ((p : ApState) → map.get t.aps n ≡ Some p → attempt t a ≡ done_attempt (put t n (f p))) → Writes (attempt t a) t n f
   writes_by a f is write some = by_port (map.get t.aps n) refl
     where
       by_port : (o : Option ApState) → map.get t.aps n ≡ o → Writes (attempt t a) t n f
       by_port None none =
-          let e : attempt t a ≡ done t = attempt_none a is none ∙ ap (λ (b : Bool). cond b (posted 0 t) (done t)) write in
+          let e : attempt t a ≡ done_attempt t = attempt_none a is none ∙ ap (λ (b : Bool). cond b (posted_attempt 0 t) (done_attempt t)) write in
           subst (λ (x : Attempt). Writes x t n f) (sym e) (record { is = refl; turns = none_turns t n f none })
       by_port (Some p) at =
           subst (λ (x : Attempt). Writes x t n f) (sym (some p at)) (record { is = refl; turns = put_turns t n f p at })

@@ -7,7 +7,7 @@ use Rattle.std.proofs.lemmas.Bool.{ne_eqb, cond-false}
 use Rattle.target_machine.specs.Attempt.{stored_csw}
 use Rattle.target_machine.specs.Plain.{csw_for, size_code}
 use Rattle.target_machine.specs.declared.ap.ApState.{ApState}
-use Rattle.access_regs.specs.Kept.{Kept, known, with_known, csw_of, unknown}
+use Rattle.access_regs.specs.Kept.{Kept, known_at, with_known, csw_of, unknown}
 use Rattle.access_regs.specs.Plan.{increment_off}
 use Rattle.access_regs.specs.Follows.{FollowsPort, IsTrueOf, unsettled_tar, tar_if}
 use Rattle.access_regs.specs.declared.known.Known.{Known}
@@ -16,10 +16,10 @@ use Rattle.access_regs.proofs.Csw.{fixed, fixed_stored, fixed_increment_off, fix
 
 -- ---- the table
 
-pub known_same : (k : Kept) (n : ℕ) (a : Known) → n < length k.ports → known (with_known k n a) n ≡ a
+pub known_same : (k : Kept) (n : ℕ) (a : Known) → n < length k.ports → known_at (with_known k n a) n ≡ a
 known_same k n a lt = get_or-set_same k.ports n a unknown lt
 
-pub known_other : (k : Kept) (n q : ℕ) (a : Known) → q ≢ n → known (with_known k n a) q ≡ known k q
+pub known_other : (k : Kept) (n q : ℕ) (a : Known) → q ≢ n → known_at (with_known k n a) q ≡ known_at k q
 known_other k n q a ne = get_or-set_other k.ports n q a unknown ne
 
 pub table_kept : (k : Kept) (n : ℕ) (a : Known) → length (with_known k n a).ports ≡ length k.ports

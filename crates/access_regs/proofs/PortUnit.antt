@@ -3,7 +3,7 @@ use Rattle.std.proofs.Common.{◌≡◌, ◌∙◌, ℕ, ◌/◌, ◌%◌, ◌<�
 use Rattle.target_machine.proofs.Agreement.{attempt_agrees}
 use Rattle.target_machine.specs.Attempt.{Attempt, attempt}
 use Rattle.target_machine.specs.Laws.{AnswerAlike}
-use Rattle.target_machine.specs.Plain.{Action, Makes, in_order, is_fault, given, ap_access_of, select_of, call_done, ended, issued, unit_actions, CallDone, Answered, Faulted}
+use Rattle.target_machine.specs.Plain.{Action, Makes, in_order, is_fault, given_number, ap_access_of, select_of, call_done, ended_call, issued_actions, unit_actions, CallDone, Answered, Faulted}
 use Rattle.target_machine.specs.State.{TargetState}
 use Rattle.target_machine.specs.declared.access.Outcome.{Outcome}
 use Rattle.target_machine.specs.declared.access.RegAccess.{RegAccess}
@@ -11,8 +11,8 @@ use Rattle.target_machine.specs.declared.unit.Call.{Call}
 use Rattle.target_machine.specs.declared.unit.Call.TheVariants.{Access}
 use Rattle.target_machine.specs.declared.unit.Unit.{Unit as AccessUnit}
 use Rattle.target_machine.specs.declared.unit.Unit.TheVariants as unit
-use Rattle.access_regs.specs.Kept.{Kept, known, forgotten, selected}
-use Rattle.access_regs.specs.Plan.{select_value, select_needed, made}
+use Rattle.access_regs.specs.Kept.{Kept, known_at, forgotten, kept_with_select}
+use Rattle.access_regs.specs.Plan.{select_value, select_needed, kept_after_plan}
 use Rattle.access_regs.specs.Journal.{steps_of, actions_of, by_plan}
 use Rattle.access_regs.specs.Follows.{Follows}
 use Rattle.access_regs.specs.declared.known.Unsettled.{Unsettled}
@@ -51,7 +51,7 @@ module _ (k : Kept) (large : List ℕ) (t u : TargetState) (f : Follows k large 
   us = at_select u n bank
 
   abbrev k1 : Kept
-  k1 = selected k (select_value n bank)
+  k1 = kept_with_select k (select_value n bank)
 
   banked : bank < 16
   banked = omega arith
@@ -69,7 +69,7 @@ module _ (k : Kept) (large : List ℕ) (t u : TargetState) (f : Follows k large 
   Y = attempt us a
 
   abbrev done_by : Attempt → CallDone
-  done_by x = ended (is_fault x.outcome) false false (given x.outcome) x.next large (issued t (unit_actions t large asked))
+  done_by x = ended_call (is_fault x.outcome) false false (given_number x.outcome) x.next large (issued_actions t (unit_actions t large asked))
 
   by_definition : call_done t large false call ≡ done_by (in_order t (unit_actions t large asked))
   unfolding call_done
@@ -87,15 +87,15 @@ module _ (k : Kept) (large : List ℕ) (t u : TargetState) (f : Follows k large 
   table : n < length k.ports
   table = let e = f.table in let l : n < 256 = lt in omega arith
 
-  facts : is_fault X.outcome ≡ false → Facts (made k asked) large X.next Y.next
+  facts : is_fault X.outcome ≡ false → Facts (kept_after_plan k asked) large X.next Y.next
   facts good = record {
     agree = alike.next;
     clear = changed_t.sticky good ∙ f.clear;
     few = keeps_few ts a f.few;
-    table = table_kept k n (forgotten (known k n)) ∙ f.table;
+    table = table_kept k n (forgotten (known_at k n)) ∙ f.table;
     select = λ v e. (let same : select_value n bank ≡ v = cc in ap (λ (s : TargetState). s.select) changed_t.rest ∙ sym (select_kept n bank lt banked) ∙ ap (λ (x : ℕ). bit_and x 0xFF00_00FF) same);
-    larges = forgotten_large k large n (forgotten (known k n)) table (f.larges n lt) f.larges;
-    so = forgotten_true k n (forgotten (known k n)) us Y.next table refl refl refl
+    larges = forgotten_large k large n (forgotten (known_at k n)) table (f.larges n lt) f.larges;
+    so = forgotten_true k n (forgotten (known_at k n)) us Y.next table refl refl refl
         (λ q ne. changed_u.others q (λ e. ne (e ∙ selects_port n bank lt banked))) (csw_stays_stored us a (whole_from k large t u f)) (λ q p is. is_true_of k large t u q f p is);
     calm = calm;
   }
@@ -105,8 +105,8 @@ module _ (k : Kept) (large : List ℕ) (t u : TargetState) (f : Follows k large 
 
   by_fault : (b : Bool) → is_fault X.outcome ≡ b → Course (by_plan k asked) (call_done t large false call) call u
   by_fault false e =
-      let same : call_done t large false call ≡ record { end = Answered (given X.outcome); next = X.next; large = large; actions = issued t (unit_actions t large asked) } =
-      done_is ∙ ap (λ (b : Bool). ended b false false (given X.outcome) X.next large (issued t (unit_actions t large asked))) e in
+      let same : call_done t large false call ≡ record { end = Answered (given_number X.outcome); next = X.next; large = large; actions = issued_actions t (unit_actions t large asked) } =
+      done_is ∙ ap (λ (b : Bool). ended_call b false false (given_number X.outcome) X.next large (issued_actions t (unit_actions t large asked))) e in
       answered (record {
         leads = steps_of Leads (select_needed k n bank);
         action = Makes a;
@@ -114,12 +114,12 @@ module _ (k : Kept) (large : List ℕ) (t u : TargetState) (f : Follows k large 
         steps = refl;
         pass = leads_pass;
         good = ap is_fault (sym alike.outcome) ∙ e;
-        end = ap (λ (c : CallDone). c.end) same ∙ ap (λ (o : Outcome). Answered (given o)) alike.outcome;
-        follows = subst (λ (c : CallDone). Follows (made k asked) c.large c.next Y.next) (sym same) (follows_facts (made k asked) large X.next Y.next (facts e));
+        end = ap (λ (c : CallDone). c.end) same ∙ ap (λ (o : Outcome). Answered (given_number o)) alike.outcome;
+        follows = subst (λ (c : CallDone). Follows (kept_after_plan k asked) c.large c.next Y.next) (sym same) (follows_facts (kept_after_plan k asked) large X.next Y.next (facts e));
       })
   by_fault true e =
-      let same : call_done t large false call ≡ record { end = Faulted; next = X.next; large = large; actions = issued t (unit_actions t large asked) } =
-      done_is ∙ ap (λ (b : Bool). ended b false false (given X.outcome) X.next large (issued t (unit_actions t large asked))) e in
+      let same : call_done t large false call ≡ record { end = Faulted; next = X.next; large = large; actions = issued_actions t (unit_actions t large asked) } =
+      done_is ∙ ap (λ (b : Bool). ended_call b false false (given_number X.outcome) X.next large (issued_actions t (unit_actions t large asked))) e in
       stopped (record {
         leads = steps_of Leads (select_needed k n bank);
         step = record { part = Ends; action = Makes a };

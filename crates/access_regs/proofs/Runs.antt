@@ -1,8 +1,8 @@
 -- Actions in order on two targets that agree, and what a run of accesses of one AP leaves.
 use Rattle.std.proofs.Common.{◌≡◌, ◌≢◌, ◌∙◌, ℕ, ◌/◌, ◌^◌, ◌<◌, ◌⊎◌, inl, inr, Bool, true, false, cond, eqb, not, ◌&&◌, List, [], ◌∷◌, ◌++◌, Option, Some, refl, sym, ap, subst, bit_and}
 use Rattle.std.specs.FinMap as map
-use Rattle.target_machine.specs.Attempt.{Attempt, attempt, done}
-use Rattle.target_machine.specs.Plain.{Action, Makes, Polls, Commands, acted, in_order, is_fault, issued, select_of}
+use Rattle.target_machine.specs.Attempt.{Attempt, attempt, done_attempt}
+use Rattle.target_machine.specs.Plain.{Action, Makes, Polls, Commands, action_attempt, in_order, is_fault, issued_actions, select_of}
 use Rattle.target_machine.specs.State.{TargetState}
 use Rattle.target_machine.specs.declared.access.RegAccess.{RegAccess}
 use Rattle.access_regs.specs.Plan.{select_value}
@@ -63,7 +63,7 @@ module _ (n : ℕ) (lt : n < 256) (u : TargetState) where
         clear = λ e. clear;
       })
 
-  one : (x : Action) → IsOf n x → (v : TargetState) (written : Option ℕ) → v.sticky ≡ false → Left n u written v → Step' n u (select_written written x) (acted v x)
+  one : (x : Action) → IsOf n x → (v : TargetState) (written : Option ℕ) → v.sticky ≡ false → Left n u written v → Step' n u (select_written written x) (action_attempt v x)
   one (Makes a) (inl s) v written clear left =
       subst (λ (b : RegAccess). Step' n u (select_written written (Makes b)) (attempt v b)) (sym s.2) (select_left s.0 s.1 v written clear left.others left.stored left.few)
   one (Makes a) (inr is) v written clear left =
@@ -83,30 +83,30 @@ module _ (n : ℕ) (lt : n < 256) (u : TargetState) where
   one (Polls m w c) is v written clear left = absurd is
   one (Commands c) is v written clear left = absurd is
 
-  all_by : (m : Attempt) (x : Action) (xs : List Action) (written : Option ℕ) → is_fault m.outcome ≡ false → Step' n u (select_written written x) (acted m.next x) →
-      (is_fault (acted m.next x).outcome ≡ false → Step' n u (select_after (select_written written x) (issued (acted m.next x).next xs)) (order_from (acted m.next x) xs)) →
-      (b : Bool) → is_fault (acted m.next x).outcome ≡ b → Step' n u (select_after written (issued m.next (x ∷ xs))) (order_from m (x ∷ xs))
+  all_by : (m : Attempt) (x : Action) (xs : List Action) (written : Option ℕ) → is_fault m.outcome ≡ false → Step' n u (select_written written x) (action_attempt m.next x) →
+      (is_fault (action_attempt m.next x).outcome ≡ false → Step' n u (select_after (select_written written x) (issued_actions (action_attempt m.next x).next xs)) (order_from (action_attempt m.next x) xs)) →
+      (b : Bool) → is_fault (action_attempt m.next x).outcome ≡ b → Step' n u (select_after written (issued_actions m.next (x ∷ xs))) (order_from m (x ∷ xs))
   all_by m x xs written good first more true e =
-      subst (λ (y : Attempt). Step' n u (select_after written (issued m.next (x ∷ xs))) y) (sym (order_next m x xs good ∙ order_fault (acted m.next x) xs e))
-      (subst (λ (b : Bool). Step' n u (select_after written (x ∷ cond b [] (issued (acted m.next x).next xs))) (acted m.next x)) (sym e) first)
+      subst (λ (y : Attempt). Step' n u (select_after written (issued_actions m.next (x ∷ xs))) y) (sym (order_next m x xs good ∙ order_fault (action_attempt m.next x) xs e))
+      (subst (λ (b : Bool). Step' n u (select_after written (x ∷ cond b [] (issued_actions (action_attempt m.next x).next xs))) (action_attempt m.next x)) (sym e) first)
   all_by m x xs written good first more false e =
-      subst (λ (y : Attempt). Step' n u (select_after written (issued m.next (x ∷ xs))) y) (sym (order_next m x xs good))
-      (subst (λ (b : Bool). Step' n u (select_after written (x ∷ cond b [] (issued (acted m.next x).next xs))) (order_from (acted m.next x) xs)) (sym e) (more e))
+      subst (λ (y : Attempt). Step' n u (select_after written (issued_actions m.next (x ∷ xs))) y) (sym (order_next m x xs good))
+      (subst (λ (b : Bool). Step' n u (select_after written (x ∷ cond b [] (issued_actions (action_attempt m.next x).next xs))) (order_from (action_attempt m.next x) xs)) (sym e) (more e))
 
   -- accesses of the AP, once it is selected
-  all_left : (xs : List Action) (m : Attempt) (written : Option ℕ) → AreOf n xs → is_fault m.outcome ≡ false → Step' n u written m → Step' n u (select_after written (issued m.next xs)) (order_from m xs)
+  all_left : (xs : List Action) (m : Attempt) (written : Option ℕ) → AreOf n xs → is_fault m.outcome ≡ false → Step' n u written m → Step' n u (select_after written (issued_actions m.next xs)) (order_from m xs)
   all_left [] m written of good left = left
   all_left (x ∷ xs) m written of good left =
       let l = left.left in
       let first = one x of.0 m.next written (left.clear good) l in
-      all_by m x xs written good first (λ e. all_left xs (acted m.next x) (select_written written x) of.1 e first) (is_fault (acted m.next x).outcome) refl
+      all_by m x xs written good first (λ e. all_left xs (action_attempt m.next x) (select_written written x) of.1 e first) (is_fault (action_attempt m.next x).outcome) refl
 
   -- a run that begins with SELECT
   pub run_left : (bank : ℕ) → bank < 16 → (xs : List Action) (written : Option ℕ) → AreOf n xs → u.sticky ≡ false →
-      Step' n u (select_after written (issued u (Makes (select_of n bank) ∷ xs))) (in_order u (Makes (select_of n bank) ∷ xs))
+      Step' n u (select_after written (issued_actions u (Makes (select_of n bank) ∷ xs))) (in_order u (Makes (select_of n bank) ∷ xs))
   run_left bank banked xs written of clear =
       let w = select_write n bank lt banked u clear in
       let good : is_fault (attempt u (select_of n bank)).outcome ≡ false = ap (λ (y : Attempt). is_fault y.outcome) w in
       let first = select_left bank banked u written clear (λ q ne. refl) (λ h. h) refl in
-      all_by (done u) (Makes (select_of n bank)) xs written refl first
+      all_by (done_attempt u) (Makes (select_of n bank)) xs written refl first
       (λ e. all_left xs (attempt u (select_of n bank)) (Some (select_value n bank)) of e first) (is_fault (attempt u (select_of n bank)).outcome) refl

@@ -3,7 +3,7 @@ use Rattle.std.proofs.Common.{◌≡◌, ◌⊎◌, inl, inr, Bool, true, false,
 use Rattle.target_calls.specs.Journal.{Entry, Passes, actions_in}
 use Rattle.target_machine.specs.Lists.{after}
 use Rattle.target_machine.specs.State.{TargetState}
-use Rattle.target_machine.specs.Plain.{acted, is_fault}
+use Rattle.target_machine.specs.Plain.{action_attempt, is_fault}
 
 -- where a joint lies in one of two lists
 pub record InFirst {A : Type 0} (xs front : List A) (e : A) : Type 0 where
@@ -33,15 +33,15 @@ seam_in (x ∷ xs) ys (y ∷ front) e more is =
 
 pub passes_second : (u : TargetState) (xs ys : List Entry) → Passes u (xs ++ ys) → Passes (after u (actions_in xs)) ys
 passes_second u [] ys h = h
-passes_second u (x ∷ xs) ys h = passes_second (acted u x.action).next xs ys h.1
+passes_second u (x ∷ xs) ys h = passes_second (action_attempt u x.action).next xs ys h.1
 
 pub passes_both : (u : TargetState) (xs ys : List Entry) → Passes u xs → Passes (after u (actions_in xs)) ys → Passes u (xs ++ ys)
 passes_both u [] ys h k = k
-passes_both u (x ∷ xs) ys h k = (h.0, passes_both (acted u x.action).next xs ys h.1 k)
+passes_both u (x ∷ xs) ys h k = (h.0, passes_both (action_attempt u x.action).next xs ys h.1 k)
 
 -- an entry that faults where its unit does not forgive
 pub record Breaks (u : TargetState) (e : Entry) : Type 0 where
-  pub bad : is_fault (acted u e.action).outcome ≡ true
+  pub bad : is_fault (action_attempt u e.action).outcome ≡ true
   pub strict : e.forgiving ≡ false
 
 breaks_not : (b c : Bool) → b ≡ true → c ≡ false → (b && not c) ≡ false → ⊥
@@ -49,7 +49,7 @@ breaks_not true false e f h = absurd (cc)
 breaks_not true true e f h = absurd (cc)
 breaks_not false c e f h = absurd (cc)
 
-pub none_breaks : (u : TargetState) (e : Entry) → Breaks u e → (is_fault (acted u e.action).outcome && not e.forgiving) ≡ false → ⊥
+pub none_breaks : (u : TargetState) (e : Entry) → Breaks u e → (is_fault (action_attempt u e.action).outcome && not e.forgiving) ≡ false → ⊥
 none_breaks u e h pass = breaks_not _ _ h.bad h.strict pass
 
 -- entries that pass hold none that breaks
@@ -75,11 +75,11 @@ one_first u (x ∷ front) [] e e' more more' is pass pass' bad bad' =
 one_first u (x ∷ front) (y ∷ front') e e' more more' is pass pass' bad bad' =
     let head : x ≡ y = cc in
     let tail : front ++ e ∷ more ≡ front' ++ e' ∷ more' = cc in
-    let v : TargetState = (acted u x.action).next in
-    let back : (acted u y.action).next ≡ v = ap (λ (z : Entry). (acted u z.action).next) (sym head) in
+    let v : TargetState = (action_attempt u x.action).next in
+    let back : (action_attempt u y.action).next ≡ v = ap (λ (z : Entry). (action_attempt u z.action).next) (sym head) in
     let rest : SameFirst front front' e e' = one_first v front front' e e' more more' tail pass.1 (subst (λ (s : TargetState). Passes s front') back pass'.1) bad (subst (λ (s : TargetState). Breaks (after s (actions_in front')) e') back bad') in
     record { front_is = (λ j. head j ∷ rest.front_is j); entry_is = rest.entry_is }
 
 pub after_split : (u : TargetState) (xs ys : List Entry) → after u (actions_in (xs ++ ys)) ≡ after (after u (actions_in xs)) (actions_in ys)
 after_split u [] ys = refl
-after_split u (x ∷ xs) ys = after_split (acted u x.action).next xs ys
+after_split u (x ∷ xs) ys = after_split (action_attempt u x.action).next xs ys

@@ -4,7 +4,7 @@ use Rattle.std.proofs.lemmas.Nat.{and_block, and_mask}
 use Rattle.std.specs.Int.Bits.{and_zero_r}
 use Rattle.std.specs.Option.{option_map}
 use Rattle.std.specs.FinMap as map
-use Rattle.target_machine.specs.Attempt.{Attempt, attempt, done, acknowledges}
+use Rattle.target_machine.specs.Attempt.{Attempt, attempt, done_attempt, acknowledges}
 use Rattle.target_machine.specs.Plain.{Action, Makes, select_of, is_fault}
 use Rattle.target_machine.specs.State.{TargetState}
 use Rattle.target_machine.specs.declared.access.RegAccess.{RegAccess}
@@ -26,12 +26,12 @@ module _ (n bank : ℕ) (port : n < 256) (banked : bank < 16) where
   pub selects_port : select_value n bank / 2 ^ 24 ≡ n
   selects_port = omega arith
 
-  select_done : (t : TargetState) → t.sticky ≡ false → attempt t (select_of n bank) ≡ done (record t { select = bit_and (select_value n bank) 0xFF00_00FF })
+  select_done : (t : TargetState) → t.sticky ≡ false → attempt t (select_of n bank) ≡ done_attempt (record t { select = bit_and (select_value n bank) 0xFF00_00FF })
   unfolding attempt
   select_done t clear = rw clear refl
 
-  pub select_write : (t : TargetState) → t.sticky ≡ false → attempt t (select_of n bank) ≡ done (record t { select = select_value n bank })
-  select_write t clear = select_done t clear ∙ ap (λ (v : ℕ). done (record t { select = v })) select_kept
+  pub select_write : (t : TargetState) → t.sticky ≡ false → attempt t (select_of n bank) ≡ done_attempt (record t { select = select_value n bank })
+  select_write t clear = select_done t clear ∙ ap (λ (v : ℕ). done_attempt (record t { select = v })) select_kept
 
 pub bank_zero_bits : (n : ℕ) → bit_and (select_value n 0) 0xF0 ≡ 0
 bank_zero_bits n =

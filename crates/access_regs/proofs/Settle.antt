@@ -10,8 +10,8 @@ use Rattle.target_machine.specs.Plain.{contains, ap_access_of}
 use Rattle.target_machine.specs.State.{TargetState, Agree}
 use Rattle.target_machine.specs.declared.ap.ApState.{ApState}
 use Rattle.target_machine.specs.declared.access.RegAccess.{RegAccess}
-use Rattle.access_regs.specs.Kept.{Kept, known, with_known, csw_of}
-use Rattle.access_regs.specs.Plan.{select_value, settling, settle, settled_at, settled, increment_off}
+use Rattle.access_regs.specs.Kept.{Kept, known_at, with_known, csw_of}
+use Rattle.access_regs.specs.Plan.{select_value, settling, settle, settled_at, kept_after_settling, increment_off}
 use Rattle.access_regs.specs.Journal.{making}
 use Rattle.access_regs.specs.Follows.{Follows, FollowsPort, unsettled_tar, tar_if}
 use Rattle.access_regs.specs.declared.known.Known.{Known}
@@ -33,7 +33,7 @@ module _ (k : Kept) (large : List ℕ) (t u : TargetState) (f : Follows k large 
   n = s.ap
 
   abbrev a : Known
-  a = known k n
+  a = known_at k n
 
   abbrev c : ℕ
   c = increment_off (csw_of a)
@@ -74,7 +74,7 @@ module _ (k : Kept) (large : List ℕ) (t u : TargetState) (f : Follows k large 
   unsettled_is : unsettled_tar k n ≡ Some s.tar
   unsettled_is = ap (λ (o : Option Unsettled). tar_if o n) unsettled ∙ cond-true _ _ _ (eq-eqb n n refl)
 
-  here : known k' n ≡ b
+  here : known_at k' n ≡ b
   here = let e = f.table in let l : n < 256 = lt in known_same k n b (omega arith)
 
   port_of : (p r : ApState) → FollowsPort a (unsettled_tar k n) (Some p) (Some r) → FollowsPort b None (Some p) (Some (back (still_csw r)))
@@ -97,16 +97,16 @@ module _ (k : Kept) (large : List ℕ) (t u : TargetState) (f : Follows k large 
       (λ nt nu. put_ports b None (map.get t.aps n) None (map.get v.aps n) None nt (written.turns.port ∙ ap (option_map (λ p. back (still_csw p))) nu) tt)
       (λ p r pt ru h. put_ports b None (map.get t.aps n) (Some p) (map.get v.aps n) (Some (back (still_csw r))) pt (written.turns.port ∙ ap (option_map (λ p. back (still_csw p))) ru) (port_of p r h))
 
-  port_at : (q : ℕ) → (q ≡ n) ⊎ (q ≢ n) → FollowsPort (known k' q) None (map.get t.aps q) (map.get v.aps q)
+  port_at : (q : ℕ) → (q ≡ n) ⊎ (q ≢ n) → FollowsPort (known_at k' q) None (map.get t.aps q) (map.get v.aps q)
   port_at q (inl same) =
-      subst (λ (i : ℕ). FollowsPort (known k' i) None (map.get t.aps i) (map.get v.aps i)) (sym same)
+      subst (λ (i : ℕ). FollowsPort (known_at k' i) None (map.get t.aps i) (map.get v.aps i)) (sym same)
       (subst (λ (x : Known). FollowsPort x None (map.get t.aps n) (map.get v.aps n)) (sym here) port_here)
   port_at q (inr ne) =
-      like_port (known k' q) (known k q) None (unsettled_tar k q) (map.get t.aps q) (map.get t.aps q) (map.get v.aps q) (map.get u.aps q)
+      like_port (known_at k' q) (known_at k q) None (unsettled_tar k q) (map.get t.aps q) (map.get t.aps q) (map.get v.aps q) (map.get u.aps q)
       (known_other k n q b ne) (sym (unsettled_other k q s unsettled ne)) refl (written.turns.others q ne) (f.ports q)
 
-  large_at : (q : ℕ) → q < 256 → (q ≡ n) ⊎ (q ≢ n) → (known k' q).large ≡ contains large q
-  large_at q less (inl same) = ap (λ (i : ℕ). (known k' i).large) same ∙ ap (λ (x : Known). x.large) here ∙ f.larges n lt ∙ ap (contains large) (sym same)
+  large_at : (q : ℕ) → q < 256 → (q ≡ n) ⊎ (q ≢ n) → (known_at k' q).large ≡ contains large q
+  large_at q less (inl same) = ap (λ (i : ℕ). (known_at k' i).large) same ∙ ap (λ (x : Known). x.large) here ∙ f.larges n lt ∙ ap (contains large) (sym same)
   large_at q less (inr ne) = ap (λ (x : Known). x.large) (known_other k n q b ne) ∙ f.larges q less
 
   settled_some : Goes k k' large t u (ap_access_of false 0 c ∷ ap_access_of false 4 s.tar ∷ [])
@@ -126,16 +126,16 @@ module _ (k : Kept) (large : List ℕ) (t u : TargetState) (f : Follows k large 
   }
 
 -- After settling nothing is unsettled, and none of its accesses faults.
-pub settles : (k : Kept) (large : List ℕ) (t u : TargetState) → Follows k large t u → Goes k (settled k) large t u (settle k)
+pub settles : (k : Kept) (large : List ℕ) (t u : TargetState) → Follows k large t u → Goes k (kept_after_settling k) large t u (settle k)
 settles k large t u f = by_unsettled k.unsettled refl
   where
-    by_unsettled : (o : Option Unsettled) → k.unsettled ≡ o → Goes k (settled k) large t u (settle k)
+    by_unsettled : (o : Option Unsettled) → k.unsettled ≡ o → Goes k (kept_after_settling k) large t u (settle k)
     by_unsettled None none =
         subst (λ (o : Option Unsettled). Goes k (settled_at k o) large t u (settling k o)) (sym none) (record { at = u; pass = refl; follows = f })
     by_unsettled (Some s) some =
         subst (λ (o : Option Unsettled). Goes k (settled_at k o) large t u (settling k o)) (sym some) (settled_some k large t u f s some)
 
-pub settled_calm : (k : Kept) → (settled k).unsettled ≡ None
+pub settled_calm : (k : Kept) → (kept_after_settling k).unsettled ≡ None
 settled_calm k = by_unsettled k.unsettled refl
   where
     by_unsettled : (o : Option Unsettled) → k.unsettled ≡ o → (settled_at k k.unsettled).unsettled ≡ None
@@ -145,8 +145,8 @@ settled_calm k = by_unsettled k.unsettled refl
 -- where nothing is unsettled the targets agree
 pub follows_agree : (k : Kept) (large : List ℕ) (t u : TargetState) → Follows k large t u → k.unsettled ≡ None → Agree t u
 follows_agree k large t u f calm =
-    let ports : (q : ℕ) → map.get t.aps q ≡ map.get u.aps q = λ q. by_port (known k q) (map.get t.aps q) (map.get u.aps q)
-    (subst (λ (o : Option ℕ). FollowsPort (known k q) o (map.get t.aps q) (map.get u.aps q)) (ap (λ (o : Option Unsettled). tar_if o q) calm) (f.ports q)) in
+    let ports : (q : ℕ) → map.get t.aps q ≡ map.get u.aps q = λ q. by_port (known_at k q) (map.get t.aps q) (map.get u.aps q)
+    (subst (λ (o : Option ℕ). FollowsPort (known_at k q) o (map.get t.aps q) (map.get u.aps q)) (ap (λ (o : Option Unsettled). tar_if o q) calm) (f.ports q)) in
     record { same = ap (λ (m : map.FinMap _ ApState). record t { rdbuff = 0; aps = m }) (same_map t.aps u.aps ports) ∙ sym (ap (λ (x : TargetState). record x { rdbuff = 0 }) f.rest) }
   where
     by_port : (x : Known) (p r : Option ApState) → FollowsPort x None p r → p ≡ r

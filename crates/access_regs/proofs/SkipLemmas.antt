@@ -17,16 +17,16 @@ use Rattle.target_calls.specs.declared.calls.Ask.{Ask}
 use Rattle.target_calls.specs.declared.journal.Part.TheVariants.{Ends}
 use Rattle.target_machine.proofs.ActionLists.{pass_append}
 use Rattle.target_machine.specs.Lists.{PassTo}
-use Rattle.target_machine.specs.Plain.{Action, CallDone, CallEnd, Faulted, Skipped, Answered, Small, acted, is_fault}
+use Rattle.target_machine.specs.Plain.{Action, CallDone, CallEnd, Faulted, Skipped, Answered, Small, action_attempt, is_fault}
 use Rattle.target_machine.specs.State.{TargetState}
 
 -- among steps that pass none faults
-none_fails : (u at v : TargetState) (xs : List Action) (a : Action) (ys : List Action) → PassTo u (xs ++ a ∷ ys) v → PassTo u xs at → is_fault (acted at a).outcome ≡ true → ⊥
-none_fails u at v [] a ys all front bad = both_ways (is_fault (acted u a).outcome) all.0 (subst (λ (s : TargetState). is_fault (acted s a).outcome ≡ true) front bad)
-none_fails u at v (x ∷ xs) a ys all front bad = none_fails (acted u x).next at v xs a ys all.1 front.1 bad
+none_fails : (u at v : TargetState) (xs : List Action) (a : Action) (ys : List Action) → PassTo u (xs ++ a ∷ ys) v → PassTo u xs at → is_fault (action_attempt at a).outcome ≡ true → ⊥
+none_fails u at v [] a ys all front bad = both_ways (is_fault (action_attempt u a).outcome) all.0 (subst (λ (s : TargetState). is_fault (action_attempt s a).outcome ≡ true) front bad)
+none_fails u at v (x ∷ xs) a ys all front bad = none_fails (action_attempt u x).next at v xs a ys all.1 front.1 bad
 
 steps_fail : (u at v : TargetState) (steps leads : List Step) (step : Step) (more : List Step) → steps ≡ leads ++ step ∷ more → PassTo u (actions_of steps) v → PassTo u (actions_of leads) at →
-    is_fault (acted at step.action).outcome ≡ true → ⊥
+    is_fault (action_attempt at step.action).outcome ≡ true → ⊥
 steps_fail u at v steps leads step more is all front bad =
     none_fails u at v (actions_of leads) step.action (actions_of more)
     (subst (λ (l : List Action). PassTo u l v) (ap actions_of is ∙ actions_append leads (step ∷ more)) all) front bad
@@ -34,13 +34,13 @@ steps_fail u at v steps leads step more is all front bad =
 module _ (i : Issue) (d : CallDone) (c : Ask) (u : TargetState) where
   -- a call that is answered, or has no large addresses, has no step that faults
   faults_skip : Course i d c.call u → d.end ≢ Faulted → (leads : List Step) (step : Step) (more : List Step) (at : TargetState) → i.steps ≡ leads ++ step ∷ more → PassTo u (actions_of leads) at →
-      is_fault (acted at step.action).outcome ≡ true → d.end ≡ Skipped
+      is_fault (action_attempt at step.action).outcome ≡ true → d.end ≡ Skipped
   faults_skip (answered a) ne leads step more at is pass bad =
       let last : List Step = record { part = Ends; action = a.action } ∷ [] in
-      let all : PassTo u (actions_of i.steps) (acted a.at a.action).next =
-      subst (λ (l : List Action). PassTo u l (acted a.at a.action).next) (sym (ap actions_of a.steps ∙ actions_append a.leads last))
-      (pass_append u a.at (acted a.at a.action).next (actions_of a.leads) (actions_of last) a.pass (a.good, refl)) in
-      absurd (steps_fail u at (acted a.at a.action).next i.steps leads step more is all pass bad)
+      let all : PassTo u (actions_of i.steps) (action_attempt a.at a.action).next =
+      subst (λ (l : List Action). PassTo u l (action_attempt a.at a.action).next) (sym (ap actions_of a.steps ∙ actions_append a.leads last))
+      (pass_append u a.at (action_attempt a.at a.action).next (actions_of a.leads) (actions_of last) a.pass (a.good, refl)) in
+      absurd (steps_fail u at (action_attempt a.at a.action).next i.steps leads step more is all pass bad)
   faults_skip (stopped a) ne leads step more at is pass bad = absurd (ne a.end)
   faults_skip (small a) ne leads step more at is pass bad = absurd (steps_fail u at a.at i.steps leads step more is a.pass pass bad)
   faults_skip (skipped a) ne leads step more at is pass bad = a.end

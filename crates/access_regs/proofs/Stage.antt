@@ -9,7 +9,7 @@ use Rattle.target_machine.specs.Plain.{csw_for, size_code, contains, drw_of, to_
 use Rattle.target_machine.specs.State.{TargetState}
 use Rattle.target_machine.specs.declared.access.RegAccess.{RegAccess}
 use Rattle.target_machine.specs.declared.ap.ApState.{ApState}
-use Rattle.access_regs.specs.Kept.{Kept, known, with_known, csw_of}
+use Rattle.access_regs.specs.Kept.{Kept, known_at, with_known, csw_of}
 use Rattle.access_regs.specs.Plan.{planned_csw, select_value, port_writes, after_drw}
 use Rattle.access_regs.specs.Follows.{Follows, FollowsPort, IsUnsettledPort, IsTrueOf, unsettled_tar}
 use Rattle.access_regs.specs.declared.known.Known.{Known}
@@ -36,20 +36,20 @@ pub like_port : (a c : Known) (m o : Option ℕ) (x v y w : Option ApState) → 
 like_port a c m o x v y w ea em e g h =
     subst (λ (z : Known). FollowsPort z m x y) (sym ea) (subst (λ (z : Option ℕ). FollowsPort c z x y) (sym em) (put_ports c o x v y w e g h))
 
-pub is_true_of : (k : Kept) (large : List ℕ) (t u : TargetState) (n : ℕ) → Follows k large t u → Sure u n (known k n)
-is_true_of k large t u n f r is = by_ports {G = IsTrueOf (known k n) r} (known k n) (unsettled_tar k n) (map.get t.aps n) (map.get u.aps n) (f.ports n)
+pub is_true_of : (k : Kept) (large : List ℕ) (t u : TargetState) (n : ℕ) → Follows k large t u → Sure u n (known_at k n)
+is_true_of k large t u n f r is = by_ports {G = IsTrueOf (known_at k n) r} (known_at k n) (unsettled_tar k n) (map.get t.aps n) (map.get u.aps n) (f.ports n)
     (λ nt nu. (let e : ◌≡◌ {A = Option ApState} None (Some r) = sym nu ∙ is in absurd (cc)))
-    (λ p q pt qu h. (let e : ◌≡◌ {A = Option ApState} (Some q) (Some r) = sym qu ∙ is in let same : q ≡ r = cc in let l = like (known k n) (unsettled_tar k n) p q h in subst (IsTrueOf (known k n)) same l.so))
+    (λ p q pt qu h. (let e : ◌≡◌ {A = Option ApState} (Some q) (Some r) = sym qu ∙ is in let same : q ≡ r = cc in let l = like (known_at k n) (unsettled_tar k n) p q h in subst (IsTrueOf (known_at k n)) same l.so))
 
 ready_like : (csw plain : ℕ) (b : Bool) (address : ℕ) (p r : ApState) → r ≡ record p { csw = r.csw; tar = r.tar } →
     ready csw b address r ≡ record (ready plain b address p) { csw = stored_csw csw }
 ready_like csw plain b address p r e = ap (ready csw b address) e
 
 module _ (k : Kept) (large : List ℕ) (t u : TargetState) (size : ℕ) (read : Bool) (n address value : ℕ) (lt : n < 256) (is : IsSize size) (aligned : address % size ≡ 0)
-    (f : Follows k large t u) (knows : (known k n).csw ≡ Some (csw_of (known k n))) (at : Selects t n) (selects : t.select ≡ select_value n 0)
+    (f : Follows k large t u) (knows : (known_at k n).csw ≡ Some (csw_of (known_at k n))) (at : Selects t n) (selects : t.select ≡ select_value n 0)
     (idle : (q : ℕ) → q ≢ n → unsettled_tar k q ≡ None) (csw : ℕ) (csw_read : (p : ApState) → map.get t.aps n ≡ Some p → csw ≡ bit_or p.csw 0x40) where
   abbrev pub a : Known
-  a = known k n
+  a = known_at k n
 
   abbrev pub drw : RegAccess
   drw = drw_of read address value
@@ -144,10 +144,10 @@ module _ (k : Kept) (large : List ℕ) (t u : TargetState) (size : ℕ) (read : 
   table : n < length k.ports
   table = let e = f.table in omega arith
 
-  known_here : known made_kept n ≡ b
+  known_here : known_at made_kept n ≡ b
   known_here = known_same k n b table
 
-  known_there : (q : ℕ) → q ≢ n → known made_kept q ≡ known k q
+  known_there : (q : ℕ) → q ≢ n → known_at made_kept q ≡ known_at k q
   known_there q ne = known_other k n q b ne
 
   unsettled_here : unsettled_tar made_kept n ≡ Some low
@@ -195,21 +195,21 @@ module _ (k : Kept) (large : List ℕ) (t u : TargetState) (size : ℕ) (read : 
         (x_port ∙ ap (option_map F) pt) (y_port ∙ ap (λ (o : Option ApState). option_map moved (option_map G o)) ru)
         (close p r l (csw_read p pt), true_after r l.so)))
 
-    port_there : (q : ℕ) → q ≢ n → FollowsPort (known made_kept q) (unsettled_tar made_kept q) (map.get X.next.aps q) (map.get Y.next.aps q)
+    port_there : (q : ℕ) → q ≢ n → FollowsPort (known_at made_kept q) (unsettled_tar made_kept q) (map.get X.next.aps q) (map.get Y.next.aps q)
     port_there q ne =
-        like_port (known made_kept q) (known k q) (unsettled_tar made_kept q) (unsettled_tar k q) (map.get X.next.aps q) (map.get t.aps q) (map.get Y.next.aps q) (map.get u.aps q)
+        like_port (known_at made_kept q) (known_at k q) (unsettled_tar made_kept q) (unsettled_tar k q) (map.get X.next.aps q) (map.get t.aps q) (map.get Y.next.aps q) (map.get u.aps q)
         (known_there q ne) (unsettled_there q ne ∙ sym (idle q ne)) (together.plain q ∙ plain.turns.others q ne) (together.others q ne ∙ planned.turns.others q ne) (f.ports q)
 
-    port_at : (q : ℕ) → (q ≡ n) ⊎ (q ≢ n) → FollowsPort (known made_kept q) (unsettled_tar made_kept q) (map.get X.next.aps q) (map.get Y.next.aps q)
+    port_at : (q : ℕ) → (q ≡ n) ⊎ (q ≢ n) → FollowsPort (known_at made_kept q) (unsettled_tar made_kept q) (map.get X.next.aps q) (map.get Y.next.aps q)
     port_at q (inl same) =
-        subst (λ (i : ℕ). FollowsPort (known made_kept i) (unsettled_tar made_kept i) (map.get X.next.aps i) (map.get Y.next.aps i)) (sym same)
-        (like_port (known made_kept n) b (unsettled_tar made_kept n) (Some low) (map.get X.next.aps n) (map.get X.next.aps n) (map.get Y.next.aps n) (map.get Y.next.aps n)
+        subst (λ (i : ℕ). FollowsPort (known_at made_kept i) (unsettled_tar made_kept i) (map.get X.next.aps i) (map.get Y.next.aps i)) (sym same)
+        (like_port (known_at made_kept n) b (unsettled_tar made_kept n) (Some low) (map.get X.next.aps n) (map.get X.next.aps n) (map.get Y.next.aps n) (map.get Y.next.aps n)
         known_here unsettled_here refl refl port_here)
     port_at q (inr ne) = port_there q ne
 
-    larges_at : (q : ℕ) → q < 256 → (q ≡ n) ⊎ (q ≢ n) → (known made_kept q).large ≡ contains large q
+    larges_at : (q : ℕ) → q < 256 → (q ≡ n) ⊎ (q ≢ n) → (known_at made_kept q).large ≡ contains large q
     larges_at q less (inl same) =
-        ap (λ (i : ℕ). (known made_kept i).large) same ∙ ap (λ (c : Known). c.large) known_here ∙ f.larges n lt ∙ ap (contains large) (sym same)
+        ap (λ (i : ℕ). (known_at made_kept i).large) same ∙ ap (λ (c : Known). c.large) known_here ∙ f.larges n lt ∙ ap (contains large) (sym same)
     larges_at q less (inr ne) = ap (λ (c : Known). c.large) (known_there q ne) ∙ f.larges q less
 
     pub follows : Follows made_kept large X.next Y.next

@@ -1,7 +1,7 @@
 -- What leads to the access that a unit is for changes no memory.
 use Rattle.std.proofs.Common.{◌≡◌, ◌∙◌, ℕ, ◌/◌, ◌<◌, ◌⊎◌, inl, inr, Bool, true, false, cond, eqb, not, ◌&&◌, List, [], ◌∷◌, ◌++◌, Option, Some, None, refl, sym, ap, subst, arith, bit_and}
 use Rattle.std.specs.FinMap as map
-use Rattle.target_machine.specs.Attempt.{Attempt, attempt, done, posted, bus_error, acknowledges, register, with_ap, register_value, register_written, ap_read, ap_write, at_ap, ap_access, dp_access, dp_write, is_free, selected_ap, drw_read, drw_write, memory_read, memory_write, size_of, bd_address}
+use Rattle.target_machine.specs.Attempt.{Attempt, attempt, done_attempt, posted_attempt, bus_error, acknowledges, register, with_ap, register_value, register_written, ap_read, ap_write, at_ap, ap_access, dp_access, dp_write, is_free, selected_ap, drw_read, drw_write, memory_read, memory_write, size_of, bd_address}
 use Rattle.target_machine.specs.Plain.{select_of}
 use Rattle.target_machine.specs.State.{TargetState}
 use Rattle.target_machine.specs.declared.access.Outcome.TheVariants.{Fault}
@@ -29,13 +29,13 @@ module _ (t : TargetState) where
 
   read_leaves : (port : ApState) (reg : ℕ) → eqb reg 0x0C ≡ false → eqb (reg / 16) 1 ≡ false → Leaves t (ap_read t port reg)
   read_leaves port reg no_drw no_bd =
-      subst (λ (b : Bool). Leaves t (cond b (drw_read t port (size_of port.csw)) (cond (eqb (reg / 16) 1) (memory_read t t (bd_address port reg) 0xFFFF_FFFF) (posted (register_value port reg) t)))) (sym no_drw)
-      (subst (λ (b : Bool). Leaves t (cond b (memory_read t t (bd_address port reg) 0xFFFF_FFFF) (posted (register_value port reg) t))) (sym no_bd) (record { words = refl; select = refl }))
+      subst (λ (b : Bool). Leaves t (cond b (drw_read t port (size_of port.csw)) (cond (eqb (reg / 16) 1) (memory_read t t (bd_address port reg) 0xFFFF_FFFF) (posted_attempt (register_value port reg) t)))) (sym no_drw)
+      (subst (λ (b : Bool). Leaves t (cond b (memory_read t t (bd_address port reg) 0xFFFF_FFFF) (posted_attempt (register_value port reg) t))) (sym no_bd) (record { words = refl; select = refl }))
 
   write_leaves : (port : ApState) (reg value : ℕ) → eqb reg 0x0C ≡ false → eqb (reg / 16) 1 ≡ false → Leaves t (ap_write t port reg value)
   write_leaves port reg value no_drw no_bd =
-      subst (λ (b : Bool). Leaves t (cond b (drw_write t port value (size_of port.csw)) (cond (eqb (reg / 16) 1) (memory_write t t (bd_address port reg) 0xFFFF_FFFF value) (done (with_ap t (register_written port reg value)))))) (sym no_drw)
-      (subst (λ (b : Bool). Leaves t (cond b (memory_write t t (bd_address port reg) 0xFFFF_FFFF value) (done (with_ap t (register_written port reg value))))) (sym no_bd) (record { words = refl; select = refl }))
+      subst (λ (b : Bool). Leaves t (cond b (drw_write t port value (size_of port.csw)) (cond (eqb (reg / 16) 1) (memory_write t t (bd_address port reg) 0xFFFF_FFFF value) (done_attempt (with_ap t (register_written port reg value)))))) (sym no_drw)
+      (subst (λ (b : Bool). Leaves t (cond b (memory_write t t (bd_address port reg) 0xFFFF_FFFF value) (done_attempt (with_ap t (register_written port reg value))))) (sym no_bd) (record { words = refl; select = refl }))
 
   at_leaves : (a : RegAccess) (o : Option ApState) → eqb (register t a.addr) 0x0C ≡ false → eqb (register t a.addr / 16) 1 ≡ false → Leaves t (at_ap t a o)
   at_leaves a None no_drw no_bd = either a.read _ _ (record { words = refl; select = refl }) (record { words = refl; select = refl })
@@ -78,7 +78,7 @@ select_stuck : (t : TargetState) (n bank : ℕ) → t.sticky ≡ true → attemp
 unfolding attempt is_free
 select_stuck t n bank e = ap (λ (b : Bool). cond (b && true) (record { outcome = Fault; next = t }) (dp_write t 8 (select_value n bank))) e
 
-select_moves : (t : TargetState) (n bank : ℕ) → t.sticky ≡ false → attempt t (select_of n bank) ≡ done (record t { select = bit_and (select_value n bank) 0xFF00_00FF })
+select_moves : (t : TargetState) (n bank : ℕ) → t.sticky ≡ false → attempt t (select_of n bank) ≡ done_attempt (record t { select = bit_and (select_value n bank) 0xFF00_00FF })
 unfolding attempt
 select_moves t n bank clear = rw clear refl
 

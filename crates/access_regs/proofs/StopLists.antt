@@ -6,7 +6,7 @@ use Rattle.access_regs.proofs.Lists.{Stops, actions_entries, list_passes, list_s
 use Rattle.access_regs.proofs.Seams.{Breaks, InFirst, InSecond, SameFirst, after_split, one_first, passes_none, passes_second, seam_in}
 use Rattle.access_regs.specs.Alone.{call_alone}
 use Rattle.access_regs.specs.Follows.{Follows}
-use Rattle.access_regs.specs.Journal.{Step, actions_of, entries_at, finish, finish_of, issue_of, issued_from, numbered, steps_at, steps_of}
+use Rattle.access_regs.specs.Journal.{Step, actions_of, entries_at, finish, finish_of, issue_of, issued_from, numbered_entries, steps_at, steps_of}
 use Rattle.access_regs.specs.Kept.{Kept, nothing_kept}
 use Rattle.access_regs.specs.Plan.{settle}
 use Rattle.access_regs.specs.Stops.{FaultStops, NoneStops, PassingStops, StaysThere, StopsThere, WaitStops, world_at}
@@ -96,7 +96,7 @@ good_end (Answered v) ne = refl
 good_end Skipped ne = refl
 good_end Small ne = refl
 
-pub numbered_unit : (n : ℕ) (b : Bool) (steps : List Step) (front : List Entry) (e : Entry) (more : List Entry) → numbered n b steps ≡ front ++ e ∷ more → e.unit ≡ cond (settles e.part) n (n + 1)
+pub numbered_unit : (n : ℕ) (b : Bool) (steps : List Step) (front : List Entry) (e : Entry) (more : List Entry) → numbered_entries n b steps ≡ front ++ e ∷ more → e.unit ≡ cond (settles e.part) n (n + 1)
 numbered_unit n b [] [] e more is = absurd (cc)
 numbered_unit n b [] (x ∷ front) e more is = absurd (cc)
 numbered_unit n b (s ∷ steps) [] e more is =
@@ -104,7 +104,7 @@ numbered_unit n b (s ∷ steps) [] e more is =
     subst (λ (x : Entry). x.unit ≡ cond (settles x.part) n (n + 1)) head refl
 numbered_unit n b (s ∷ steps) (x ∷ front) e more is = numbered_unit n b steps front e more (cc)
 
-settling_settles : (n : ℕ) (xs : List RegAccess) (front : List Entry) (e : Entry) (more : List Entry) → numbered n false (steps_of Settles xs) ≡ front ++ e ∷ more → settles e.part ≡ true
+settling_settles : (n : ℕ) (xs : List RegAccess) (front : List Entry) (e : Entry) (more : List Entry) → numbered_entries n false (steps_of Settles xs) ≡ front ++ e ∷ more → settles e.part ≡ true
 settling_settles n [] [] e more is = absurd (cc)
 settling_settles n [] (x ∷ front) e more is = absurd (cc)
 settling_settles n (a ∷ xs) [] e more is =
@@ -112,12 +112,12 @@ settling_settles n (a ∷ xs) [] e more is =
     subst (λ (x : Entry). settles x.part ≡ true) head refl
 settling_settles n (a ∷ xs) (x ∷ front) e more is = settling_settles n xs front e more (cc)
 
-pub finish_settles : (n : ℕ) (b : Bool) (k : Kept) (front : List Entry) (e : Entry) (more : List Entry) → numbered n false (finish b k).steps ≡ front ++ e ∷ more → settles e.part ≡ true
+pub finish_settles : (n : ℕ) (b : Bool) (k : Kept) (front : List Entry) (e : Entry) (more : List Entry) → numbered_entries n false (finish b k).steps ≡ front ++ e ∷ more → settles e.part ≡ true
 finish_settles n true k front e more is = settling_settles n (settle k) front e more is
 finish_settles n false k [] e more is = absurd (cc)
 finish_settles n false k (x ∷ front) e more is = absurd (cc)
 
-finish_marked : (n : ℕ) (b : Bool) (k : Kept) (front : List Entry) (e : Entry) (more : List Entry) → numbered n false (finish b k).steps ≡ front ++ e ∷ more → b ≡ true
+finish_marked : (n : ℕ) (b : Bool) (k : Kept) (front : List Entry) (e : Entry) (more : List Entry) → numbered_entries n false (finish b k).steps ≡ front ++ e ∷ more → b ≡ true
 finish_marked n true k front e more is = refl
 finish_marked n false k [] e more is = absurd (cc)
 finish_marked n false k (x ∷ front) e more is = absurd (cc)
@@ -195,18 +195,18 @@ module _ (p : Planner) (base : ℕ) (k : Kept) (large : List ℕ) (t u : TargetS
 
   -- ---- no entry stops
 
-  pub not_faulted : Passes u (numbered base (is_forgiving ask) (issue_of p u k ask).steps) → d.end ≢ Faulted
+  pub not_faulted : Passes u (numbered_entries base (is_forgiving ask) (issue_of p u k ask).steps) → d.end ≢ Faulted
   not_faulted pass end = by_place (first_break p base k large t u f ask ok end)
     where
       by_place : FirstBreak p base k u ask → ⊥
-      by_place b = by_seam b (seam_in (numbered base (is_forgiving ask) (issue_of p u k ask).steps) (numbered (base + 1) false (finish_of p u k ask).steps) b.front b.entry b.more b.is)
+      by_place b = by_seam b (seam_in (numbered_entries base (is_forgiving ask) (issue_of p u k ask).steps) (numbered_entries (base + 1) false (finish_of p u k ask).steps) b.front b.entry b.more b.is)
         where
-          by_seam : (b : FirstBreak p base k u ask) → InFirst (numbered base (is_forgiving ask) (issue_of p u k ask).steps) b.front b.entry ⊎ InSecond (numbered base (is_forgiving ask) (issue_of p u k ask).steps) (numbered (base + 1) false (finish_of p u k ask).steps) b.front b.entry b.more → ⊥
-          by_seam b (inl i) = passes_none u (numbered base (is_forgiving ask) (issue_of p u k ask).steps) b.front b.entry i.more pass i.is b.bad
+          by_seam : (b : FirstBreak p base k u ask) → InFirst (numbered_entries base (is_forgiving ask) (issue_of p u k ask).steps) b.front b.entry ⊎ InSecond (numbered_entries base (is_forgiving ask) (issue_of p u k ask).steps) (numbered_entries (base + 1) false (finish_of p u k ask).steps) b.front b.entry b.more → ⊥
+          by_seam b (inl i) = passes_none u (numbered_entries base (is_forgiving ask) (issue_of p u k ask).steps) b.front b.entry i.more pass i.is b.bad
           by_seam b (inr i) = b.own (settles_is b.entry.part (finish_settles (base + 1) ask.settled (issue_of p u k ask).kept i.back b.entry b.more i.is))
 
   none_first : Passes u (first ++ rest) → d.end ≢ Faulted
-  none_first pass = not_faulted (pass_front u (numbered base (is_forgiving ask) (issue_of p u k ask).steps) (numbered (base + 1) false (finish_of p u k ask).steps) (pass_front u first rest pass))
+  none_first pass = not_faulted (pass_front u (numbered_entries base (is_forgiving ask) (issue_of p u k ask).steps) (numbered_entries (base + 1) false (finish_of p u k ask).steps) (pass_front u first rest pass))
 
   none_more : (d.end ≢ Faulted) → NoneStops d.next d.large asks → NoneStops t large (ask ∷ asks)
   none_more ne s = record {
@@ -216,7 +216,7 @@ module _ (p : Planner) (base : ℕ) (k : Kept) (large : List ℕ) (t u : TargetS
 
   -- ---- an entry after which nothing is answered
 
-  stays_first : (front : List Entry) (e : Entry) → InFirst (numbered base (is_forgiving ask) (issue_of p u k ask).steps) front e → StaysThere base t large (ask ∷ asks) e
+  stays_first : (front : List Entry) (e : Entry) → InFirst (numbered_entries base (is_forgiving ask) (issue_of p u k ask).steps) front e → StaysThere base t large (ask ∷ asks) e
   stays_first front e i = record {
     at = 0;
     lines = lines_own base e (numbered_unit base (is_forgiving ask) (issue_of p u k ask).steps front e i.more i.is) ∙ omega arith;
@@ -225,9 +225,9 @@ module _ (p : Planner) (base : ℕ) (k : Kept) (large : List ℕ) (t u : TargetS
     stops = inl refl;
   }
 
-  stays_finish : (front back more : List Entry) (e : Entry) → Passes u front → front ≡ numbered base (is_forgiving ask) (issue_of p u k ask).steps ++ back → numbered (base + 1) false (finish_of p u k ask).steps ≡ back ++ e ∷ more → StaysThere base t large (ask ∷ asks) e
+  stays_finish : (front back more : List Entry) (e : Entry) → Passes u front → front ≡ numbered_entries base (is_forgiving ask) (issue_of p u k ask).steps ++ back → numbered_entries (base + 1) false (finish_of p u k ask).steps ≡ back ++ e ∷ more → StaysThere base t large (ask ∷ asks) e
   stays_finish front back more e pass front_is is =
-      let ne : d.end ≢ Faulted = not_faulted (pass_front u (numbered base (is_forgiving ask) (issue_of p u k ask).steps) back (subst (Passes u) front_is pass)) in
+      let ne : d.end ≢ Faulted = not_faulted (pass_front u (numbered_entries base (is_forgiving ask) (issue_of p u k ask).steps) back (subst (Passes u) front_is pass)) in
       let mark : settles e.part ≡ true = finish_settles (base + 1) ask.settled (issue_of p u k ask).kept back e more is in
       let number : e.unit ≡ cond (settles e.part) (base + 1) (base + 1 + 1) = numbered_unit (base + 1) false (finish_of p u k ask).steps back e more is in
       record {
@@ -259,19 +259,19 @@ module _ (p : Planner) (base : ℕ) (k : Kept) (large : List ℕ) (t u : TargetS
   stays_by : (front : List Entry) (e : Entry) (more : List Entry) → first ++ rest ≡ front ++ e ∷ more → Passes u front → ((d.end ≢ Faulted) → (back : List Entry) → rest ≡ back ++ e ∷ more → Passes v back → StaysThere (base + 1) d.next d.large asks e) → StaysThere base t large (ask ∷ asks) e
   stays_by front e more is pass again = by_seam (seam_in first rest front e more is)
     where
-      by_half : (more' : List Entry) → InFirst (numbered base (is_forgiving ask) (issue_of p u k ask).steps) front e ⊎ InSecond (numbered base (is_forgiving ask) (issue_of p u k ask).steps) (numbered (base + 1) false (finish_of p u k ask).steps) front e more' → StaysThere base t large (ask ∷ asks) e
+      by_half : (more' : List Entry) → InFirst (numbered_entries base (is_forgiving ask) (issue_of p u k ask).steps) front e ⊎ InSecond (numbered_entries base (is_forgiving ask) (issue_of p u k ask).steps) (numbered_entries (base + 1) false (finish_of p u k ask).steps) front e more' → StaysThere base t large (ask ∷ asks) e
       by_half more' (inl i) = stays_first front e i
       by_half more' (inr i) = stays_finish front i.back more' e pass i.front_is i.is
 
       by_seam : InFirst first front e ⊎ InSecond first rest front e more → StaysThere base t large (ask ∷ asks) e
-      by_seam (inl i) = by_half i.more (seam_in (numbered base (is_forgiving ask) (issue_of p u k ask).steps) (numbered (base + 1) false (finish_of p u k ask).steps) front e i.more i.is)
+      by_seam (inl i) = by_half i.more (seam_in (numbered_entries base (is_forgiving ask) (issue_of p u k ask).steps) (numbered_entries (base + 1) false (finish_of p u k ask).steps) front e i.more i.is)
       by_seam (inr i) =
           let both : Passes u (first ++ i.back) = subst (Passes u) i.front_is pass in
           let ne : d.end ≢ Faulted = none_first_of (pass_front u first i.back both) in
           stays_later e i.back more i.is ne (again ne i.back i.is (passed_after i.back both))
         where
           none_first_of : Passes u first → d.end ≢ Faulted
-          none_first_of pass = not_faulted (pass_front u (numbered base (is_forgiving ask) (issue_of p u k ask).steps) (numbered (base + 1) false (finish_of p u k ask).steps) pass)
+          none_first_of pass = not_faulted (pass_front u (numbered_entries base (is_forgiving ask) (issue_of p u k ask).steps) (numbered_entries (base + 1) false (finish_of p u k ask).steps) pass)
 
 -- ---- lists
 

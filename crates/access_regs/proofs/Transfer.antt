@@ -8,7 +8,7 @@ use Rattle.target_machine.specs.State.{TargetState}
 use Rattle.target_machine.specs.declared.access.RegAccess.{RegAccess}
 use Rattle.target_machine.specs.declared.ap.ApState.{ApState}
 use Rattle.access_regs.specs.Kept.{csw_of, is_known}
-use Rattle.access_regs.specs.Plan.{planned_csw, unless, csw_needed, high_needed, tar_needed, port_writes, predicted}
+use Rattle.access_regs.specs.Plan.{planned_csw, unless, csw_needed, high_needed, tar_needed, port_writes, predicted_tar}
 use Rattle.access_regs.specs.Follows.{IsTrueOf}
 use Rattle.access_regs.specs.declared.known.Known.{Known}
 use Rattle.access_regs.proofs.Csw.{IsSize}
@@ -112,7 +112,7 @@ inside low size (inr (inl e)) a ne = let b : low % 2 ≡ 0 = subst (λ (s : ℕ)
 inside low size (inr (inr e)) a ne = let b : low % 4 ≡ 0 = subst (λ (s : ℕ). low % s ≡ 0) e a in omega arith
 
 -- where TAR is predicted, it is there, whichever way increments go
-pub predicted_is : (carry : Bool) (low size v : ℕ) → IsSize size → low % size ≡ 0 → low < 2 ^ 32 → predicted low size ≡ Some v → next_tar carry low size ≡ v
+pub predicted_is : (carry : Bool) (low size v : ℕ) → IsSize size → low % size ≡ 0 → low < 2 ^ 32 → predicted_tar low size ≡ Some v → next_tar carry low size ≡ v
 predicted_is carry low size v is a lt e = by_edge (eqb ((low + size) % 1024) 0) refl e
   where
     by_edge : (b : Bool) → eqb ((low + size) % 1024) 0 ≡ b → cond b None (Some (low + size)) ≡ Some v → next_tar carry low size ≡ v

@@ -3,9 +3,9 @@ use Rattle.std.proofs.Common.{◌≡◌, ◌⊎◌, inl, inr, ◌∙◌, ℕ, su
 use Rattle.access_regs.proofs.Seams.{InFirst, InSecond, seam_in}
 use Rattle.access_regs.proofs.StopLists.{finish_settles, numbered_unit}
 use Rattle.access_regs.specs.Entries.{UnitsInRange}
-use Rattle.access_regs.specs.Journal.{Issue, Step, actions_of, after_settling, before, by_cfg, by_cfg_read, by_csw, by_plan, entries_at, finish_of, alone_at, done_alone, gives, is_alone, is_early, issue, issue_of, issued_from, last_action, making, numbered, parts_of, planned, port_of, steps_at, steps_of}
+use Rattle.access_regs.specs.Journal.{Issue, Step, actions_of, after_settling, before, by_cfg, by_cfg_read, by_csw, by_plan, entries_at, finish_of, alone_at, done_alone, gives, is_alone, is_early, issue, issue_of, issued_from, last_action, making, numbered_entries, parts_of, issue_of_plan, port_of, steps_at, steps_of}
 use Rattle.access_regs.specs.Kept.{Kept, nothing_kept}
-use Rattle.access_regs.specs.Plan.{cfg_plan, first_plan, leads, learned, learned_cfg, needs_cfg, needs_csw}
+use Rattle.access_regs.specs.Plan.{cfg_plan, first_plan, leads, kept_after_csw, learned_cfg, needs_cfg, needs_csw}
 use Rattle.target_calls.specs.Asks.{is_forgiving}
 use Rattle.target_calls.specs.Journal.{Entry, settles}
 use Rattle.target_calls.specs.declared.calls.Ask.{Ask}
@@ -45,7 +45,7 @@ none_plan k asked = none_both (steps_of Leads (leads k asked)) (record { part = 
 
 none_csw : (t : TargetState) (k : Kept) (asked : AccessUnit) → NoneSettles (by_csw t k asked).steps
 none_csw t k asked =
-    let l : Kept = learned k (port_of asked) (gives t (first_plan k (port_of asked))) in
+    let l : Kept = kept_after_csw k (port_of asked) (gives t (first_plan k (port_of asked))) in
     none_either (needs_csw k asked) (before (steps_of Leads (first_plan k (port_of asked))) (by_plan l asked)) (by_plan k asked)
     (none_both (steps_of Leads (first_plan k (port_of asked))) (by_plan l asked).steps (none_leads (first_plan k (port_of asked))) (none_plan l asked)) (none_plan k asked)
 
@@ -74,7 +74,7 @@ none_first : (p : Planner) (t : TargetState) (c : Ask) → NoneSettles (issue_of
 unfolding NoneSettles
 none_first p t c = by_call c.forgive c.call
   where
-    by_mark : (b f : Bool) (asked : AccessUnit) → NoneSettles (cond b (after_settling t nothing_kept (alone_at f asked)) (planned t nothing_kept asked)).steps
+    by_mark : (b f : Bool) (asked : AccessUnit) → NoneSettles (cond b (after_settling t nothing_kept (alone_at f asked)) (issue_of_plan t nothing_kept asked)).steps
     by_mark true f asked = none_map (is_early asked (done_alone t nothing_kept f asked).actions) asked (done_alone t nothing_kept f asked).actions
     by_mark false f asked = none_cfg t nothing_kept asked
 
@@ -82,7 +82,7 @@ none_first p t c = by_call c.forgive c.call
     by_call f (Access asked) = by_mark (is_alone p f && may_forgive (Access asked)) f asked
     by_call f (Probe asked) = (refl, tt)
 
-none_at : (n : ℕ) (b : Bool) (steps : List Step) (front : List Entry) (e : Entry) (more : List Entry) → NoneSettles steps → numbered n b steps ≡ front ++ e ∷ more → settles e.part ≡ false
+none_at : (n : ℕ) (b : Bool) (steps : List Step) (front : List Entry) (e : Entry) (more : List Entry) → NoneSettles steps → numbered_entries n b steps ≡ front ++ e ∷ more → settles e.part ≡ false
 unfolding NoneSettles
 none_at n b [] [] e more h is = absurd (cc)
 none_at n b [] (x ∷ front) e more h is = absurd (cc)
@@ -102,13 +102,13 @@ list_units p n k t (ask ∷ asks) front e more is =
     by_seam (seam_in (entries_at p n t k ask) (issued_from p (n + 1) (finish_of p t k ask).kept (after t (actions_of (steps_at p t k ask))) asks) front e more is)
     (λ back h. (let r = list_units p (n + 1) (finish_of p t k ask).kept (after t (actions_of (steps_at p t k ask))) asks back e more h in (omega (arith, r.0), omega (arith, r.1))))
   where
-    by_half : (more' : List Entry) → InFirst (numbered n (is_forgiving ask) (issue_of p t k ask).steps) front e ⊎ InSecond (numbered n (is_forgiving ask) (issue_of p t k ask).steps) (numbered (n + 1) false (finish_of p t k ask).steps) front e more' → (n ≤ e.unit) × (e.unit ≤ n + suc (length asks))
+    by_half : (more' : List Entry) → InFirst (numbered_entries n (is_forgiving ask) (issue_of p t k ask).steps) front e ⊎ InSecond (numbered_entries n (is_forgiving ask) (issue_of p t k ask).steps) (numbered_entries (n + 1) false (finish_of p t k ask).steps) front e more' → (n ≤ e.unit) × (e.unit ≤ n + suc (length asks))
     by_half more' (inl i) = (let u = unit_by (settles e.part) n e.unit (numbered_unit n (is_forgiving ask) (issue_of p t k ask).steps front e i.more i.is) in (u.0, omega (arith, u.1)))
     by_half more' (inr i) = (let s = finish_settles (n + 1) ask.settled (issue_of p t k ask).kept i.back e more' i.is in let u = numbered_unit (n + 1) false (finish_of p t k ask).steps i.back e more' i.is ∙ ap (λ (b : Bool). cond b (n + 1) (n + 1 + 1)) s in (omega (arith, u), omega (arith, u)))
 
     by_seam : InFirst (entries_at p n t k ask) front e ⊎ InSecond (entries_at p n t k ask) (issued_from p (n + 1) (finish_of p t k ask).kept (after t (actions_of (steps_at p t k ask))) asks) front e more
         → ((back : List Entry) → issued_from p (n + 1) (finish_of p t k ask).kept (after t (actions_of (steps_at p t k ask))) asks ≡ back ++ e ∷ more → (n ≤ e.unit) × (e.unit ≤ n + suc (length asks))) → (n ≤ e.unit) × (e.unit ≤ n + suc (length asks))
-    by_seam (inl i) again = by_half i.more (seam_in (numbered n (is_forgiving ask) (issue_of p t k ask).steps) (numbered (n + 1) false (finish_of p t k ask).steps) front e i.more i.is)
+    by_seam (inl i) again = by_half i.more (seam_in (numbered_entries n (is_forgiving ask) (issue_of p t k ask).steps) (numbered_entries (n + 1) false (finish_of p t k ask).steps) front e i.more i.is)
     by_seam (inr i) again = again i.back i.is
 
 pub units_in_range : UnitsInRange
@@ -121,7 +121,7 @@ units_in_range p t (ask ∷ asks) front e more is =
     rest : List Entry
     rest = issued_from p 1 (finish_of p t nothing_kept ask).kept (after t (actions_of (steps_at p t nothing_kept ask))) asks
 
-    by_half : (more' : List Entry) → InFirst (numbered 0 (is_forgiving ask) (issue_of p t nothing_kept ask).steps) front e ⊎ InSecond (numbered 0 (is_forgiving ask) (issue_of p t nothing_kept ask).steps) (numbered 1 false (finish_of p t nothing_kept ask).steps) front e more' → 1 ≤ e.unit
+    by_half : (more' : List Entry) → InFirst (numbered_entries 0 (is_forgiving ask) (issue_of p t nothing_kept ask).steps) front e ⊎ InSecond (numbered_entries 0 (is_forgiving ask) (issue_of p t nothing_kept ask).steps) (numbered_entries 1 false (finish_of p t nothing_kept ask).steps) front e more' → 1 ≤ e.unit
     by_half more' (inl i) =
         let s = none_at 0 (is_forgiving ask) (issue_of p t nothing_kept ask).steps front e i.more (none_first p t ask) i.is in
         let u = numbered_unit 0 (is_forgiving ask) (issue_of p t nothing_kept ask).steps front e i.more i.is ∙ ap (λ (b : Bool). cond b 0 (0 + 1)) s in
@@ -129,5 +129,5 @@ units_in_range p t (ask ∷ asks) front e more is =
     by_half more' (inr i) = (unit_by (settles e.part) 1 e.unit (numbered_unit 1 false (finish_of p t nothing_kept ask).steps i.back e more' i.is)).0
 
     by_seam : InFirst (entries_at p 0 t nothing_kept ask) front e ⊎ InSecond (entries_at p 0 t nothing_kept ask) (issued_from p 1 (finish_of p t nothing_kept ask).kept (after t (actions_of (steps_at p t nothing_kept ask))) asks) front e more → 1 ≤ e.unit
-    by_seam (inl i) = by_half i.more (seam_in (numbered 0 (is_forgiving ask) (issue_of p t nothing_kept ask).steps) (numbered 1 false (finish_of p t nothing_kept ask).steps) front e i.more i.is)
+    by_seam (inl i) = by_half i.more (seam_in (numbered_entries 0 (is_forgiving ask) (issue_of p t nothing_kept ask).steps) (numbered_entries 1 false (finish_of p t nothing_kept ask).steps) front e i.more i.is)
     by_seam (inr i) = (list_units p 1 (finish_of p t nothing_kept ask).kept (after t (actions_of (steps_at p t nothing_kept ask))) asks i.back e more i.is).0

@@ -1,9 +1,9 @@
 -- No entry is a poll of no turns.
 use Rattle.std.proofs.Common.{◌≡◌, ℕ, ◌+◌, ◌/◌, ◌%◌, ◌^◌, Bool, true, false, cond, ◌&&◌, List, [], ◌∷◌, ◌++◌, refl, ap}
 use Rattle.access_regs.specs.Entries.{JournalWeighs}
-use Rattle.access_regs.specs.Journal.{Issue, Step, actions_of, after_settling, before, by_cfg, by_cfg_read, by_csw, by_plan, entries_at, finish, finish_of, alone_at, done_alone, gives, is_alone, is_early, issue, issue_of, issued_from, large_of, last_action, making, numbered, parts_of, planned, port_of, steps_at, steps_of}
+use Rattle.access_regs.specs.Journal.{Issue, Step, actions_of, after_settling, before, by_cfg, by_cfg_read, by_csw, by_plan, entries_at, finish, finish_of, alone_at, done_alone, gives, is_alone, is_early, issue, issue_of, issued_from, large_of, last_action, making, numbered_entries, parts_of, issue_of_plan, port_of, steps_at, steps_of}
 use Rattle.access_regs.specs.Kept.{Kept, nothing_kept}
-use Rattle.access_regs.specs.Plan.{cfg_plan, first_plan, leads, learned, learned_cfg, needs_cfg, needs_csw, needs_settle, settle, settled}
+use Rattle.access_regs.specs.Plan.{cfg_plan, first_plan, leads, kept_after_csw, learned_cfg, needs_cfg, needs_csw, needs_settle, settle, kept_after_settling}
 use Rattle.target_calls.specs.Asks.{AreAskable}
 use Rattle.target_calls.specs.Weights.{AreWeighty, IsWeighty}
 use Rattle.target_calls.specs.declared.calls.Ask.{Ask}
@@ -13,7 +13,7 @@ use Rattle.dap_base.specs.Bits.{has_bit}
 use Rattle.dap_base.proofs.Basics.{second_true}
 use Rattle.target_machine.specs.Lists.{after}
 use Rattle.target_machine.specs.State.{TargetState}
-use Rattle.target_machine.specs.Plain.{Action, Makes, Commands, acted, is_fault, issued as made_of, call_done, ended, forgives, cfg_actions, memory_actions, after_cfg, unit_actions, has_large, needs_cfg as wants_cfg, contains, may_forgive, in_order, drw_of, ap_access_of}
+use Rattle.target_machine.specs.Plain.{Action, Makes, Commands, action_attempt, is_fault, issued_actions as made_of, call_done, ended_call, forgives, cfg_actions, memory_actions, after_cfg, unit_actions, has_large, needs_cfg as wants_cfg, contains, may_forgive, in_order, drw_of, ap_access_of}
 use Rattle.target_machine.specs.Sound.{IsSound, IsSoundCall}
 use Rattle.target_machine.specs.declared.access.RegAccess.{RegAccess}
 use Rattle.target_machine.specs.declared.unit.Call.{Call}
@@ -61,8 +61,8 @@ unfolding Weighs
 plan_weighs k asked h = weighs_both (steps_of Leads (leads k asked)) (record { part = Ends; action = last_action asked } ∷ []) (makes_weigh Leads (leads k asked)) (last_weighs asked h, tt)
 
 csw_weighs : (t : TargetState) (k : Kept) (asked : AccessUnit) → IsSound asked → Weighs (by_csw t k asked).steps
-csw_weighs t k asked h = either (needs_csw k asked) (before (steps_of Leads (first_plan k (port_of asked))) (by_plan (learned k (port_of asked) (gives t (first_plan k (port_of asked)))) asked)) (by_plan k asked)
-    (weighs_both (steps_of Leads (first_plan k (port_of asked))) (by_plan (learned k (port_of asked) (gives t (first_plan k (port_of asked)))) asked).steps (makes_weigh Leads (first_plan k (port_of asked))) (plan_weighs (learned k (port_of asked) (gives t (first_plan k (port_of asked)))) asked h)) (plan_weighs k asked h)
+csw_weighs t k asked h = either (needs_csw k asked) (before (steps_of Leads (first_plan k (port_of asked))) (by_plan (kept_after_csw k (port_of asked) (gives t (first_plan k (port_of asked)))) asked)) (by_plan k asked)
+    (weighs_both (steps_of Leads (first_plan k (port_of asked))) (by_plan (kept_after_csw k (port_of asked) (gives t (first_plan k (port_of asked)))) asked).steps (makes_weigh Leads (first_plan k (port_of asked))) (plan_weighs (kept_after_csw k (port_of asked) (gives t (first_plan k (port_of asked)))) asked h)) (plan_weighs k asked h)
 
 read_weighs : (t : TargetState) (k : Kept) (asked : AccessUnit) (cfg : ℕ) → IsSound asked → Weighs (by_cfg_read t k asked cfg).steps
 unfolding Weighs
@@ -76,9 +76,9 @@ cfg_weighs t k asked h =
     (csw_weighs t k asked h)
 
 settling_weighs : (t : TargetState) (k : Kept) (f : TargetState → Kept → Issue) → ((u : TargetState) (l : Kept) → Weighs (f u l).steps) → Weighs (after_settling t k f).steps
-settling_weighs t k f h = weighs_both (steps_of Settles (settle k)) (f (after t (making (settle k))) (settled k)).steps (makes_weigh Settles (settle k)) (h (after t (making (settle k))) (settled k))
+settling_weighs t k f h = weighs_both (steps_of Settles (settle k)) (f (after t (making (settle k))) (kept_after_settling k)).steps (makes_weigh Settles (settle k)) (h (after t (making (settle k))) (kept_after_settling k))
 
-planned_weighs : (t : TargetState) (k : Kept) (asked : AccessUnit) → IsSound asked → Weighs (planned t k asked).steps
+planned_weighs : (t : TargetState) (k : Kept) (asked : AccessUnit) → IsSound asked → Weighs (issue_of_plan t k asked).steps
 planned_weighs t k asked h = either (needs_settle k asked) (after_settling t k (λ u l. by_cfg u l asked)) (by_cfg t k asked) (settling_weighs t k (λ u l. by_cfg u l asked) (λ u l. cfg_weighs u l asked h)) (cfg_weighs t k asked h)
 
 -- ---- forgiving units
@@ -86,9 +86,9 @@ planned_weighs t k asked h = either (needs_settle k asked) (after_settling t k (
 issued_weighs : (t : TargetState) (xs : List Action) → ActionsWeigh xs → ActionsWeigh (made_of t xs)
 unfolding ActionsWeigh
 issued_weighs t [] h = tt
-issued_weighs t (x ∷ xs) h = (h.0, by_fault (is_fault (acted t x).outcome) (issued_weighs (acted t x).next xs h.1))
+issued_weighs t (x ∷ xs) h = (h.0, by_fault (is_fault (action_attempt t x).outcome) (issued_weighs (action_attempt t x).next xs h.1))
   where
-    by_fault : (b : Bool) → ActionsWeigh (made_of (acted t x).next xs) → ActionsWeigh (cond b [] (made_of (acted t x).next xs))
+    by_fault : (b : Bool) → ActionsWeigh (made_of (action_attempt t x).next xs) → ActionsWeigh (cond b [] (made_of (action_attempt t x).next xs))
     by_fault true k = tt
     by_fault false k = k
 
@@ -116,7 +116,7 @@ unit_weighs t large (unit.Ap read n addr value) e = (tt, (tt, tt))
 unit_weighs t large (unit.Dp read addr value) e = absurd (cc)
 unit_weighs t large (unit.Poll mask value turns) e = absurd (cc)
 
-ended_weighs : (b f s : Bool) (v : ℕ) (t : TargetState) (l : List ℕ) (xs : List Action) → ActionsWeigh xs → ActionsWeigh (ended b f s v t l xs).actions
+ended_weighs : (b f s : Bool) (v : ℕ) (t : TargetState) (l : List ℕ) (xs : List Action) → ActionsWeigh xs → ActionsWeigh (ended_call b f s v t l xs).actions
 unfolding ActionsWeigh
 ended_weighs true true s v t l xs h = actions_both xs (Commands forgives ∷ []) h (tt, tt)
 ended_weighs true false s v t l xs h = h
@@ -138,7 +138,7 @@ issue_weighs : (p : Planner) (t : TargetState) (k : Kept) (forgive : Bool) (call
 unfolding Weighs
 issue_weighs p t k forgive (Access asked) h = by_mark (is_alone p forgive && may_forgive (Access asked)) refl
   where
-    by_mark : (b : Bool) → (is_alone p forgive && may_forgive (Access asked)) ≡ b → Weighs (cond b (after_settling t k (alone_at forgive asked)) (planned t k asked)).steps
+    by_mark : (b : Bool) → (is_alone p forgive && may_forgive (Access asked)) ≡ b → Weighs (cond b (after_settling t k (alone_at forgive asked)) (issue_of_plan t k asked)).steps
     by_mark true e = settling_weighs t k (alone_at forgive asked) (λ u l. map_weighs (is_early asked (done_alone u l forgive asked).actions) asked (done_alone u l forgive asked).actions (done_weighs u (large_of l asked) forgive asked (second_true (is_alone p forgive) (may_forgive (Access asked)) e)))
     by_mark false e = planned_weighs t k asked h
 issue_weighs p t k forgive (Probe asked) h = (tt, tt)
@@ -148,7 +148,7 @@ unfolding Weighs
 finish_weighs true k = makes_weigh Settles (settle k)
 finish_weighs false k = tt
 
-numbered_weighs : (n : ℕ) (b : Bool) (steps : List Step) → Weighs steps → AreWeighty (numbered n b steps)
+numbered_weighs : (n : ℕ) (b : Bool) (steps : List Step) → Weighs steps → AreWeighty (numbered_entries n b steps)
 unfolding Weighs
 numbered_weighs n b [] h = tt
 numbered_weighs n b (s ∷ steps) h = (h.0, numbered_weighs n b steps h.1)
@@ -158,7 +158,7 @@ list_weighs p n k t [] h = tt
 list_weighs p n k t (ask ∷ asks) h =
     let c : Ask = ask in
     weighty_both (entries_at p n t k c) (issued_from p (n + 1) (finish_of p t k c).kept (after t (actions_of (steps_at p t k c))) asks)
-    (weighty_both (numbered n (c.forgive && may_forgive c.call) (issue_of p t k c).steps) (numbered (n + 1) false (finish_of p t k c).steps)
+    (weighty_both (numbered_entries n (c.forgive && may_forgive c.call) (issue_of p t k c).steps) (numbered_entries (n + 1) false (finish_of p t k c).steps)
     (numbered_weighs n (c.forgive && may_forgive c.call) (issue_of p t k c).steps (issue_weighs p t k c.forgive c.call h.0.sound)) (numbered_weighs (n + 1) false (finish_of p t k c).steps (finish_weighs c.settled (issue_of p t k c).kept)))
     (list_weighs p (n + 1) (finish_of p t k c).kept (after t (actions_of (steps_at p t k c))) asks h.1)
 

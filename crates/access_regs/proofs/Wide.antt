@@ -5,11 +5,11 @@ use Rattle.std.specs.FinMap as map
 use Rattle.std.proofs.lemmas.Bool.{cases_eq, eq-eqb, ne_eqb}
 use Rattle.std.proofs.lemmas.Nat.{and_block}
 use Rattle.std.specs.Int.Bits.{and_zero_r}
-use Rattle.std.proofs.Math.Bool.{and-false, or-true, or-false}
+use Rattle.std.proofs.Math.Bool.{and-false, or-true, or-false, or_assoc}
 use Rattle.target_machine.proofs.Agreement.{attempt_agrees}
 use Rattle.access_regs.proofs.Settle.{follows_agree}
-use Rattle.target_machine.specs.Attempt.{Attempt, attempt, posted, bus_error, acknowledges, register_value}
-use Rattle.target_machine.specs.Plain.{Action, Makes, in_order, contains, select_of, ap_access_of, is_fault, given, call_done, ended, result_of, needs_cfg, has_large, cfg_actions, csw_actions, memory_actions, transfer_actions, issued, CallDone}
+use Rattle.target_machine.specs.Attempt.{Attempt, attempt, posted_attempt, bus_error, acknowledges, register_value}
+use Rattle.target_machine.specs.Plain.{Action, Makes, in_order, contains, select_of, ap_access_of, is_fault, given_number, call_done, ended_call, result_of, needs_cfg, has_large, cfg_actions, csw_actions, memory_actions, transfer_actions, issued_actions, CallDone}
 use Rattle.target_machine.specs.State.{TargetState}
 use Rattle.target_machine.specs.declared.ap.ApState.{ApState}
 use Rattle.target_machine.specs.declared.access.RegAccess.{RegAccess}
@@ -19,7 +19,7 @@ use Rattle.target_machine.specs.declared.unit.Call.{Call}
 use Rattle.target_machine.specs.declared.unit.Call.TheVariants.{Access}
 use Rattle.target_machine.specs.declared.unit.Unit.{Unit as AccessUnit}
 use Rattle.target_machine.specs.declared.unit.Unit.TheVariants as unit
-use Rattle.access_regs.specs.Kept.{Kept, known, selected}
+use Rattle.access_regs.specs.Kept.{Kept, known_at, kept_with_select}
 use Rattle.access_regs.specs.Plan.{select_value, select_needed, cfg_plan, learned_cfg}
 use Rattle.access_regs.specs.Journal.{Issue, Step, making, steps_of, actions_of, before, gives, by_csw, by_cfg_read}
 use Rattle.access_regs.specs.Follows.{Follows, FollowsPort, unsettled_tar}
@@ -42,11 +42,7 @@ use Rattle.access_regs.proofs.Memory.{no_power, narrow_course, done_memory}
 
 contains_more : (xs : List ℕ) (n q : ℕ) → contains (xs ++ n ∷ []) q ≡ (contains xs q || (nat_eq q n || false))
 contains_more [] n q = refl
-contains_more (x ∷ xs) n q = ap (λ (b : Bool). nat_eq q x || b) (contains_more xs n q) ∙ or_or (nat_eq q x) (contains xs q) (nat_eq q n || false)
-  where
-    or_or : (a b c : Bool) → (a || (b || c)) ≡ ((a || b) || c)
-    or_or true b c = refl
-    or_or false b c = refl
+contains_more (x ∷ xs) n q = ap (λ (b : Bool). nat_eq q x || b) (contains_more xs n q) ∙ sym (or_assoc (nat_eq q x) (contains xs q) (nat_eq q n || false))
 
 pub contains_last : (xs : List ℕ) (n : ℕ) → contains (xs ++ n ∷ []) n ≡ true
 contains_last xs n = contains_more xs n n ∙ ap (λ (b : Bool). contains xs n || (b || false)) (eq-eqb n n refl) ∙ or-true (contains xs n)
@@ -66,13 +62,13 @@ cfg_bits n =
 
 pub record CfgRead (t : TargetState) : Type 0 where
   pub cfg : ℕ
-  pub is : attempt t cfg_access ≡ posted cfg t
+  pub is : attempt t cfg_access ≡ posted_attempt cfg t
 
-cfg_none : (t : TargetState) → t.sticky ≡ false → acknowledges t 0x1000_0000 ≡ true → map.get t.aps (t.select / 2 ^ 24) ≡ None → attempt t cfg_access ≡ posted 0 t
+cfg_none : (t : TargetState) → t.sticky ≡ false → acknowledges t 0x1000_0000 ≡ true → map.get t.aps (t.select / 2 ^ 24) ≡ None → attempt t cfg_access ≡ posted_attempt 0 t
 unfolding attempt
 cfg_none t clear power none = rw (clear, power, none) refl
 
-cfg_some : (t : TargetState) (p : ApState) → t.sticky ≡ false → acknowledges t 0x1000_0000 ≡ true → map.get t.aps (t.select / 2 ^ 24) ≡ Some p → bit_and t.select 0xF0 ≡ 0xF0 → attempt t cfg_access ≡ posted (register_value p 0xF4) t
+cfg_some : (t : TargetState) (p : ApState) → t.sticky ≡ false → acknowledges t 0x1000_0000 ≡ true → map.get t.aps (t.select / 2 ^ 24) ≡ Some p → bit_and t.select 0xF0 ≡ 0xF0 → attempt t cfg_access ≡ posted_attempt (register_value p 0xF4) t
 unfolding attempt
 cfg_some t p clear power some bank = rw (clear, power, some, bank) refl
 
@@ -102,7 +98,7 @@ record SameEnd (d e : CallDone) : Type 0 where
   next : d.next ≡ e.next
   list : d.large ≡ e.large
 
-ended_same : (b : Bool) (v : ℕ) (t : TargetState) (l : List ℕ) (xs ys : List Action) → SameEnd (ended b false false v t l xs) (ended b false false v t l ys)
+ended_same : (b : Bool) (v : ℕ) (t : TargetState) (l : List ℕ) (xs ys : List Action) → SameEnd (ended_call b false false v t l xs) (ended_call b false false v t l ys)
 ended_same true v t l xs ys = record { end = refl; next = refl; list = refl }
 ended_same false v t l xs ys = record { end = refl; next = refl; list = refl }
 
@@ -118,7 +114,7 @@ module _ (large : List ℕ) (size : ℕ) (read : Bool) (n address value : ℕ) (
   shape t w b =
       let actions : List Action = cond w (cfg_actions n ++ cond b (memory_actions (in_order t (cfg_actions n)).next true size read n address value) []) (memory_actions t (contains large n) size read n address value) in
       let ran : Attempt = in_order t actions in
-      ended (is_fault ran.outcome) false (w && not b) (result_of call (given ran.outcome)) ran.next (cond (w && b) (large ++ n ∷ []) large) (issued t actions)
+      ended_call (is_fault ran.outcome) false (w && not b) (result_of call (given_number ran.outcome)) ran.next (cond (w && b) (large ++ n ∷ []) large) (issued_actions t actions)
 
   by_definition : (t : TargetState) → call_done t large false call ≡ shape t (needs_cfg large n address) (has_large t n)
   unfolding call_done
@@ -132,7 +128,7 @@ module _ (large : List ℕ) (size : ℕ) (read : Bool) (n address value : ℕ) (
     us = at_select u n 0xF
 
     abbrev k1 : Kept
-    k1 = selected k (select_value n 0xF)
+    k1 = kept_with_select k (select_value n 0xF)
 
     abbrev d : CallDone
     d = call_done t large false call
@@ -146,10 +142,10 @@ module _ (large : List ℕ) (size : ℕ) (read : Bool) (n address value : ℕ) (
     cfg_order : in_order t (cfg_actions n) ≡ attempt ts cfg_access
     cfg_order = pass_last t ts (Makes (select_of n 0xF) ∷ []) (Makes cfg_access) (plain_select k large t u f n 0xF lt (omega arith))
 
-    gives_is : gives u (cfg_plan k n) ≡ given (attempt us cfg_access).outcome
+    gives_is : gives u (cfg_plan k n) ≡ given_number (attempt us cfg_access).outcome
     gives_is =
-        ap (λ (l : List Action). given (in_order u l).outcome) (making_append (select_needed k n 0xF) (cfg_access ∷ []))
-        ∙ ap (λ (x : Attempt). given x.outcome) (pass_last u us (making (select_needed k n 0xF)) (Makes cfg_access) (planned_select k large t u f n 0xF lt (omega arith)))
+        ap (λ (l : List Action). given_number (in_order u l).outcome) (making_append (select_needed k n 0xF) (cfg_access ∷ []))
+        ∙ ap (λ (x : Attempt). given_number x.outcome) (pass_last u us (making (select_needed k n 0xF)) (Makes cfg_access) (planned_select k large t u f n 0xF lt (omega arith)))
 
     shape_is : (b : Bool) → has_large t n ≡ b → d ≡ shape t true b
     shape_is b e = by_definition t ∙ ap (λ (w : Bool). shape t w (has_large t n)) wide ∙ ap (shape t true) e
@@ -159,11 +155,11 @@ module _ (large : List ℕ) (size : ℕ) (read : Bool) (n address value : ℕ) (
     short rest x e = ap (in_order t) (append-nil (cfg_actions n)) ∙ e
 
     abbrev short_done : Attempt → CallDone
-    short_done x = ended (is_fault x.outcome) false true (result_of call (given x.outcome)) x.next large (issued t (cfg_actions n ++ []))
+    short_done x = ended_call (is_fault x.outcome) false true (result_of call (given_number x.outcome)) x.next large (issued_actions t (cfg_actions n ++ []))
 
-    short_is : (x : Attempt) → attempt ts cfg_access ≡ x → has_bit (given x.outcome) 2 ≡ false → d ≡ short_done x
+    short_is : (x : Attempt) → attempt ts cfg_access ≡ x → has_bit (given_number x.outcome) 2 ≡ false → d ≡ short_done x
     short_is x e none =
-        shape_is false (ap (λ (y : Attempt). has_bit (given y.outcome) 2) (cfg_order ∙ e) ∙ none)
+        shape_is false (ap (λ (y : Attempt). has_bit (given_number y.outcome) 2) (cfg_order ∙ e) ∙ none)
         ∙ ap short_done (short [] x (cfg_order ∙ e))
 
     abbrev cfg_issue : ℕ → Issue
@@ -216,7 +212,7 @@ module _ (large : List ℕ) (size : ℕ) (read : Bool) (n address value : ℕ) (
       u2 = record us { rdbuff = ru.cfg }
 
       gives_cfg : gives u (cfg_plan k n) ≡ ru.cfg
-      gives_cfg = gives_is ∙ ap (λ (x : Attempt). given x.outcome) ru.is
+      gives_cfg = gives_is ∙ ap (λ (x : Attempt). given_number x.outcome) ru.is
 
       plan_pass : PassTo u (making (cfg_plan k n)) u2
       plan_pass =
@@ -232,21 +228,21 @@ module _ (large : List ℕ) (size : ℕ) (read : Bool) (n address value : ℕ) (
           pass_append t ts t2 (Makes (select_of n 0xF) ∷ []) (Makes cfg_access ∷ []) (plain_select k large t u f n 0xF lt (omega arith))
           (ap (λ (x : Attempt). is_fault x.outcome) rt.is, ap (λ (x : Attempt). x.next) (sym rt.is))
 
-      not_known : (known k n).large ≡ false
+      not_known : (known_at k n).large ≡ false
       not_known = f.larges n lt ∙ and_not (nat_lt 0xFFFF_FFFF address) (contains large n) wide
 
       abbrev a : ℕ → Known
-      a cfg = record (known k n) { large = (known k n).large || has_bit cfg 2 }
+      a cfg = record (known_at k n) { large = (known_at k n).large || has_bit cfg 2 }
 
       port : (cfg : ℕ) → FollowsPort (a cfg) (unsettled_tar k n) (map.get ts.aps n) (map.get us.aps n)
-      port cfg = port_large (known k n) (unsettled_tar k n) ((known k n).large || has_bit cfg 2) (map.get ts.aps n) (map.get us.aps n) (f1.ports n)
+      port cfg = port_large (known_at k n) (unsettled_tar k n) ((known_at k n).large || has_bit cfg 2) (map.get ts.aps n) (map.get us.aps n) (f1.ports n)
 
       -- the AP has no large addresses
       small_course : has_bit ru.cfg 2 ≡ false → Course (cfg_issue ru.cfg) d call u
       small_course none =
-          let e : d ≡ short_done (posted rt.cfg ts) = short_is (posted rt.cfg ts) rt.is (ap (λ (x : ℕ). has_bit x 2) (sym same_cfg) ∙ none) in
+          let e : d ≡ short_done (posted_attempt rt.cfg ts) = short_is (posted_attempt rt.cfg ts) rt.is (ap (λ (x : ℕ). has_bit x 2) (sym same_cfg) ∙ none) in
           let g : Follows (learned_cfg k n ru.cfg) large ts us =
-          follows_known k1 large ts us f1 n (a ru.cfg) lt (ap (λ (b : Bool). (known k n).large || b) none ∙ or-false (known k n).large) (port ru.cfg) in
+          follows_known k1 large ts us f1 n (a ru.cfg) lt (ap (λ (b : Bool). (known_at k n).large || b) none ∙ or-false (known_at k n).large) (port ru.cfg) in
           let h : Follows (learned_cfg k n ru.cfg) large t2 u2 = follows_rdbuff (learned_cfg k n ru.cfg) large ts us g rt.cfg ru.cfg in
           let nothing : Issue = record { steps = steps_of Leads (cfg_plan k n) ++ []; kept = learned_cfg k n ru.cfg } in
           let c : Course nothing d call u = small (record {
@@ -268,18 +264,18 @@ module _ (large : List ℕ) (size : ℕ) (read : Bool) (n address value : ℕ) (
       table : n < length k.ports
       table = let e = f.table in let l : n < 256 = lt in omega arith
 
-      here : known k2 n ≡ a ru.cfg
+      here : known_at k2 n ≡ a ru.cfg
       here = known_same k n (a ru.cfg) table
 
-      large_at : has_bit ru.cfg 2 ≡ true → (q : ℕ) → q < 256 → (q ≡ n) ⊎ (q ≢ n) → (known k2 q).large ≡ contains large' q
+      large_at : has_bit ru.cfg 2 ≡ true → (q : ℕ) → q < 256 → (q ≡ n) ⊎ (q ≢ n) → (known_at k2 q).large ≡ contains large' q
       large_at big q less (inl same) =
-          ap (λ (i : ℕ). (known k2 i).large) same ∙ ap (λ (x : Known). x.large) here ∙ ap (λ (b : Bool). (known k n).large || b) big ∙ or-true (known k n).large
+          ap (λ (i : ℕ). (known_at k2 i).large) same ∙ ap (λ (x : Known). x.large) here ∙ ap (λ (b : Bool). (known_at k n).large || b) big ∙ or-true (known_at k n).large
           ∙ sym (ap (contains large') same ∙ contains_last large n)
       large_at big q less (inr ne) = ap (λ (x : Known). x.large) (known_other k n q (a ru.cfg) ne) ∙ f.larges q less ∙ sym (contains_other large n q ne)
 
-      port_at : (q : ℕ) → (q ≡ n) ⊎ (q ≢ n) → FollowsPort (known k2 q) (unsettled_tar k q) (map.get ts.aps q) (map.get us.aps q)
+      port_at : (q : ℕ) → (q ≡ n) ⊎ (q ≢ n) → FollowsPort (known_at k2 q) (unsettled_tar k q) (map.get ts.aps q) (map.get us.aps q)
       port_at q (inl same) =
-          subst (λ (i : ℕ). FollowsPort (known k2 i) (unsettled_tar k i) (map.get ts.aps i) (map.get us.aps i)) (sym same)
+          subst (λ (i : ℕ). FollowsPort (known_at k2 i) (unsettled_tar k i) (map.get ts.aps i) (map.get us.aps i)) (sym same)
           (subst (λ (c : Known). FollowsPort c (unsettled_tar k n) (map.get ts.aps n) (map.get us.aps n)) (sym here) (port ru.cfg))
       port_at q (inr ne) = subst (λ (c : Known). FollowsPort c (unsettled_tar k q) (map.get ts.aps q) (map.get us.aps q)) (sym (known_other k n q (a ru.cfg) ne)) (f.ports q)
 
@@ -303,35 +299,35 @@ module _ (large : List ℕ) (size : ℕ) (read : Bool) (n address value : ℕ) (
       M l = memory_actions t2 l size read n address value
 
       abbrev of : List Action → Attempt → CallDone
-      of actions x = ended (is_fault x.outcome) false false (result_of call (given x.outcome)) x.next large' actions
+      of actions x = ended_call (is_fault x.outcome) false false (result_of call (given_number x.outcome)) x.next large' actions
 
       whole_order : in_order t (cfg_actions n ++ memory_actions (in_order t (cfg_actions n)).next true size read n address value) ≡ in_order t2 (M true)
       whole_order =
           ap (λ (x : Attempt). in_order t (cfg_actions n ++ memory_actions x.next true size read n address value)) (cfg_order ∙ rt.is)
           ∙ pass_on t t2 (cfg_actions n) (Makes (select_of n 0))
-          (Makes (ap_access_of true 0 0) ∷ transfer_actions true size read address value (given (in_order t2 (csw_actions n)).outcome)) plain_pass
+          (Makes (ap_access_of true 0 0) ∷ transfer_actions true size read address value (given_number (in_order t2 (csw_actions n)).outcome)) plain_pass
 
-      d_is : has_bit ru.cfg 2 ≡ true → d ≡ of (issued t (cfg_actions n ++ memory_actions (in_order t (cfg_actions n)).next true size read n address value)) (in_order t2 (M true))
+      d_is : has_bit ru.cfg 2 ≡ true → d ≡ of (issued_actions t (cfg_actions n ++ memory_actions (in_order t (cfg_actions n)).next true size read n address value)) (in_order t2 (M true))
       d_is big =
-          shape_is true (ap (λ (y : Attempt). has_bit (given y.outcome) 2) (cfg_order ∙ rt.is) ∙ ap (λ (x : ℕ). has_bit x 2) (sym same_cfg) ∙ big)
-          ∙ ap (of (issued t (cfg_actions n ++ memory_actions (in_order t (cfg_actions n)).next true size read n address value))) whole_order
+          shape_is true (ap (λ (y : Attempt). has_bit (given_number y.outcome) 2) (cfg_order ∙ rt.is) ∙ ap (λ (x : ℕ). has_bit x 2) (sym same_cfg) ∙ big)
+          ∙ ap (of (issued_actions t (cfg_actions n ++ memory_actions (in_order t (cfg_actions n)).next true size read n address value))) whole_order
 
       narrow : needs_cfg large' n address ≡ false
       narrow = ap (λ (b : Bool). nat_lt 0xFFFF_FFFF address && not b) (contains_last large n) ∙ and-false (nat_lt 0xFFFF_FFFF address)
 
-      d2_is : d2 ≡ of (issued t2 (M (contains large' n))) (in_order t2 (M true))
+      d2_is : d2 ≡ of (issued_actions t2 (M (contains large' n))) (in_order t2 (M true))
       d2_is =
           done_memory t2 large' size read n address value narrow
-          ∙ ap (λ (l : Bool). of (issued t2 (M (contains large' n))) (in_order t2 (M l))) (contains_last large n)
+          ∙ ap (λ (l : Bool). of (issued_actions t2 (M (contains large' n))) (in_order t2 (M l))) (contains_last large n)
 
       big_course : has_bit ru.cfg 2 ≡ true → Course (cfg_issue ru.cfg) d call u
       big_course big =
           let c : Course (by_csw u2 k2 asked) d2 call u2 =
           narrow_course large' size read n address value lt is aligned k2 t2 u2 (joined big) narrow (λ s e. (let x : ◌≡◌ {A = Option Unsettled} None (Some s) = sym calm ∙ e in absurd (cc))) in
           let x : Attempt = in_order t2 (M true) in
-          let acts : List Action = issued t (cfg_actions n ++ memory_actions (in_order t (cfg_actions n)).next true size read n address value) in
-          let acts2 : List Action = issued t2 (M (contains large' n)) in
-          let same = ended_same (is_fault x.outcome) (result_of call (given x.outcome)) x.next large' acts acts2 in
+          let acts : List Action = issued_actions t (cfg_actions n ++ memory_actions (in_order t (cfg_actions n)).next true size read n address value) in
+          let acts2 : List Action = issued_actions t2 (M (contains large' n)) in
+          let same = ended_same (is_fault x.outcome) (result_of call (given_number x.outcome)) x.next large' acts acts2 in
           let b : Course (by_csw u2 k2 asked) d call u2 =
           course_like (by_csw u2 k2 asked) d2 d call u2
           (ap (λ (c : CallDone). c.end) (d_is big) ∙ same.end ∙ sym (ap (λ (c : CallDone). c.end) d2_is))

@@ -1,6 +1,6 @@
 -- Calls made alone and at once, one after the other; and what the journal says of them.
 use Rattle.std.specs.Prelude.{◌≡◌, ◌≢◌, ℕ, true, false, List, [], ◌∷◌, ◌++◌, ⊤}
-use Rattle.target_machine.specs.Plain.{Action, acted, call_done, given, is_fault, result_of, CallDone, Faulted}
+use Rattle.target_machine.specs.Plain.{Action, action_attempt, call_done, given_number, is_fault, result_of, CallDone, Faulted}
 use Rattle.target_machine.specs.State.{TargetState}
 use Rattle.target_machine.specs.declared.unit.Call.{Call}
 use Rattle.target_calls.specs.Journal.{Entry, Passes, target_after}
@@ -32,7 +32,7 @@ pub record StopsAt (t : TargetState) (entries : List Entry) (front : List Entry)
   pub more : List Entry
   pub is : entries ≡ front ++ entry ∷ more
   pub passes : Passes t front
-  pub faults : is_fault (acted (target_after t front) entry.action).outcome ≡ true
+  pub faults : is_fault (action_attempt (target_after t front) entry.action).outcome ≡ true
   pub strict : entry.forgiving ≡ false
 
 -- It is an own entry of this unit, and leaves the memory of this target.
@@ -42,7 +42,7 @@ pub record StopsInLast (t : TargetState) (entries : List Entry) (units : ℕ) (l
   pub stops : StopsAt t entries front entry
   pub unit : entry.unit ≡ units
   pub own : entry.part ≢ Settles
-  pub words : (acted (target_after t front) entry.action).next.words ≡ left.words
+  pub words : (action_attempt (target_after t front) entry.action).next.words ≡ left.words
 
 -- The result of a call is given by the entry that its unit is for.
 pub record AnswersWith (t : TargetState) (entries : List Entry) (units : ℕ) (call : Call) (n : ℕ) : Type 0 where
@@ -52,12 +52,12 @@ pub record AnswersWith (t : TargetState) (entries : List Entry) (units : ℕ) (c
   pub is : entries ≡ front ++ entry ∷ more
   pub unit : entry.unit ≡ units
   pub ends : entry.part ≡ Ends
-  pub gives : result_of call (given (acted (target_after t front) entry.action).outcome) ≡ n
+  pub gives : result_of call (given_number (action_attempt (target_after t front) entry.action).outcome) ≡ n
 
 -- Each step but the one that its unit is for leaves the memory as it is.
 abbrev pub KeepsMemory : TargetState → List Step → Type 0
 KeepsMemory t [] = ⊤
-KeepsMemory t (s ∷ steps) = (s.part ≢ Ends → (acted t s.action).next.words ≡ t.words) × KeepsMemory (acted t s.action).next steps
+KeepsMemory t (s ∷ steps) = (s.part ≢ Ends → (action_attempt t s.action).next.words ≡ t.words) × KeepsMemory (action_attempt t s.action).next steps
 
 -- what the calls issue, each made alone
 abbrev pub actions_alone : TargetState → List ℕ → List Ask → List Action

@@ -8,7 +8,7 @@ use Rattle.target_calls.specs.declared.calls.Ask.{Ask}
 use Rattle.target_calls.specs.declared.journal.Part.{Part}
 use Rattle.target_calls.specs.declared.journal.Part.TheVariants.{Settles, Leads, Ends, Skips}
 use Rattle.access_regs.specs.Alone.{alone_after}
-use Rattle.access_regs.specs.Journal.{issued}
+use Rattle.access_regs.specs.Journal.{issued_entries}
 use Rattle.access_regs.specs.declared.planner.Planner.{Planner}
 
 -- the entry is the access that its unit is for, or the skip of its unit
@@ -30,7 +30,7 @@ closed_after units entries = fold closed_by units entries
 -- the last one whose own access or skip is among them. Neither settling nor what comes before that access changes it.
 abbrev pub MemoryFollowsCalls : Type 0
 MemoryFollowsCalls = (p : Planner) (t : TargetState) (calls : List Ask) (front more : List Entry) → IsFresh t → AreAskable calls → Passes t front →
-    issued p t calls ≡ front ++ more →
+    issued_entries p t calls ≡ front ++ more →
     (target_after t front).words ≡ (alone_after t [] (take (closed_after 0 front) calls)).words
 
 -- How many units these entries made, where so many units have their lines before the next entry. They are those, and the next unit where its own
@@ -55,5 +55,5 @@ pub record IsMadeAt (t : TargetState) (calls : List Ask) (front : List Entry) (e
 -- units leave which were made by then.
 abbrev pub MemoryAtEntry : Type 0
 MemoryAtEntry = (p : Planner) (t : TargetState) (calls : List Ask) (front : List Entry) (e : Entry) (more : List Entry) → IsFresh t → AreAskable calls →
-    issued p t calls ≡ front ++ e ∷ more → Passes t front →
+    issued_entries p t calls ≡ front ++ e ∷ more → Passes t front →
     IsMadeAt t calls front e

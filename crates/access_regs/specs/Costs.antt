@@ -19,9 +19,9 @@ use Rattle.target_calls.specs.declared.calls.Ask.{Ask}
 use Rattle.target_calls.specs.declared.journal.Part.{Part}
 use Rattle.target_calls.specs.declared.journal.Part.TheVariants.{Leads}
 use Rattle.access_regs.specs.Entries.{kept_by, target_by}
-use Rattle.access_regs.specs.Journal.{Step, alone_at, gives, issue_of, making, planned, port_of}
+use Rattle.access_regs.specs.Journal.{Step, alone_at, gives, issue_of, making, issue_of_plan, port_of}
 use Rattle.access_regs.specs.Kept.{Kept}
-use Rattle.access_regs.specs.Plan.{bank_zero, cfg_plan, learned_cfg, needs_cfg, needs_csw, needs_settle, settle, settled}
+use Rattle.access_regs.specs.Plan.{bank_zero, cfg_plan, learned_cfg, needs_cfg, needs_csw, needs_settle, settle, kept_after_settling}
 use Rattle.access_regs.specs.declared.planner.Planner.{Planner}
 use Rattle.access_regs.specs.declared.planner.Planner.TheVariants.{Managed, Plain}
 
@@ -75,10 +75,10 @@ cost_by Plain t asks ask = record { before = 0; after = 0 }
 -- that shows no large addresses.
 abbrev pub PlannedReads : Type 0
 PlannedReads = (t : TargetState) (k : Kept) (asked : AccessUnit) →
-    let l : Kept = if needs_settle k asked then settled k else k in
+    let l : Kept = if needs_settle k asked then kept_after_settling k else k in
     let u : TargetState = after t (making (if needs_settle k asked then settle k else [])) in
     let cfg : ℕ = gives u (cfg_plan l (port_of asked)) in
-    leading_reads (planned t k asked).steps
+    leading_reads (issue_of_plan t k asked).steps
     ≡ (if needs_cfg l asked then 1 + (if has_bit cfg cfg_la then one_if (needs_csw (learned_cfg l (port_of asked) cfg) asked) else 0) else one_if (needs_csw l asked))
 
 -- Reads of CSW and CFG of a unit that is made alone: CFG where it is needed, and CSW, except after a CFG that shows no large addresses.

@@ -6,7 +6,7 @@ use Rattle.target_machine.specs.Plain.{contains}
 use Rattle.target_machine.specs.Registers.{select_stored, cdbgpwrupreq}
 use Rattle.target_machine.specs.State.{TargetState}
 use Rattle.target_machine.specs.declared.ap.ApState.{ApState}
-use Rattle.access_regs.specs.Kept.{Kept, known, csw_of}
+use Rattle.access_regs.specs.Kept.{Kept, known_at, csw_of}
 use Rattle.access_regs.specs.Plan.{select_value, increment_off}
 use Rattle.access_regs.specs.declared.known.Known.{Known}
 use Rattle.access_regs.specs.declared.known.Unsettled.{Unsettled}
@@ -51,6 +51,6 @@ pub record Follows (k : Kept) (large : List ℕ) (plain planned : TargetState) :
   pub few : plain.power_reads < 2 ^ 32
   pub table : length k.ports ≡ 256
   pub select : (v : ℕ) → k.select ≡ Some v → plain.select ≡ bit_and v select_stored
-  pub larges : (ap : ℕ) → ap < 256 → (known k ap).large ≡ contains large ap
-  pub ports : (ap : ℕ) → FollowsPort (known k ap) (unsettled_tar k ap) (map.get plain.aps ap) (map.get planned.aps ap)
+  pub larges : (ap : ℕ) → ap < 256 → (known_at k ap).large ≡ contains large ap
+  pub ports : (ap : ℕ) → FollowsPort (known_at k ap) (unsettled_tar k ap) (map.get plain.aps ap) (map.get planned.aps ap)
   pub unsettled : (s : Unsettled) → k.unsettled ≡ Some s → (k.select ≡ Some (select_value s.ap 0)) × (s.ap < 256) × (acknowledges plain cdbgpwrupreq ≡ true)

@@ -3,7 +3,7 @@ use Rattle.std.specs.Prelude.{ℕ, ◌+◌, Bool, true, false, not, ◌&&◌, if
 use Rattle.std.specs.List.{list_any}
 use Rattle.dap_base.specs.Bits.{has_bit}
 use Rattle.target_machine.specs.Lists.{after}
-use Rattle.target_machine.specs.Plain.{Action, Makes, Polls, Commands, given, in_order, CallDone, call_done, contains, may_forgive}
+use Rattle.target_machine.specs.Plain.{Action, Makes, Polls, Commands, given_number, in_order, CallDone, call_done, contains, may_forgive}
 use Rattle.target_machine.specs.Registers.{select_address, drw_register, cfg_la}
 use Rattle.target_machine.specs.State.{TargetState}
 use Rattle.target_machine.specs.declared.access.RegAccess.{RegAccess}
@@ -16,11 +16,11 @@ use Rattle.target_calls.specs.Journal.{Entry, settles, target_after}
 use Rattle.target_calls.specs.declared.calls.Ask.{Ask}
 use Rattle.target_calls.specs.declared.journal.Part.{Part}
 use Rattle.target_calls.specs.declared.journal.Part.TheVariants.{Settles, Leads, Ends, Skips}
-use Rattle.access_regs.specs.Kept.{Kept, known, with_known, forgotten, nothing_kept}
+use Rattle.access_regs.specs.Kept.{Kept, known_at, with_known, forgotten, nothing_kept}
 use Rattle.access_regs.specs.declared.planner.Planner.{Planner}
 use Rattle.access_regs.specs.declared.planner.Planner.TheVariants.{Managed, Plain}
-use Rattle.access_regs.specs.Plan.{leads, last_access, made, select_value, needs_csw, first_plan, learned, needs_cfg, cfg_plan, learned_cfg, settle, settled}
-use Rattle.access_regs.specs.Plan.{needs_settle}
+use Rattle.access_regs.specs.Plan.{leads, last_access, kept_after_plan, select_value, needs_csw, first_plan, kept_after_csw, needs_cfg, cfg_plan}
+use Rattle.access_regs.specs.Plan.{learned_cfg, settle, kept_after_settling, needs_settle}
 
 -- accesses as actions
 abbrev pub making : List RegAccess → List Action
@@ -28,7 +28,7 @@ making accesses = map (λ a. Makes a) accesses
 
 -- what the last of these accesses gives; a fault counts as 0
 abbrev pub gives : TargetState → List RegAccess → ℕ
-gives t accesses = given (in_order t (making accesses)).outcome
+gives t accesses = given_number (in_order t (making accesses)).outcome
 
 -- An action, and what it is to its unit.
 pub record Step : Type 0 where
@@ -59,7 +59,7 @@ last_action asked = Makes (last_access asked)
 
 -- the plan, or a poll
 abbrev pub by_plan : Kept → AccessUnit → Issue
-by_plan k asked = record { steps = steps_of Leads (leads k asked) ++ record { part = Ends; action = last_action asked } ∷ []; kept = made k asked }
+by_plan k asked = record { steps = steps_of Leads (leads k asked) ++ record { part = Ends; action = last_action asked } ∷ []; kept = kept_after_plan k asked }
 
 -- the AP of a memory or AP unit
 abbrev pub port_of : AccessUnit → ℕ
@@ -71,7 +71,7 @@ port_of _ = 0
 abbrev pub by_csw : TargetState → Kept → AccessUnit → Issue
 by_csw t k asked =
     if needs_csw k asked
-    then before (steps_of Leads (first_plan k (port_of asked))) (by_plan (learned k (port_of asked) (gives t (first_plan k (port_of asked)))) asked)
+    then before (steps_of Leads (first_plan k (port_of asked))) (by_plan (kept_after_csw k (port_of asked) (gives t (first_plan k (port_of asked)))) asked)
     else by_plan k asked
 
 -- after the read of CFG: nothing more where the AP has no large addresses
@@ -90,11 +90,11 @@ by_cfg t k asked =
 
 -- settling, and then what follows it
 abbrev pub after_settling : TargetState → Kept → (TargetState → Kept → Issue) → Issue
-after_settling t k next = before (steps_of Settles (settle k)) (next (after t (making (settle k))) (settled k))
+after_settling t k next = before (steps_of Settles (settle k)) (next (after t (making (settle k))) (kept_after_settling k))
 
 -- A unit that is not forgiving.
-abbrev pub planned : TargetState → Kept → AccessUnit → Issue
-planned t k asked = if needs_settle k asked then after_settling t k (λ u l. by_cfg u l asked) else by_cfg t k asked
+abbrev pub issue_of_plan : TargetState → Kept → AccessUnit → Issue
+issue_of_plan t k asked = if needs_settle k asked then after_settling t k (λ u l. by_cfg u l asked) else by_cfg t k asked
 
 -- ---- units made alone: settling, and then the accesses of the unit as it is made alone
 
@@ -125,7 +125,7 @@ parts_of early asked actions = map (λ a. record { part = part_of early asked a;
 
 -- the list of APs with large addresses, as far as the unit asks it
 abbrev pub large_of : Kept → AccessUnit → List ℕ
-large_of k asked = if (known k (port_of asked)).large then port_of asked ∷ [] else []
+large_of k asked = if (known_at k (port_of asked)).large then port_of asked ∷ [] else []
 
 -- SELECT as an action leaves it
 abbrev pub select_written : Option ℕ → Action → Option ℕ
@@ -139,7 +139,7 @@ select_after old actions = fold select_written old actions
 -- what is known after a unit made alone: of its AP only whether it has large addresses, and SELECT
 abbrev pub kept_after : Kept → AccessUnit → CallDone → Kept
 kept_after k asked d =
-    record (with_known k (port_of asked) (record (forgotten (known k (port_of asked))) { large = contains d.large (port_of asked) }))
+    record (with_known k (port_of asked) (record (forgotten (known_at k (port_of asked))) { large = contains d.large (port_of asked) }))
     { select = select_after k.select d.actions }
 
 -- a unit made alone, which forgives a fault or not, where nothing is unsettled
@@ -156,7 +156,7 @@ alone_at forgive asked t k = issue_done k asked (done_alone t k forgive asked)
 
 -- what is known after a unit made alone that wrote SELECT with this bank last, by whether its AP has large addresses
 abbrev pub kept_alone : Kept → ℕ → ℕ → Bool → Kept
-kept_alone k ap bank large = record (with_known k ap (record (forgotten (known k ap)) { large = large })) { select = Some (select_value ap bank) }
+kept_alone k ap bank large = record (with_known k ap (record (forgotten (known_at k ap)) { large = large })) { select = Some (select_value ap bank) }
 
 -- ---- calls
 
@@ -167,19 +167,19 @@ is_alone Plain forgive = true
 
 -- What a call issues.
 abbrev pub issue : Planner → TargetState → Kept → Bool → Call → Issue
-issue p t k forgive (Access asked) = if is_alone p forgive && may_forgive (Access asked) then after_settling t k (alone_at forgive asked) else planned t k asked
+issue p t k forgive (Access asked) = if is_alone p forgive && may_forgive (Access asked) then after_settling t k (alone_at forgive asked) else issue_of_plan t k asked
 issue p t k forgive (Probe asked) = record { steps = record { part = Ends; action = Commands asked } ∷ []; kept = k }
 
 -- A `finish` after a call settles.
 abbrev pub finish : Bool → Kept → Issue
-finish true k = record { steps = steps_of Settles (settle k); kept = settled k }
+finish true k = record { steps = steps_of Settles (settle k); kept = kept_after_settling k }
 finish false k = record { steps = []; kept = k }
 
 -- ---- lists of calls
 
 -- entries after so many units, which an entry that settles does not begin
-abbrev pub numbered : ℕ → Bool → List Step → List Entry
-numbered units forgiving steps =
+abbrev pub numbered_entries : ℕ → Bool → List Step → List Entry
+numbered_entries units forgiving steps =
     map (λ s. record { unit = if settles s.part then units else units + 1; part = s.part; forgiving = forgiving && not (settles s.part); action = s.action }) steps
 
 -- what a call issues with its mark of forgiving
@@ -196,7 +196,7 @@ steps_at p t k c = (issue_of p t k c).steps ++ (finish_of p t k c).steps
 
 -- the entries of both, after so many units
 abbrev pub entries_at : Planner → ℕ → TargetState → Kept → Ask → List Entry
-entries_at p units t k c = numbered units (is_forgiving c) (issue_of p t k c).steps ++ numbered (units + 1) false (finish_of p t k c).steps
+entries_at p units t k c = numbered_entries units (is_forgiving c) (issue_of p t k c).steps ++ numbered_entries (units + 1) false (finish_of p t k c).steps
 
 -- what is known after both
 abbrev pub kept_at : Planner → TargetState → Kept → Ask → Kept
@@ -217,8 +217,8 @@ kept_from p k t [] = k
 kept_from p k t (c ∷ cs) = kept_from p (kept_at p t k c) (target_at p t k c) cs
 
 -- The journal of calls, from a target of which nothing is known.
-abbrev pub issued : Planner → TargetState → List Ask → List Entry
-issued p t calls = issued_from p 0 nothing_kept t calls
+abbrev pub issued_entries : Planner → TargetState → List Ask → List Entry
+issued_entries p t calls = issued_from p 0 nothing_kept t calls
 
 -- The target after the first k entries, one at a time.
 abbrev pub after_entries : TargetState → List Entry → ℕ → TargetState

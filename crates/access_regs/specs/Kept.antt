@@ -19,8 +19,8 @@ abbrev pub nothing_kept : Kept
 nothing_kept = record { select = None; ports = replicate 256 unknown; unsettled = None }
 
 -- what is known of the access port of this number
-abbrev pub known : Kept → ℕ → Known
-known k ap = slice_index_or k.ports ap unknown
+abbrev pub known_at : Kept → ℕ → Known
+known_at k ap = slice_index_or k.ports ap unknown
 
 -- this is known of the access port now
 abbrev pub with_known : Kept → ℕ → Known → Kept
@@ -41,8 +41,8 @@ forgotten n = record n { csw = None; tar = None; high = None }
 
 -- CSW, TAR and its upper word of this access port are no longer known.
 abbrev pub forget : Kept → ℕ → Kept
-forget k ap = with_known k ap (forgotten (known k ap))
+forget k ap = with_known k ap (forgotten (known_at k ap))
 
 -- SELECT was written with this value.
-abbrev pub selected : Kept → ℕ → Kept
-selected k value = record k { select = Some value }
+abbrev pub kept_with_select : Kept → ℕ → Kept
+kept_with_select k value = record k { select = Some value }

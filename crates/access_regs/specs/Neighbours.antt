@@ -8,7 +8,7 @@ use Rattle.target_machine.specs.declared.unit.Unit.TheVariants as unit
 use Rattle.access_regs.specs.Journal.{entries_at, issued_from}
 use Rattle.target_calls.specs.Journal.{Entry, actions_in, settles}
 use Rattle.target_calls.specs.declared.calls.Ask.{Ask}
-use Rattle.access_regs.specs.Kept.{Kept, known}
+use Rattle.access_regs.specs.Kept.{Kept, known_at}
 use Rattle.access_regs.specs.declared.planner.Planner.TheVariants.{Managed}
 
 -- how many entries are their unit's own, and settle nothing
@@ -37,7 +37,7 @@ more_than_one_each large address = if large then 5 else (if nat_lt address (2 ^ 
 abbrev pub NeighboursAreFew : Type 0
 NeighboursAreFew = (units : ℕ) (k : Kept) (t : TargetState) (size ap address : ℕ) (calls : List Ask) →
     length k.ports ≡ 256 → ap < 256 → ((size ≡ 1) ⊎ ((size ≡ 2) ⊎ (size ≡ 4))) → address % size ≡ 0 → address % 1024 + size * length calls ≤ 1024 →
-    AreNeighbours size ap address calls → own_entries (issued_from Managed units k t calls) ≤ length calls + more_than_one_each (known k ap).large address
+    AreNeighbours size ap address calls → own_entries (issued_from Managed units k t calls) ≤ length calls + more_than_one_each (known_at k ap).large address
 
 -- the access by DRW of a call, where that is a memory unit
 abbrev pub drw_in : Call → List Action
@@ -53,5 +53,5 @@ drws_in (c ∷ cs) = drw_in c.call ++ drws_in cs
 abbrev pub NeighboursAreBare : Type 0
 NeighboursAreBare = (units : ℕ) (k : Kept) (t : TargetState) (size ap address : ℕ) (first : Ask) (calls : List Ask) →
     length k.ports ≡ 256 → ((size ≡ 1) ⊎ ((size ≡ 2) ⊎ (size ≡ 4))) → ap < 256 → address % 1024 + size * length (first ∷ calls) ≤ 1024 →
-    AreNeighbours size ap address (first ∷ calls) → ((known k ap).large ≡ true) ⊎ (address < 2 ^ 32) →
+    AreNeighbours size ap address (first ∷ calls) → ((known_at k ap).large ≡ true) ⊎ (address < 2 ^ 32) →
     actions_in (issued_from Managed units k t (first ∷ calls)) ≡ actions_in (entries_at Managed units t k first) ++ drws_in calls

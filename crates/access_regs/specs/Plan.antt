@@ -8,7 +8,7 @@ use Rattle.target_machine.specs.Registers.{cfg_la}
 use Rattle.target_machine.specs.declared.access.RegAccess.{RegAccess}
 use Rattle.target_machine.specs.declared.unit.Unit.{Unit as AccessUnit}
 use Rattle.target_machine.specs.declared.unit.Unit.TheVariants as unit
-use Rattle.access_regs.specs.Kept.{Kept, known, with_known, is_known, csw_of, forget, selected}
+use Rattle.access_regs.specs.Kept.{Kept, known_at, with_known, is_known, csw_of, forget, kept_with_select}
 use Rattle.access_regs.specs.declared.known.Known.{Known}
 use Rattle.access_regs.specs.declared.known.Unsettled.{Unsettled}
 
@@ -47,7 +47,7 @@ port_writes n size address = csw_needed n size ++ (high_needed n address ++ tar_
 
 -- what comes before DRW
 abbrev pub memory_leads : Kept → ℕ → ℕ → ℕ → List RegAccess
-memory_leads k size ap address = select_needed k ap 0 ++ port_writes (known k ap) size address
+memory_leads k size ap address = select_needed k ap 0 ++ port_writes (known_at k ap) size address
 
 -- what comes before the access that the unit is for
 abbrev pub leads : Kept → AccessUnit → List RegAccess
@@ -68,32 +68,32 @@ abbrev pub plan : Kept → AccessUnit → List RegAccess
 plan k unit = leads k unit ++ last_access unit ∷ []
 
 -- what TAR is after an access by DRW; where that is a multiple of 1,024 it is not known
-abbrev pub predicted : ℕ → ℕ → Option ℕ
-predicted tar size = if (tar + size) % 1024 == 0 then None else Some (tar + size)
+abbrev pub predicted_tar : ℕ → ℕ → Option ℕ
+predicted_tar tar size = if (tar + size) % 1024 == 0 then None else Some (tar + size)
 
 -- what is known of an AP after a memory unit
 abbrev pub after_drw : Known → ℕ → ℕ → Known
 after_drw n size address = record {
   csw = Some (planned_csw (csw_of n) size);
-  tar = predicted (address % 2 ^ 32) size;
+  tar = predicted_tar (address % 2 ^ 32) size;
   high = if n.large then Some (address / 2 ^ 32) else n.high;
   large = n.large;
 }
 
 -- The plan was made. A memory unit leaves its AP unsettled. Of the AP of an AP unit CSW, TAR and its upper word are no longer known. Of a write
 -- of SELECT the value as it was written is noted.
-abbrev pub made : Kept → AccessUnit → Kept
-made k (unit.Memory size read ap address value) =
-    record (with_known k ap (after_drw (known k ap) size address)) { select = Some (select_value ap 0); unsettled = Some (record { ap = ap; tar = address % 2 ^ 32 }) }
-made k (unit.Ap read ap addr value) = record (forget k ap) { select = Some (select_value ap (addr / 16)) }
-made k (unit.Dp read addr value) = if not read && (addr == select_address) then selected k value else k
-made k (unit.Poll mask value turns) = k
+abbrev pub kept_after_plan : Kept → AccessUnit → Kept
+kept_after_plan k (unit.Memory size read ap address value) =
+    record (with_known k ap (after_drw (known_at k ap) size address)) { select = Some (select_value ap 0); unsettled = Some (record { ap = ap; tar = address % 2 ^ 32 }) }
+kept_after_plan k (unit.Ap read ap addr value) = record (forget k ap) { select = Some (select_value ap (addr / 16)) }
+kept_after_plan k (unit.Dp read addr value) = if not read && (addr == select_address) then kept_with_select k value else k
+kept_after_plan k (unit.Poll mask value turns) = k
 
 -- ---- an AP whose CSW is not known
 
 -- CSW of the unit's AP is read before its plan.
 abbrev pub needs_csw : Kept → AccessUnit → Bool
-needs_csw k (unit.Memory size read ap address value) = is_none (known k ap).csw
+needs_csw k (unit.Memory size read ap address value) = is_none (known_at k ap).csw
 needs_csw k _ = false
 
 -- SELECT with bank 0, where it is needed, and a read of CSW.
@@ -101,14 +101,14 @@ abbrev pub first_plan : Kept → ℕ → List RegAccess
 first_plan k ap = select_needed k ap 0 ++ ap_access_of true csw_register 0 ∷ []
 
 -- The first plan was made, and read this CSW.
-abbrev pub learned : Kept → ℕ → ℕ → Kept
-learned k ap csw = record (with_known k ap (record (known k ap) { csw = Some csw })) { select = Some (select_value ap 0) }
+abbrev pub kept_after_csw : Kept → ℕ → ℕ → Kept
+kept_after_csw k ap csw = record (with_known k ap (record (known_at k ap) { csw = Some csw })) { select = Some (select_value ap 0) }
 
 -- ---- an address of more than 32 bits
 
 -- CFG of the unit's AP is read before its plan.
 abbrev pub needs_cfg : Kept → AccessUnit → Bool
-needs_cfg k (unit.Memory size read ap address value) = nat_lt 0xFFFF_FFFF address && not (known k ap).large
+needs_cfg k (unit.Memory size read ap address value) = nat_lt 0xFFFF_FFFF address && not (known_at k ap).large
 needs_cfg k _ = false
 
 -- SELECT with bank F, where it is needed, and a read of CFG.
@@ -118,7 +118,7 @@ cfg_plan k ap = select_needed k ap (cfg_register / 16) ++ ap_access_of true (cfg
 -- The plan was made, and read this CFG: its LA says that the AP has large addresses.
 abbrev pub learned_cfg : Kept → ℕ → ℕ → Kept
 learned_cfg k ap cfg =
-    record (with_known k ap (record (known k ap) { large = (known k ap).large || has_bit cfg cfg_la })) { select = Some (select_value ap (cfg_register / 16)) }
+    record (with_known k ap (record (known_at k ap) { large = (known_at k ap).large || has_bit cfg cfg_la })) { select = Some (select_value ap (cfg_register / 16)) }
 
 -- ---- settling
 
@@ -129,7 +129,7 @@ increment_off csw = bit_and csw 0xFFFF_FFCF
 -- the settling of this AP, where there is one
 abbrev pub settling : Kept → Option Unsettled → List RegAccess
 settling k None = []
-settling k (Some s) = ap_access_of false csw_register (increment_off (csw_of (known k s.ap))) ∷ ap_access_of false tar_register s.tar ∷ []
+settling k (Some s) = ap_access_of false csw_register (increment_off (csw_of (known_at k s.ap))) ∷ ap_access_of false tar_register s.tar ∷ []
 
 -- CSW and TAR of the unsettled AP are made those that its units leave when each is made alone.
 abbrev pub settle : Kept → List RegAccess
@@ -138,11 +138,12 @@ settle k = settling k k.unsettled
 -- what is known after the settling of this AP
 abbrev pub settled_at : Kept → Option Unsettled → Kept
 settled_at k None = k
-settled_at k (Some s) = record (with_known k s.ap (record (known k s.ap) { csw = Some (increment_off (csw_of (known k s.ap))); tar = Some s.tar })) { unsettled = None }
+settled_at k (Some s) =
+    record (with_known k s.ap (record (known_at k s.ap) { csw = Some (increment_off (csw_of (known_at k s.ap))); tar = Some s.tar })) { unsettled = None }
 
 -- The settling was made.
-abbrev pub settled : Kept → Kept
-settled k = settled_at k k.unsettled
+abbrev pub kept_after_settling : Kept → Kept
+kept_after_settling k = settled_at k k.unsettled
 
 -- the unit changes SELECT, is one of an AP, or writes SELECT or CTRL/STAT
 abbrev pub must_follow_settling : Kept → AccessUnit → Bool

@@ -2,7 +2,7 @@
 use Rattle.std.specs.Prelude.{◌≡◌, ◌≢◌, true, List, [], ◌∷◌, ◌++◌}
 use Rattle.target_machine.specs.Fresh.{IsFresh}
 use Rattle.target_machine.specs.Lists.{PassTo}
-use Rattle.target_machine.specs.Plain.{Faulted, Skipped, acted, is_fault}
+use Rattle.target_machine.specs.Plain.{Faulted, Skipped, action_attempt, is_fault}
 use Rattle.target_machine.specs.State.{TargetState}
 use Rattle.target_calls.specs.Asks.{AreAskable, is_forgiving}
 use Rattle.target_calls.specs.declared.calls.Ask.{Ask}
@@ -19,7 +19,7 @@ own_steps p t asks ask = (issue_of p (target_by p t asks) (kept_by p t asks) ask
 abbrev pub FaultSkips : Type 0
 FaultSkips = (p : Planner) (t : TargetState) (asks : List Ask) (ask : Ask) (leads : List Step) (step : Step) (more : List Step) (at : TargetState) →
     IsFresh t → AreAskable (asks ++ ask ∷ []) → NoneFaults t [] asks → is_forgiving ask ≡ true → own_steps p t asks ask ≡ leads ++ step ∷ more →
-    PassTo (target_by p t asks) (actions_of leads) at → is_fault (acted at step.action).outcome ≡ true →
+    PassTo (target_by p t asks) (actions_of leads) at → is_fault (action_attempt at step.action).outcome ≡ true →
     (call_alone (alone_after t [] asks) (large_of_all t [] asks) ask).end ≡ Skipped
 
 -- Where none of its steps faults, a call is neither skipped, nor does it end at a fault.

@@ -1,7 +1,7 @@
 -- Where calls stop, by the entries that they issue.
 use Rattle.std.specs.Prelude.{◌≡◌, ◌≢◌, ◌⊎◌, ℕ, suc, ◌+◌, ◌≤◌, ◌<◌, true, false, List, [], ◌∷◌, ◌++◌, length, take, Option, Some, None}
 use Rattle.target_machine.specs.Fresh.{IsFresh}
-use Rattle.target_machine.specs.Plain.{acted, is_fault}
+use Rattle.target_machine.specs.Plain.{action_attempt, is_fault}
 use Rattle.target_machine.specs.State.{TargetState}
 use Rattle.target_calls.specs.Asks.{AreAskable, is_settled}
 use Rattle.target_calls.specs.Journal.{Entry, Passes, lines_before, target_after}
@@ -9,7 +9,7 @@ use Rattle.target_calls.specs.World.{AtLeast, World, stop}
 use Rattle.target_calls.specs.declared.calls.Ask.{Ask}
 use Rattle.target_calls.specs.declared.journal.Part.TheVariants.{Settles}
 use Rattle.access_regs.specs.Alone.{NoneFaults}
-use Rattle.access_regs.specs.Journal.{issued}
+use Rattle.access_regs.specs.Journal.{issued_entries}
 use Rattle.access_regs.specs.declared.planner.Planner.{Planner}
 
 -- a world of this target and list of APs
@@ -44,15 +44,15 @@ pub record NoneStops (t : TargetState) (large : List ℕ) (asks : List Ask) : Ty
 -- At the first entry that gives a fault which its unit does not forgive, its call stops, and no call before it.
 abbrev pub FaultStops : Type 0
 FaultStops = (p : Planner) (t : TargetState) (asks : List Ask) (front : List Entry) (e : Entry) (more : List Entry) → IsFresh t → AreAskable asks →
-    issued p t asks ≡ front ++ e ∷ more →
-    Passes t front → is_fault (acted (target_after t front) e.action).outcome ≡ true → e.forgiving ≡ false → StopsThere 0 t [] asks e
+    issued_entries p t asks ≡ front ++ e ∷ more →
+    Passes t front → is_fault (action_attempt (target_after t front) e.action).outcome ≡ true → e.forgiving ≡ false → StopsThere 0 t [] asks e
 
 -- At an entry before which all pass, a retry that ends stops the calls after those that have lines before it.
 abbrev pub WaitStops : Type 0
 WaitStops = (p : Planner) (t : TargetState) (asks : List Ask) (front : List Entry) (e : Entry) (more : List Entry) → IsFresh t → AreAskable asks →
-    issued p t asks ≡ front ++ e ∷ more →
+    issued_entries p t asks ≡ front ++ e ∷ more →
     Passes t front → StaysThere 0 t [] asks e
 
 -- Where all entries pass, no call stops.
 abbrev pub PassingStops : Type 0
-PassingStops = (p : Planner) (t : TargetState) (asks : List Ask) → IsFresh t → AreAskable asks → Passes t (issued p t asks) → NoneStops t [] asks
+PassingStops = (p : Planner) (t : TargetState) (asks : List Ask) → IsFresh t → AreAskable asks → Passes t (issued_entries p t asks) → NoneStops t [] asks

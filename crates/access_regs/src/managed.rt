@@ -1,6 +1,6 @@
 //! What is known of the registers from unit to unit.
 ghost use Rattle.std.specs.Prelude.{◌≡◌, IfOk, None};
-ghost use Rattle.access_regs.specs.Kept.{forget, is_known, known, nothing_kept, selected, with_known};
+ghost use Rattle.access_regs.specs.Kept.{forget, is_known, known_at, nothing_kept, kept_with_select, with_known};
 ghost use Rattle.access_regs.specs.Plan.{bank_zero, needs_cfg, needs_csw, needs_settle};
 
 mod notes;
@@ -60,7 +60,7 @@ impl Managed {
 
     // What is known of this access port.
     fn known_port(&self, ap: u8) -> Known
-        ensures { result ≡ known self.now ap }
+        ensures { result ≡ known_at self.now ap }
     {
         self.ports[usize::from(ap)]
     }
@@ -125,7 +125,7 @@ impl Managed {
     /// SELECT was written with this value outside the plans. No access port is unsettled.
     pub fn note_select(&mut self, select: u32)
         requires { self.old.unsettled ≡ None }
-        ensures { self.new ≡ selected self.old select }
+        ensures { self.new ≡ kept_with_select self.old select }
     {
         self.select = Some(select);
     }

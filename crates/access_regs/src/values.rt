@@ -44,7 +44,7 @@ pub(crate) fn planned_csw(csw: u32, size: u8) -> u32
 pub(crate) fn predict_tar(tar: u32, size: u8) -> Option<u32>
     requires sized { (size ≡ 1) ⊎ ((size ≡ 2) ⊎ (size ≡ 4)) }
     requires aligned { tar % size ≡ 0 }
-    ensures { result ≡ plans.predicted tar size }
+    ensures { result ≡ plans.predicted_tar tar size }
 {
     if tar > 0xFFFF_FFFF - u32::from(size) {
         return None;

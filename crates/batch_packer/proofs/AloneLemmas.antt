@@ -10,12 +10,12 @@ use Rattle.dap_messages.specs.Replies.{Answers, ReplyValue, reply_bytes}
 use Rattle.dap_replies.specs.ReplyViews.{reply_shown}
 use Rattle.dap_replies.proofs.ReplyLaws.{response-code}
 use Rattle.dap_messages.specs.Responses.{code_of, response_of}
-use Rattle.dap_transfer.specs.Block.{blocked}
+use Rattle.dap_transfer.specs.Block.{block_result}
 use Rattle.dap_transfer.specs.State.{TransferState, Transferred}
-use Rattle.dap_transfer.specs.Transfer.{transferred}
+use Rattle.dap_transfer.specs.Transfer.{transfer_result}
 use Rattle.probe_core.specs.Bench.{BenchState, StepsTo}
-use Rattle.probe_core.specs.Commands.{done, with_transfers}
-use Rattle.probe_core.specs.Packet.{Answered, answered}
+use Rattle.probe_core.specs.Commands.{command_result, with_transfers}
+use Rattle.probe_core.specs.Packet.{Answered, packet_answer}
 use Rattle.probe_core.specs.Probe.{ExecutorState}
 use Rattle.probe_core.specs.Ranges.{AreLimits}
 use Rattle.probe_core.specs.declared.job.Limits.{Limits}
@@ -38,8 +38,8 @@ use Rattle.batch_packer.specs.declared.part.FlightProgress.{FlightProgress}
 
 -- what the command does
 abbrev one_done : Bool → TransferState → List RegAccess → Transferred
-one_done true p accesses = blocked p 0x0D (words_of accesses)
-one_done false p accesses = transferred p (requests_for false accesses)
+one_done true p accesses = block_result p 0x0D (words_of accesses)
+one_done false p accesses = transfer_result p (requests_for false accesses)
 
 -- what its reply says
 abbrev one_answer : Bool → Transferred → ReplyValue
@@ -85,7 +85,7 @@ reads_one b p accesses command does =
     ∙ ap (λ code. part_as 0 (requests_for false accesses) (reply_shown (one_answer b d)) (response_of code)) (code_shown b d)
     ∙ shows_part b d accesses
 
-done_is : (b : Bool) (e : ExecutorState) (accesses : List RegAccess) → done e (one_command b accesses)
+done_is : (b : Bool) (e : ExecutorState) (accesses : List RegAccess) → command_result e (one_command b accesses)
     ≡ (let d = one_done b e.transfers accesses in record { answer = one_answer b d; next = with_transfers e d.next })
 done_is true e accesses = refl
 done_is false e accesses = refl
@@ -93,7 +93,7 @@ done_is false e accesses = refl
 -- what a probe answers to its packet
 pub answered_alone : (b : Bool) (e : ExecutorState) (accesses : List RegAccess) (packet : List ℕ) → e.limits.packet_size ≤ 1024 → FitsPacket e.limits.packet_size 0 (one_command b accesses) →
     packet ≡ command_bytes (one_command b accesses) →
-    answered e packet ≡ (let d = one_done b e.transfers accesses in record { reply = reply_bytes (one_answer b d); next = with_transfers e d.next })
+    packet_answer e packet ≡ (let d = one_done b e.transfers accesses in record { reply = reply_bytes (one_answer b d); next = with_transfers e d.next })
 answered_alone b e accesses packet short fits is =
     answered_one e Plain (one_command b accesses) packet short fits (is ∙ sym (append-nil (command_bytes (one_command b accesses))))
     ∙ ap (λ x. record { reply = reply_bytes x.answer ++ []; next = x.next }) (done_is b e accesses)

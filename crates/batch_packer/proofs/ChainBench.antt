@@ -9,7 +9,7 @@ use Rattle.dap_messages.specs.declared.request.Response.{Response}
 use Rattle.dap_messages.specs.declared.request.Response.TheVariants.{Good, Wait, Fault, Mismatch}
 use Rattle.dap_messages.specs.Commands.{bytes_of_kind, command_bytes}
 use Rattle.dap_transfer.specs.State.{TransferState, is_good}
-use Rattle.probe_core.specs.Bench.{BenchState, Exchange, Reported, StepsTo, counted_up, handed, received, sent, served}
+use Rattle.probe_core.specs.Bench.{BenchState, Exchange, Reported, StepsTo, counted_up, bench_after_reply, reported_after_reply, reported_after_packet, bench_after_packet}
 use Rattle.probe_core.specs.Commands.{with_transfers}
 use Rattle.probe_core.specs.Probe.{ExecutorState, ProbeState, is_queued}
 use Rattle.probe_core.specs.declared.job.Limits.{Limits}
@@ -114,7 +114,7 @@ by_held false packet rest x = ap (λ ps. record { packets = ps; replies = x.repl
 not_none : (n : ℕ) → eqb (n + 1) 0 ≡ false
 not_none n = grind (arith, nat_tests)
 
-chain_sent : (r : Reported) (accesses : List RegAccess) (parts : List (List RegAccess)) → r.waiting ≡ 0 → ExchangeWith r (chain_packets (accesses ∷ parts)) (fold sent r (chain_packets (accesses ∷ parts)))
+chain_sent : (r : Reported) (accesses : List RegAccess) (parts : List (List RegAccess)) → r.waiting ≡ 0 → ExchangeWith r (chain_packets (accesses ∷ parts)) (fold reported_after_packet r (chain_packets (accesses ∷ parts)))
 chain_sent r accesses [] none = record {
   held = refl;
   waiting = refl;
@@ -125,13 +125,13 @@ chain_sent r accesses [] none = record {
 }
 chain_sent r accesses (next ∷ parts) none =
     let packet : List ℕ = bytes_of_kind Queue (guarded_command accesses ∷ []) in
-    let rest = chain_sent (sent r packet) next parts none in
+    let rest = chain_sent (reported_after_packet r packet) next parts none in
     let held : eqb (r.held + 1) 0 ≡ false = not_none r.held in
     record {
       held = rest.held;
       waiting = rest.waiting ∙ omega arith;
-      exchanges = rest.exchanges ∙ ap (λ b. cond b (counted_up (sent r packet).exchanges) (sent r packet).exchanges) held;
-      last = rest.last ∙ ap (λ b. cond b (record { packets = chain_packets (next ∷ parts); replies = [] }) (record { packets = (sent r packet).last.packets ++ chain_packets (next ∷ parts); replies = (sent r packet).last.replies })) held
+      exchanges = rest.exchanges ∙ ap (λ b. cond b (counted_up (reported_after_packet r packet).exchanges) (reported_after_packet r packet).exchanges) held;
+      last = rest.last ∙ ap (λ b. cond b (record { packets = chain_packets (next ∷ parts); replies = [] }) (record { packets = (reported_after_packet r packet).last.packets ++ chain_packets (next ∷ parts); replies = (reported_after_packet r packet).last.replies })) held
           ∙ by_held (eqb r.held 0) packet (chain_packets (next ∷ parts)) r.last;
       limits = rest.limits;
       faults = rest.faults;
@@ -146,7 +146,7 @@ TakenWith r replies u = record {
   limits : u.limits ≡ r.limits;
 }
 
-replies_taken : (r : Reported) (replies : List (List ℕ)) → TakenWith r replies (fold received r replies)
+replies_taken : (r : Reported) (replies : List (List ℕ)) → TakenWith r replies (fold reported_after_reply r replies)
 replies_taken r [] = record {
   held = refl;
   waiting = omega arith;
@@ -155,7 +155,7 @@ replies_taken r [] = record {
   limits = refl;
 }
 replies_taken r (reply ∷ replies) =
-    let rest = replies_taken (received r reply) replies in
+    let rest = replies_taken (reported_after_reply r reply) replies in
     record {
       held = rest.held;
       waiting = (let w = rest.waiting in omega arith);
@@ -169,11 +169,11 @@ pub record ChainWaits (r u : Reported) (packets : List (List ℕ)) : Type 0 wher
   pub waits : length packets ≤ u.waiting
   pub limits : u.limits ≡ r.limits
 
-pub chain_waits : (r u : Reported) (parts : List (List RegAccess)) (packets : List (List ℕ)) → IsOpen r → 0 < length parts → packets ≡ chain_packets parts → u ≡ fold sent r packets → ChainWaits r u packets
+pub chain_waits : (r u : Reported) (parts : List (List RegAccess)) (packets : List (List ℕ)) → IsOpen r → 0 < length parts → packets ≡ chain_packets parts → u ≡ fold reported_after_packet r packets → ChainWaits r u packets
 chain_waits r u [] packets opened some is sent_is = absurd (omega arith)
 chain_waits r u (accesses ∷ parts) packets opened some is sent_is =
     let all = chain_sent r accesses parts opened.waiting in
-    let u_is : u ≡ fold sent r (chain_packets (accesses ∷ parts)) = sent_is ∙ ap (fold sent r) is in
+    let u_is : u ≡ fold reported_after_packet r (chain_packets (accesses ∷ parts)) = sent_is ∙ ap (fold reported_after_packet r) is in
     record {
       waits = (let w = all.waiting in let e = ap (λ (x : Reported). x.waiting) u_is in let n = ap length is in omega arith);
       limits = ap (λ (x : Reported). x.limits) u_is ∙ all.limits;
@@ -185,14 +185,14 @@ pub record ChainDone (r v : Reported) (packets replies : List (List ℕ)) : Type
   pub last : v.last ≡ record { packets = packets; replies = replies }
   pub exchanges : v.exchanges ≡ counted_up r.exchanges
 
-pub chain_done : (r u v : Reported) (parts : List (List RegAccess)) (packets replies : List (List ℕ)) → IsOpen r → 0 < length parts → packets ≡ chain_packets parts → u ≡ fold sent r packets →
-    v ≡ fold received u replies → length replies ≡ length packets → ChainDone r v packets replies
+pub chain_done : (r u v : Reported) (parts : List (List RegAccess)) (packets replies : List (List ℕ)) → IsOpen r → 0 < length parts → packets ≡ chain_packets parts → u ≡ fold reported_after_packet r packets →
+    v ≡ fold reported_after_reply u replies → length replies ≡ length packets → ChainDone r v packets replies
 chain_done r u v [] packets replies opened some is sent_is taken_is count = absurd (omega arith)
 chain_done r u v (accesses ∷ parts) packets replies opened some is sent_is taken_is count =
     let xs : List (List ℕ) = chain_packets (accesses ∷ parts) in
     let all = chain_sent r accesses parts opened.waiting in
     let some_taken = replies_taken u replies in
-    let u_is : u ≡ fold sent r xs = sent_is ∙ ap (fold sent r) is in
+    let u_is : u ≡ fold reported_after_packet r xs = sent_is ∙ ap (fold reported_after_packet r) is in
     let first : eqb r.held 0 ≡ true = ap (λ n. eqb n 0) opened.held in
     let last_sent : u.last ≡ record { packets = xs; replies = [] } =
     ap (λ (x : Reported). x.last) u_is ∙ all.last ∙ ap (λ b. cond b (record { packets = xs; replies = [] }) (record { packets = r.last.packets ++ xs; replies = r.last.replies })) first in
@@ -213,14 +213,14 @@ mask_opened Wait q guard opened = absurd (cc)
 mask_opened Fault q guard opened = absurd (cc)
 mask_opened Mismatch q guard opened = absurd (cc)
 
-handed_executor : (n : BenchState) (replies : List (List ℕ)) → (fold handed n replies).probe.executor ≡ n.probe.executor
+handed_executor : (n : BenchState) (replies : List (List ℕ)) → (fold bench_after_reply n replies).probe.executor ≡ n.probe.executor
 handed_executor n [] = refl
-handed_executor n (x ∷ replies) = handed_executor (handed n x) replies
+handed_executor n (x ∷ replies) = handed_executor (bench_after_reply n x) replies
 
 -- after a chain whose replies were taken: what they show, and what was done
 pub flown_chain : (given : Limits) (accesses : List RegAccess) (parts : List (List RegAccess)) (replies : List (List ℕ)) (m n o : BenchState) → given.packet_size ≤ 1024 →
     0 < length parts → all_of parts ≡ accesses → AreWords accesses → AllTaken parts → AllByRecursion AreWords parts → FitChain given.packet_size parts → IsReady given m →
-    n ≡ fold served m (chain_packets parts) → HandedSome replies n o → length replies ≡ length parts →
+    n ≡ fold bench_after_packet m (chain_packets parts) → HandedSome replies n o → length replies ≡ length parts →
     (part : Part) × (readings_after (Some nothing_yet) parts replies ≡ Some part) × HasFlown Chain accesses part m o
 flown_chain given accesses [] replies m n o short some all words taken part_words fits ready sent_is handed_is count = absurd (omega arith)
 flown_chain given accesses (first ∷ rest) replies m n o short some all words taken part_words fits ready sent_is handed_is count =
@@ -256,14 +256,14 @@ flown_chain given accesses (first ∷ rest) replies m n o short some all words t
 -- ---- where a call failed
 
 -- held packets are not executed
-held_only : (m : BenchState) (k : ℕ) (parts : List (List RegAccess)) → k < length parts → (fold served m (take k (chain_packets parts))).probe.executor ≡ m.probe.executor
+held_only : (m : BenchState) (k : ℕ) (parts : List (List RegAccess)) → k < length parts → (fold bench_after_packet m (take k (chain_packets parts))).probe.executor ≡ m.probe.executor
 held_only m zero parts below = refl
 held_only m (suc k) [] below = absurd (omega arith)
 held_only m (suc k) (accesses ∷ []) below = absurd (omega arith)
-held_only m (suc k) (accesses ∷ next ∷ parts) below = held_only (served m (bytes_of_kind Queue (guarded_command accesses ∷ []))) k (next ∷ parts) (omega arith)
+held_only m (suc k) (accesses ∷ next ∷ parts) below = held_only (bench_after_packet m (bytes_of_kind Queue (guarded_command accesses ∷ []))) k (next ∷ parts) (omega arith)
 
 chain_executed : (given : Limits) (accesses : List RegAccess) (parts : List (List RegAccess)) (m n : BenchState) → given.packet_size ≤ 1024 → 0 < length parts → all_of parts ≡ accesses → AllTaken parts →
-    FitChain given.packet_size parts → IsReady given m → n ≡ fold served m (chain_packets parts) → MayHaveFlown Chain accesses m n
+    FitChain given.packet_size parts → IsReady given m → n ≡ fold bench_after_packet m (chain_packets parts) → MayHaveFlown Chain accesses m n
 chain_executed given accesses [] m n short some all taken fits ready is = absurd (omega arith)
 chain_executed given accesses (first ∷ rest) m n short some all taken fits ready is =
     let parts : List (List RegAccess) = first ∷ rest in
@@ -302,8 +302,8 @@ pub some_sent : (given : Limits) (accesses : List RegAccess) (parts : List (List
 some_sent given accesses parts packets m n short some all taken fits is ready served_some =
     by_cases (by_count served_some.count (length parts))
   where
-    next : n ≡ fold served m (take served_some.count (chain_packets parts))
-    next = served_some.next ∙ ap (λ xs. fold served m (take served_some.count xs)) is
+    next : n ≡ fold bench_after_packet m (take served_some.count (chain_packets parts))
+    next = served_some.next ∙ ap (λ xs. fold bench_after_packet m (take served_some.count xs)) is
 
     by_cases : (served_some.count < length parts) ⊎ (length parts ≤ served_some.count) → MayHaveFlown Chain accesses m n
     by_cases (inl below) =
@@ -311,16 +311,16 @@ some_sent given accesses parts packets m n short some all taken fits is ready se
         record { either = inl (ap (λ (x : ExecutorState). x.transfers) same); idle_cycles = ap (λ (x : ExecutorState). x.idle) same }
     by_cases (inr most) =
         chain_executed given accesses parts m n short some all taken fits ready
-        (next ∙ ap (fold served m) (take_most served_some.count (chain_packets parts) (let c = packet_count parts in omega arith)))
+        (next ∙ ap (fold bench_after_packet m) (take_most served_some.count (chain_packets parts) (let c = packet_count parts in omega arith)))
 
 -- replies that were taken change no transfers
 handed_transfers : (replies : List (List ℕ)) (n o : BenchState) → HandedSome replies n o → o.probe.executor ≡ n.probe.executor
 handed_transfers replies n o handed_is = ap (λ (b : BenchState). b.probe.executor) handed_is.next ∙ handed_executor n replies
 
 pub not_all_taken : (given : Limits) (accesses : List RegAccess) (parts : List (List RegAccess)) (packets replies : List (List ℕ)) (m n o : BenchState) → given.packet_size ≤ 1024 → 0 < length parts → all_of parts ≡ accesses →
-    AllTaken parts → FitChain given.packet_size parts → packets ≡ chain_packets parts → IsReady given m → n ≡ fold served m packets → HandedSome replies n o → MayHaveFlown Chain accesses m o
+    AllTaken parts → FitChain given.packet_size parts → packets ≡ chain_packets parts → IsReady given m → n ≡ fold bench_after_packet m packets → HandedSome replies n o → MayHaveFlown Chain accesses m o
 not_all_taken given accesses parts packets replies m n o short some all taken fits is ready sent_is handed_is =
-    after_taken (chain_executed given accesses parts m n short some all taken fits ready (sent_is ∙ ap (fold served m) is))
+    after_taken (chain_executed given accesses parts m n short some all taken fits ready (sent_is ∙ ap (fold bench_after_packet m) is))
   where
     same : transfers_of o ≡ transfers_of n
     same = ap (λ (x : ExecutorState). x.transfers) (handed_transfers replies n o handed_is)
@@ -337,13 +337,13 @@ not_all_taken given accesses parts packets replies m n o short some all taken fi
 pub flew_chain : (given : Limits) (accesses : List RegAccess) (parts : List (List RegAccess)) (packets replies : List (List ℕ)) (progress : Option FlightProgress) (new : List (Option ℕ)) (a b c : Option BenchState) →
     given.packet_size ≤ 1024 → 0 < length parts → all_of parts ≡ accesses → AreWords accesses → AllTaken parts → AllByRecursion AreWords parts → FitChain given.packet_size parts → packets ≡ chain_packets parts →
     length replies ≡ length packets → IsSeen (readings_after (Some nothing_yet) parts replies) progress new →
-    StepsTo (λ m n. n ≡ fold served m packets) a b → StepsTo (HandedSome replies) b c → StepsTo (λ m o. IsReady given m → HasFlownBy Chain accesses progress new m o) a c
+    StepsTo (λ m n. n ≡ fold bench_after_packet m packets) a b → StepsTo (HandedSome replies) b c → StepsTo (λ m o. IsReady given m → HasFlownBy Chain accesses progress new m o) a c
 flew_chain given accesses parts packets replies progress new a b c short some all words taken part_words fits is count read first second =
     steps_then one a b c first second
   where
-    one : (m n o : BenchState) → n ≡ fold served m packets → HandedSome replies n o → IsReady given m → HasFlownBy Chain accesses progress new m o
+    one : (m n o : BenchState) → n ≡ fold bench_after_packet m packets → HandedSome replies n o → IsReady given m → HasFlownBy Chain accesses progress new m o
     one m n o sent_is handed_is ready =
-        let flown = flown_chain given accesses parts replies m n o short some all words taken part_words fits ready (sent_is ∙ ap (fold served m) is) handed_is (count ∙ ap length is ∙ packet_count parts) in
+        let flown = flown_chain given accesses parts replies m n o short some all words taken part_words fits ready (sent_is ∙ ap (fold bench_after_packet m) is) handed_is (count ∙ ap length is ∙ packet_count parts) in
         flown_by Chain accesses (readings_after (Some nothing_yet) parts replies) progress new flown.0 m o read flown.1 flown.2
 
 pub send_failed : (given : Limits) (accesses : List RegAccess) (parts : List (List RegAccess)) (packets : List (List ℕ)) (a b : Option BenchState) →
@@ -354,6 +354,6 @@ send_failed given accesses parts packets a b short some all taken fits is h =
 
 pub receive_failed : (given : Limits) (accesses : List RegAccess) (parts : List (List RegAccess)) (packets replies : List (List ℕ)) (a b c : Option BenchState) →
     given.packet_size ≤ 1024 → 0 < length parts → all_of parts ≡ accesses → AllTaken parts → FitChain given.packet_size parts → packets ≡ chain_packets parts →
-    StepsTo (λ m n. n ≡ fold served m packets) a b → StepsTo (HandedSome replies) b c → StepsTo (λ m o. IsReady given m → MayHaveFlown Chain accesses m o) a c
+    StepsTo (λ m n. n ≡ fold bench_after_packet m packets) a b → StepsTo (HandedSome replies) b c → StepsTo (λ m o. IsReady given m → MayHaveFlown Chain accesses m o) a c
 receive_failed given accesses parts packets replies a b c short some all taken fits is first second =
     steps_then (λ m n o s t ready. not_all_taken given accesses parts packets replies m n o short some all taken fits is ready s t) a b c first second

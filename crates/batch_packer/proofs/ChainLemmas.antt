@@ -12,10 +12,10 @@ use Rattle.dap_messages.specs.Replies.{Answers, reply_bytes}
 use Rattle.dap_replies.specs.ReplyViews.{reply_shown}
 use Rattle.dap_replies.proofs.ReplyLaws.{response-code}
 use Rattle.dap_transfer.specs.State.{TransferState, Transferred, is_good}
-use Rattle.dap_transfer.specs.Transfer.{transferred}
-use Rattle.probe_core.specs.Bench.{BenchState, counted_up, handed, served}
+use Rattle.dap_transfer.specs.Transfer.{transfer_result}
+use Rattle.probe_core.specs.Bench.{BenchState, counted_up, bench_after_reply, bench_after_packet}
 use Rattle.probe_core.specs.Commands.{with_transfers}
-use Rattle.probe_core.specs.Packet.{accepted, after_packets, answered, replies_to}
+use Rattle.probe_core.specs.Packet.{probe_after_packet, after_packets, packet_answer, replies_to}
 use Rattle.probe_core.specs.Probe.{ExecutorState, ProbeState}
 use Rattle.flight_forms.specs.Chains.{CutAs, IsCutOnce, IsShut, chain_after, chain_part, chain_replies, guarded_part, joined_as, nothing_yet}
 use Rattle.flight_forms.specs.Flights.{Part}
@@ -33,16 +33,16 @@ guarded_reply d = 0x7F ∷ 1 ∷ reply_bytes (transfer_answer d)
 -- ---- one packet
 
 queue_answered : (k : PacketKind) (e : ExecutorState) (accesses : List RegAccess) → e.limits.packet_size ≤ 1024 → FitsPacket e.limits.packet_size 2 (guarded_command accesses) →
-    (k ≡ Execute) ⊎ (k ≡ Queue) → answered e (bytes_of_kind k (guarded_command accesses ∷ []))
-    ≡ (let d = transferred e.transfers (guarded_requests accesses) in record { reply = guarded_reply d; next = with_transfers e d.next })
+    (k ≡ Execute) ⊎ (k ≡ Queue) → packet_answer e (bytes_of_kind k (guarded_command accesses ∷ []))
+    ≡ (let d = transfer_result e.transfers (guarded_requests accesses) in record { reply = guarded_reply d; next = with_transfers e d.next })
 queue_answered k e accesses size fits (inl is) =
-    let d : Transferred = transferred e.transfers (guarded_requests accesses) in
-    ap (λ j. answered e (bytes_of_kind j (guarded_command accesses ∷ []))) is
+    let d : Transferred = transfer_result e.transfers (guarded_requests accesses) in
+    ap (λ j. packet_answer e (bytes_of_kind j (guarded_command accesses ∷ []))) is
     ∙ answered_one e Execute (guarded_command accesses) (bytes_of_kind Execute (guarded_command accesses ∷ [])) size fits refl
     ∙ ap (λ bytes. record { reply = 0x7F ∷ 1 ∷ bytes; next = with_transfers e d.next }) (append-nil (reply_bytes (transfer_answer d)))
 queue_answered k e accesses size fits (inr is) =
-    let d : Transferred = transferred e.transfers (guarded_requests accesses) in
-    ap (λ j. answered e (bytes_of_kind j (guarded_command accesses ∷ []))) is
+    let d : Transferred = transfer_result e.transfers (guarded_requests accesses) in
+    ap (λ j. packet_answer e (bytes_of_kind j (guarded_command accesses ∷ []))) is
     ∙ answered_one e Queue (guarded_command accesses) (bytes_of_kind Queue (guarded_command accesses ∷ [])) size fits refl
     ∙ ap (λ bytes. record { reply = 0x7F ∷ 1 ∷ bytes; next = with_transfers e d.next }) (append-nil (reply_bytes (transfer_answer d)))
 
@@ -55,7 +55,7 @@ pub chain_answered : (e : ExecutorState) (parts : List (List RegAccess)) → e.l
     (replies_to e (chain_packets parts) ≡ map guarded_reply (chain_replies e.transfers parts)) × (after_packets e (chain_packets parts) ≡ with_transfers e (chain_after e.transfers parts))
 chain_answered e [] size fits = (refl, refl)
 chain_answered e (accesses ∷ parts) size fits =
-    let d : Transferred = transferred e.transfers (guarded_requests accesses) in
+    let d : Transferred = transfer_result e.transfers (guarded_requests accesses) in
     let one = queue_answered (chain_kind parts) e accesses size fits.0 (chain_kinds parts) in
     let rest = chain_answered (with_transfers e d.next) parts size fits.1 in (
       (λ i. (one i).reply ∷ replies_to (one i).next (chain_packets parts)) ∙ ap (λ xs. guarded_reply d ∷ xs) rest.0,
@@ -69,7 +69,7 @@ abbrev queue_run : ProbeState → List (List ℕ) → ProbeState
 queue_run p packets = record { executor = after_packets p.executor packets; held = []; waiting = replies_to p.executor packets }
 
 chain_accepted : (p : ProbeState) (accesses : List RegAccess) (parts : List (List RegAccess)) → p.waiting ≡ [] →
-    fold accepted p (chain_packets (accesses ∷ parts)) ≡ queue_run p (p.held ++ chain_packets (accesses ∷ parts))
+    fold probe_after_packet p (chain_packets (accesses ∷ parts)) ≡ queue_run p (p.held ++ chain_packets (accesses ∷ parts))
 chain_accepted p accesses [] none = ap (λ ws. record (queue_run p (p.held ++ chain_packets (accesses ∷ []))) { waiting = ws ++ replies_to p.executor (p.held ++ chain_packets (accesses ∷ [])) }) none
 chain_accepted p accesses (next ∷ parts) none =
     let packet : List ℕ = bytes_of_kind Queue (guarded_command accesses ∷ []) in
@@ -85,34 +85,34 @@ chain_taken p parts = record {
 }
 
 pub chain_ran : (p : ProbeState) (accesses : List RegAccess) (parts : List (List RegAccess)) → p.held ≡ [] → p.waiting ≡ [] → p.executor.limits.packet_size ≤ 1024 →
-    FitChain p.executor.limits.packet_size (accesses ∷ parts) → fold accepted p (chain_packets (accesses ∷ parts)) ≡ chain_taken p (accesses ∷ parts)
+    FitChain p.executor.limits.packet_size (accesses ∷ parts) → fold probe_after_packet p (chain_packets (accesses ∷ parts)) ≡ chain_taken p (accesses ∷ parts)
 chain_ran p accesses parts held waiting size fits =
     let ran = chain_answered p.executor (accesses ∷ parts) size fits in
     chain_accepted p accesses parts waiting
     ∙ ap (λ hs. queue_run p (hs ++ chain_packets (accesses ∷ parts))) held
     ∙ (λ i. record { executor = ran.1 i; held = []; waiting = ran.0 i })
 
-pub served_probe : (m : BenchState) (packets : List (List ℕ)) → (fold served m packets).probe ≡ fold accepted m.probe packets
+pub served_probe : (m : BenchState) (packets : List (List ℕ)) → (fold bench_after_packet m packets).probe ≡ fold probe_after_packet m.probe packets
 served_probe m [] = refl
-served_probe m (x ∷ packets) = served_probe (served m x) packets
+served_probe m (x ∷ packets) = served_probe (bench_after_packet m x) packets
 
 pub drop_twice : (n : ℕ) (xs : List (List ℕ)) → drop n (drop 1 xs) ≡ drop (suc n) xs
 drop_twice zero [] = refl
 drop_twice (suc n) [] = refl
 drop_twice n (y ∷ xs) = refl
 
-handed_probe : (m : BenchState) (replies : List (List ℕ)) → (fold handed m replies).probe ≡ record m.probe { waiting = drop (length replies) m.probe.waiting }
+handed_probe : (m : BenchState) (replies : List (List ℕ)) → (fold bench_after_reply m replies).probe ≡ record m.probe { waiting = drop (length replies) m.probe.waiting }
 handed_probe m [] = refl
-handed_probe m (x ∷ replies) = handed_probe (handed m x) replies ∙ ap (λ ws. record m.probe { waiting = ws }) (drop_twice (length replies) m.probe.waiting)
+handed_probe m (x ∷ replies) = handed_probe (bench_after_reply m x) replies ∙ ap (λ ws. record m.probe { waiting = ws }) (drop_twice (length replies) m.probe.waiting)
 
-handed_starting : (m : BenchState) (replies : List (List ℕ)) → (fold handed m replies).starting ≡ m.starting
+handed_starting : (m : BenchState) (replies : List (List ℕ)) → (fold bench_after_reply m replies).starting ≡ m.starting
 handed_starting m [] = refl
-handed_starting m (x ∷ replies) = handed_starting (handed m x) replies
+handed_starting m (x ∷ replies) = handed_starting (bench_after_reply m x) replies
 
 -- one of the packets of a chain is a starting packet, the last
-chain_starting : (m : BenchState) (accesses : List RegAccess) (parts : List (List RegAccess)) → (fold served m (chain_packets (accesses ∷ parts))).starting ≡ counted_up m.starting
+chain_starting : (m : BenchState) (accesses : List RegAccess) (parts : List (List RegAccess)) → (fold bench_after_packet m (chain_packets (accesses ∷ parts))).starting ≡ counted_up m.starting
 chain_starting m accesses [] = refl
-chain_starting m accesses (next ∷ parts) = chain_starting (served m (bytes_of_kind Queue (guarded_command accesses ∷ []))) next parts
+chain_starting m accesses (next ∷ parts) = chain_starting (bench_after_packet m (bytes_of_kind Queue (guarded_command accesses ∷ []))) next parts
 
 take_exact : (n : ℕ) (xs : List (List ℕ)) → n ≡ length xs → take n xs ≡ xs
 take_exact zero [] e = refl
@@ -128,7 +128,7 @@ drop_exact (suc n) (x ∷ xs) e = drop_exact n xs (omega arith)
 
 reply_count : (p : TransferState) (parts : List (List RegAccess)) → length (map guarded_reply (chain_replies p parts)) ≡ length parts
 reply_count p [] = refl
-reply_count p (accesses ∷ parts) = ap suc (reply_count (transferred p (guarded_requests accesses)).next parts)
+reply_count p (accesses ∷ parts) = ap suc (reply_count (transfer_result p (guarded_requests accesses)).next parts)
 
 -- after a chain of which every reply was taken
 pub record ChainTaken (parts : List (List RegAccess)) (replies : List (List ℕ)) (m o : BenchState) : Type 0 where
@@ -137,7 +137,7 @@ pub record ChainTaken (parts : List (List RegAccess)) (replies : List (List ℕ)
   pub starting : o.starting ≡ counted_up m.starting
 
 pub chain_flown : (m n o : BenchState) (accesses : List RegAccess) (parts : List (List RegAccess)) (replies : List (List ℕ)) → m.probe.held ≡ [] → m.probe.waiting ≡ [] →
-    m.probe.executor.limits.packet_size ≤ 1024 → FitChain m.probe.executor.limits.packet_size (accesses ∷ parts) → n ≡ fold served m (chain_packets (accesses ∷ parts)) →
+    m.probe.executor.limits.packet_size ≤ 1024 → FitChain m.probe.executor.limits.packet_size (accesses ∷ parts) → n ≡ fold bench_after_packet m (chain_packets (accesses ∷ parts)) →
     HandedSome replies n o → length replies ≡ length (accesses ∷ parts) → ChainTaken (accesses ∷ parts) replies m o
 chain_flown m n o accesses parts replies held waiting size fits sent_is handed_is count =
     let all : List (List ℕ) = map guarded_reply (chain_replies m.probe.executor.transfers (accesses ∷ parts)) in
@@ -202,7 +202,7 @@ shut_readings : (p : TransferState) (parts : List (List RegAccess)) (sofar : Par
     AllByRecursion IsShut (chain_replies p parts) → is_good sofar.response ≡ false → readings_after (Some sofar) parts (map guarded_reply (chain_replies p parts)) ≡ Some sofar
 shut_readings p [] sofar size fits may shut cut = refl
 shut_readings p (accesses ∷ parts) sofar size fits may shut cut =
-    let d : Transferred = transferred p (guarded_requests accesses) in
+    let d : Transferred = transfer_result p (guarded_requests accesses) in
     let fit = fits.0 in
     let one = shut.0 in
     ap (λ x. readings_after x parts (map guarded_reply (chain_replies d.next parts)))
@@ -217,12 +217,12 @@ pub chain_shows : (p : TransferState) (parts : List (List RegAccess)) (sofar : P
     sofar.response ≡ Good → Shows p parts sofar
 chain_shows p [] sofar size fits may cut good = ap Some (sym (joined_last sofar good))
 chain_shows p (accesses ∷ parts) sofar size fits may cut good =
-    by_response (transferred p (guarded_requests accesses)).response refl cut
-    (λ (next : Part) (rest : IsCutOnce (chain_replies (transferred p (guarded_requests accesses)).next parts)) (g : next.response ≡ Good).
-    chain_shows (transferred p (guarded_requests accesses)).next parts next size fits.1 may.1 rest g)
+    by_response (transfer_result p (guarded_requests accesses)).response refl cut
+    (λ (next : Part) (rest : IsCutOnce (chain_replies (transfer_result p (guarded_requests accesses)).next parts)) (g : next.response ≡ Good).
+    chain_shows (transfer_result p (guarded_requests accesses)).next parts next size fits.1 may.1 rest g)
   where
     d : Transferred
-    d = transferred p (guarded_requests accesses)
+    d = transfer_result p (guarded_requests accesses)
 
     first : (found : Option Part) → then_reading sofar (guarded_reading accesses (guarded_reply d)) ≡ found →
         readings_after (Some sofar) (accesses ∷ parts) (map guarded_reply (chain_replies p (accesses ∷ parts))) ≡ readings_after found parts (map guarded_reply (chain_replies d.next parts))

@@ -1,7 +1,7 @@
 -- The limits and the count of exchanges of a bench, from call to call.
 use Rattle.std.proofs.Common.{◌≡◌, ◌⊎◌, inl, inr, ℕ, zero, suc, ◌+◌, ◌≤◌, eqb, Bool, true, false, cond, List, Option, refl, ap, sym, subst, ◌∙◌, arith}
-use Rattle.std.proofs.lemmas.Bool.{ne_eqb}
-use Rattle.probe_core.specs.Bench.{BenchState, HasReceived, IsAsBefore, Reported, counted_up, received, sent}
+use Rattle.std.proofs.lemmas.Bool.{ne_eqb, true≢false}
+use Rattle.probe_core.specs.Bench.{BenchState, HasReceived, IsAsBefore, Reported, counted_up, reported_after_reply, reported_after_packet}
 use Rattle.probe_core.specs.Runs.{KeepsRuns}
 use Rattle.probe_core.proofs.StateSteps.{runs_then}
 use Rattle.batch_packer.specs.Exchanges.{GoesOn, GoesOnOver, StaysAt}
@@ -28,21 +28,21 @@ either_count : (b : Bool) (n : ℕ) → (cond b (counted_up n) n ≡ n) ⊎ (con
 either_count true n = inr refl
 either_count false n = inl refl
 
-pub goes_sent : (packet : List ℕ) (t u : Reported) → u ≡ sent t packet → GoesOn t u
+pub goes_sent : (packet : List ℕ) (t u : Reported) → u ≡ reported_after_packet t packet → GoesOn t u
 goes_sent packet t u e = record {
   limits = ap (λ (x : Reported). x.limits) e;
   exchanges = subst (λ (n : ℕ). (n ≡ t.exchanges) ⊎ (n ≡ counted_up t.exchanges)) (sym (ap (λ (x : Reported). x.exchanges) e)) (either_count (eqb t.held 0) t.exchanges);
 }
 
-pub stays_received : (reply : List ℕ) (t u : Reported) → u ≡ received t reply → StaysAt t u
+pub stays_received : (reply : List ℕ) (t u : Reported) → u ≡ reported_after_reply t reply → StaysAt t u
 stays_received reply t u e = record { limits = ap (λ (x : Reported). x.limits) e; exchanges = ap (λ (x : Reported). x.exchanges) e }
 
 pub stays_failed : (t u : Reported) (a b : Option BenchState) → IsAsBefore (record { reported = t; state = a }) (record { reported = u; state = b }) → StaysAt t u
 stays_failed t u a b h = let e = h.reported in record { limits = ap (λ (x : Reported). x.limits) e; exchanges = ap (λ (x : Reported). x.exchanges) e }
 
-same_goes : (packet : List ℕ) (t u : Reported) → u ≡ record (sent t packet) { faults = u.faults } → GoesOn t u
+same_goes : (packet : List ℕ) (t u : Reported) → u ≡ record (reported_after_packet t packet) { faults = u.faults } → GoesOn t u
 same_goes packet t u e =
-    goes_stays t (sent t packet) u (goes_sent packet t (sent t packet) refl) (record { limits = ap (λ (x : Reported). x.limits) e; exchanges = ap (λ (x : Reported). x.exchanges) e })
+    goes_stays t (reported_after_packet t packet) u (goes_sent packet t (reported_after_packet t packet) refl) (record { limits = ap (λ (x : Reported). x.limits) e; exchanges = ap (λ (x : Reported). x.exchanges) e })
 
 pub goes_failed : (packet : List ℕ) (t u : Reported) (a b : Option BenchState) →
     IsAsBefore (record { reported = t; state = a }) (record { reported = u; state = b }) ⊎ HasReceived packet (record { reported = t; state = a }) (record { reported = u; state = b }) → GoesOn t u
@@ -63,12 +63,9 @@ goes_on_after reported state identity a b c on stays runs same = record {
 pub cause_got : (before now : ℕ) (end : Option FlightEnd) → got_replies end ≡ true → before ≤ now → now ≡ before → HasEndCause before now end
 cause_got before now end got later same = record {
   later = later;
-  failed = λ e. absurd (not_both (sym got ∙ ap got_replies e));
+  failed = λ e. absurd (true≢false (sym got ∙ ap got_replies e));
   others = λ _. same;
 }
-  where
-    not_both : true ≡ false → ⊥
-    not_both e = cc
 
 -- ---- packets of one exchange
 
@@ -82,7 +79,7 @@ count_next zero n held count h e = ap (λ (k : ℕ). cond (eqb k 0) (counted_up 
 count_next (suc i) n held count h e =
     ap (λ (k : ℕ). cond (eqb k 0) (counted_up count) count) h ∙ ap (λ b. cond b (counted_up count) count) (ne_eqb (suc i) 0 (λ f. omega arith)) ∙ e ∙ (let same : suc i + 1 ≡ suc (i + 1) = omega arith in ap (λ (k : ℕ). count_after k n) (sym same))
 
-pub sent_count : (i n : ℕ) (packet : List ℕ) (t u : Reported) → u ≡ sent t packet → t.held ≡ i → t.exchanges ≡ count_after i n → u.exchanges ≡ count_after (i + 1) n
+pub sent_count : (i n : ℕ) (packet : List ℕ) (t u : Reported) → u ≡ reported_after_packet t packet → t.held ≡ i → t.exchanges ≡ count_after i n → u.exchanges ≡ count_after (i + 1) n
 sent_count i n packet t u e held count = ap (λ (x : Reported). x.exchanges) e ∙ count_next i n t.held t.exchanges held count
 
 counts_on : (i n m : ℕ) → m ≡ count_after i n → (m ≡ n) ⊎ (m ≡ counted_up n)
@@ -98,4 +95,4 @@ pub goes_broken : (i : ℕ) (packet : List ℕ) (t u v : Reported) (a b : Option
 goes_broken i packet t u v a b limits held count (inl same) = goes_stays t u v (goes_counted i t u limits count) (stays_failed u v a b same)
 goes_broken i packet t u v a b limits held count (inr received) =
     let e = received.reported in
-    goes_counted (i + 1) t v (ap (λ (x : Reported). x.limits) e ∙ limits) (ap (λ (x : Reported). x.exchanges) e ∙ sent_count i t.exchanges packet u (sent u packet) refl held count)
+    goes_counted (i + 1) t v (ap (λ (x : Reported). x.limits) e ∙ limits) (ap (λ (x : Reported). x.exchanges) e ∙ sent_count i t.exchanges packet u (reported_after_packet u packet) refl held count)

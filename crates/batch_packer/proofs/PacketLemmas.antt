@@ -10,7 +10,7 @@ use Rattle.dap_messages.specs.declared.error.MessageError.{MessageError}
 use Rattle.dap_messages.specs.Commands.{IsCount, Packet, bytes_of_kind, command_bytes, longest_packet_reply, longest_reply}
 use Rattle.dap_messages.specs.PacketReading.{packet_at, packet_read, too_long}
 use Rattle.dap_messages.proofs.PacketLaws.{packet_complete}
-use Rattle.probe_core.specs.Packet.{answered, answered_as, nothing_done, packet_done}
+use Rattle.probe_core.specs.Packet.{packet_answer, answered_as, nothing_done, packet_done}
 use Rattle.probe_core.specs.Probe.{ExecutorState}
 use Rattle.flight_forms.specs.Packets.{FitsPacket}
 use Rattle.batch_packer.specs.Readings.{IsPacketOf}
@@ -42,8 +42,8 @@ never_err kind commands packet e is read = not_both (read ∙ reads_packet kind 
 
 -- what a probe answers to a packet whose longest reply fits
 pub answered_is : (e : ExecutorState) (kind : PacketKind) (commands : List CommandValue) (packet : List ℕ) → IsPacketOf kind commands packet →
-    longest_packet_reply (record { kind = kind; commands = commands }) ≤ e.limits.packet_size → answered e packet ≡ packet_done e (record { kind = kind; commands = commands })
-unfolding answered
+    longest_packet_reply (record { kind = kind; commands = commands }) ≤ e.limits.packet_size → packet_answer e packet ≡ packet_done e (record { kind = kind; commands = commands })
+unfolding packet_answer
 answered_is e kind commands packet is fits =
     let p : Packet = record { kind = kind; commands = commands } in
     ap (answered_as e) (reads_packet kind commands packet is)
@@ -83,7 +83,7 @@ fits_packet kind c packet size short fits is = record {
 
 -- what a probe answers to it
 pub answered_one : (e : ExecutorState) (kind : PacketKind) (c : CommandValue) (packet : List ℕ) → e.limits.packet_size ≤ 1024 → FitsPacket e.limits.packet_size (head_of kind) c →
-    packet ≡ bytes_of_kind kind (c ∷ []) → answered e packet ≡ packet_done e (record { kind = kind; commands = c ∷ [] })
+    packet ≡ bytes_of_kind kind (c ∷ []) → packet_answer e packet ≡ packet_done e (record { kind = kind; commands = c ∷ [] })
 answered_one e kind c packet short fits is =
     answered_is e kind (c ∷ []) packet (fits_packet kind c packet e.limits.packet_size short fits is) (let a = longest_one kind c in let b = fits.reply in omega arith)
 

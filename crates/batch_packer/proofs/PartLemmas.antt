@@ -3,7 +3,7 @@ use Rattle.std.proofs.Common.{◌≡◌, ℕ, zero, suc, ◌+◌, ◌-◌, ◌<�
 use Rattle.std.proofs.lemmas.Bool.Decides.{nat_tests}
 use Rattle.target_machine.specs.declared.access.RegAccess.{RegAccess}
 use Rattle.dap_messages.specs.Commands.{bytes_of_kind, command_bytes}
-use Rattle.flight_forms.specs.Forms.{filled, fits_guarded, parts_of}
+use Rattle.flight_forms.specs.Forms.{filled_parts, fits_guarded, parts_of}
 use Rattle.flight_forms.specs.Packets.{FitChain, FitsPacket, chain_kind, chain_packets, guarded_command}
 use Rattle.batch_packer.specs.Queues.{last_id, last_kind}
 
@@ -15,11 +15,11 @@ part_bytes false accesses command bytes c e = e ∙ ap (λ xs. 0x7E ∷ 1 ∷ xs
 
 -- ---- lists of parts
 
-pub some_filled : (size : ℕ) (part rest : List RegAccess) → 0 < length (filled size part rest)
+pub some_filled : (size : ℕ) (part rest : List RegAccess) → 0 < length (filled_parts size part rest)
 some_filled size part [] = omega arith
 some_filled size part (a ∷ rest) = by_fit (fits_guarded size (part ++ a ∷ [])) (some_filled size (part ++ a ∷ []) rest)
   where
-    by_fit : (b : Bool) → 0 < length (filled size (part ++ a ∷ []) rest) → 0 < length (cond b (filled size (part ++ a ∷ []) rest) (part ∷ filled size (a ∷ []) rest))
+    by_fit : (b : Bool) → 0 < length (filled_parts size (part ++ a ∷ []) rest) → 0 < length (cond b (filled_parts size (part ++ a ∷ []) rest) (part ∷ filled_parts size (a ∷ []) rest))
     by_fit true h = h
     by_fit false h = omega arith
 
@@ -43,7 +43,7 @@ no_parts : (size : ℕ) (xs : List RegAccess) (is_last : Bool) → (is_last ≡ 
 no_parts size [] true h k = refl
 no_parts size [] false h k = absurd (let g = k refl in omega arith)
 no_parts size (x ∷ xs) true h k = absurd (let g = h refl in omega arith)
-no_parts size (x ∷ xs) false h k = some_kind (filled size (x ∷ []) xs) (some_filled size (x ∷ []) xs)
+no_parts size (x ∷ xs) false h k = some_kind (filled_parts size (x ∷ []) xs) (some_filled size (x ∷ []) xs)
   where
     some_kind : (parts : List (List RegAccess)) → 0 < length parts → whole_kind parts ≡ false
     some_kind [] g = absurd (omega arith)

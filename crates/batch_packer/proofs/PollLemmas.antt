@@ -4,7 +4,7 @@ use Rattle.std.specs.Prelude.{Result, Ok, Err, is_some}
 use Rattle.target_machine.proofs.ActionRanges.{acted_in_range}
 use Rattle.target_machine.specs.Attempt.{bank}
 use Rattle.target_machine.specs.InRange.{IsInRange}
-use Rattle.target_machine.specs.Plain.{polled}
+use Rattle.target_machine.specs.Plain.{poll_result}
 use Rattle.target_machine.specs.State.{TargetState}
 use Rattle.dap_replies.proofs.ReplyAgain.{reply_complete}
 use Rattle.dap_messages.specs.declared.command.PacketKind.TheVariants.{Execute}
@@ -19,7 +19,7 @@ use Rattle.dap_replies.proofs.ReplyLaws.{response-code}
 use Rattle.dap_messages.specs.Responses.{code_of}
 use Rattle.dap_transfer.specs.State.{TransferState, Transferred}
 use Rattle.probe_core.specs.Bench.{BenchState, StepsTo}
-use Rattle.probe_core.specs.Packet.{Answered, answered}
+use Rattle.probe_core.specs.Packet.{Answered, packet_answer}
 use Rattle.probe_core.specs.Probe.{ExecutorState, is_queued}
 use Rattle.probe_core.specs.Ranges.{AreLimits}
 use Rattle.probe_core.specs.declared.job.Limits.{Limits}
@@ -90,7 +90,7 @@ abbrev poll_next : ExecutorState → Config → PollAsk → ExecutorState
 poll_next e config ask = record e { idle = config.idle; transfers = poll_after e.transfers config.retry ask.mask ask.value ask.turns }
 
 answered_poll : (e : ExecutorState) (config : Config) (ask : PollAsk) (packet : List ℕ) → 64 ≤ e.limits.packet_size → IsPoll config ask → packet ≡ packet_bytes (packet_of config ask) →
-    answered e packet ≡ record { reply = poll_reply (matched_of e config ask) (cleared_of e config ask); next = poll_next e config ask }
+    packet_answer e packet ≡ record { reply = poll_reply (matched_of e config ask) (cleared_of e config ask); next = poll_next e config ask }
 answered_poll e config ask packet large is bytes =
     let fits = packet_fits config ask is in
     answered_is e Execute (poll_commands config.idle config.retry ask.mask ask.value ask.turns) packet (poll_is_packet config ask packet is bytes) (let r = fits.reply in omega arith)
@@ -119,7 +119,7 @@ is_matched false = refl
 
 reads_poll : (p : TransferState) (config : Config) (ask : PollAsk) → IsPoll config ask → bank p.line.target ≡ 0 →
     matched_in config ask (poll_reply (poll_matched p config.retry ask.mask ask.value ask.turns) (poll_cleared p config.retry ask.mask ask.value ask.turns))
-    ≡ Ok (has_matched (polled ask.turns ask.mask ask.value p.line.target))
+    ≡ Ok (has_matched (poll_result ask.turns ask.mask ask.value p.line.target))
 reads_poll p config ask is e =
     let d : Transferred = poll_matched p config.retry ask.mask ask.value ask.turns in
     let u : Transferred = poll_cleared p config.retry ask.mask ask.value ask.turns in
@@ -128,7 +128,7 @@ reads_poll p config ask is e =
     let whole = fits.packet in
     let commands = whole.commands in
     let bytes : List ℕ = short_reply d.executed (code_of d.response) in
-    let m : Bool = has_matched (polled ask.turns ask.mask ask.value p.line.target) in
+    let m : Bool = has_matched (poll_result ask.turns ask.mask ask.value p.line.target) in
     let short : poll_reply d u ≡ bytes = reply_is d u does.words does.clears in
     let before : is_read (Configure config.idle config.retry (ask.turns - 1)) (4 ∷ 0 ∷ []) ≡ true = read_known (Configure config.idle config.retry (ask.turns - 1)) (Status 4 0) commands.0 (refl, refl) in
     let after : is_read (Configure config.idle config.retry 0) (4 ∷ 0 ∷ []) ≡ true = read_known (Configure config.idle config.retry 0) (Status 4 0) (is.idle, is.retry, omega arith) (refl, refl) in
@@ -177,7 +177,7 @@ pub record IsPollSent (given : Limits) (config : Config) (ask : PollAsk) (packet
   pub bytes : packet ≡ packet_bytes (packet_of config ask)
 
 ran : (given : Limits) (config : Config) (ask : PollAsk) (packet : List ℕ) (m : BenchState) → IsPollSent given config ask packet → IsReady given m →
-    answered m.probe.executor packet ≡ record { reply = poll_reply (matched_of m.probe.executor config ask) (cleared_of m.probe.executor config ask); next = poll_next m.probe.executor config ask }
+    packet_answer m.probe.executor packet ≡ record { reply = poll_reply (matched_of m.probe.executor config ask) (cleared_of m.probe.executor config ask); next = poll_next m.probe.executor config ask }
 ran given config ask packet m is ready =
     let limits : AreLimits m.probe.executor.limits = subst AreLimits (sym ready.limits) is.limits in
     answered_poll m.probe.executor config ask packet limits.size_low is.poll is.bytes
@@ -189,7 +189,7 @@ polled_one given config ask packet reply result m n is read ready bank_is answer
     let flies = ready.flies in
     let all = ran given config ask packet m is ready in
     let bytes : reply ≡ poll_reply (matched_of e config ask) (cleared_of e config ask) = answers.answer ∙ ap (λ (x : Answered). x.reply) all in
-    let says : result ≡ Ok (has_matched (polled ask.turns ask.mask ask.value e.transfers.line.target)) = read ∙ ap (matched_in config ask) bytes ∙ reads_poll e.transfers config ask is.poll bank_is in
+    let says : result ≡ Ok (has_matched (poll_result ask.turns ask.mask ask.value e.transfers.line.target)) = read ∙ ap (matched_in config ask) bytes ∙ reads_poll e.transfers config ask is.poll bank_is in
     let next : n.probe.executor ≡ poll_next e config ask = answers.executor ∙ ap (λ (x : Answered). x.next) all in
     subst (λ (x : Result Bool FlightEnd). PolledBy config ask x m n) (sym says) (record {
       matched_is = refl;

@@ -11,7 +11,7 @@ use Rattle.dap_transfer.specs.Laws.{AreNormal}
 use Rattle.flight_forms.proofs.AskedRequests.{payload_normal}
 use Rattle.dap_transfer.specs.State.{is_good}
 use Rattle.flight_forms.specs.Flights.{Part}
-use Rattle.flight_forms.specs.Forms.{filled, parts_of}
+use Rattle.flight_forms.specs.Forms.{filled_parts, parts_of}
 use Rattle.flight_forms.specs.Packets.{FitChain, FitsPacket, chain_kind, chain_packets, guarded_command}
 use Rattle.flight_forms.specs.Packing.{guarded_requests, payload}
 use Rattle.batch_packer.proofs.PartLemmas.{some_filled}
@@ -193,7 +193,7 @@ end_is_there i at packets replies parts sofar all count past is whole =
 pub ends_past : (i : ℕ) (packets : List (List ℕ)) (size : ℕ) (rest : List RegAccess) → length packets ≤ i → drop i packets ≡ chain_packets (parts_of size rest) → length rest ≡ 0
 ends_past i packets size [] past is = refl
 ends_past i packets size (a ∷ rest) past is =
-    absurd (let e = ap length (sym (drop_all i packets past) ∙ is) in let k = packets_some (filled size (a ∷ []) rest) (some_filled size (a ∷ []) rest) in omega arith)
+    absurd (let e = ap length (sym (drop_all i packets past) ∙ is) in let k = packets_some (filled_parts size (a ∷ []) rest) (some_filled size (a ∷ []) rest) in omega arith)
   where
     packets_some : (parts : List (List RegAccess)) → 0 < length parts → 0 < length (chain_packets parts)
     packets_some [] h = absurd (omega arith)

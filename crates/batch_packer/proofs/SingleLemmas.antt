@@ -17,8 +17,8 @@ use Rattle.dap_messages.specs.Replies.{Answers, reply_bytes}
 use Rattle.dap_replies.specs.ReplyViews.{reply_shown}
 use Rattle.dap_replies.specs.ReplyReading.{reply_read}
 use Rattle.probe_core.specs.Bench.{BenchState, StepsTo}
-use Rattle.probe_core.specs.Commands.{done}
-use Rattle.probe_core.specs.Packet.{Answered, answered}
+use Rattle.probe_core.specs.Commands.{command_result}
+use Rattle.probe_core.specs.Packet.{Answered, packet_answer}
 use Rattle.probe_core.specs.Probe.{ExecutorState, is_queued}
 use Rattle.probe_core.specs.Ranges.{AreLimits}
 use Rattle.probe_core.specs.declared.job.Limits.{Limits}
@@ -106,14 +106,14 @@ info_answers : (b : Bool) (count size : ℕ) → 1 ≤ count → count < 2 ^ 8 �
 info_answers true count size a b c d = (refl, omega arith, (b, tt))
 info_answers false count size a b c d = (refl, omega arith, (omega arith, (omega arith, tt)))
 
-pins_fit : (e : ExecutorState) (output select : ℕ) → IsInRange e.transfers.line.target → (done e (command.Pins output select 0)).next.transfers.line.target.lines.pins < 2 ^ 8
+pins_fit : (e : ExecutorState) (output select : ℕ) → IsInRange e.transfers.line.target → (command_result e (command.Pins output select 0)).next.transfers.line.target.lines.pins < 2 ^ 8
 pins_fit e output select h =
     let acted = acted_in_range e.transfers.line.target (Commands (probe.Pins output select 0)) h tt in
     let next = acted.next in
     let lines = next.lines in
     lines.pins
 
-pub single_answers : (e : ExecutorState) (c : CommandValue) → is_single c ≡ true → AreLimits e.limits → IsInRange e.transfers.line.target → Answers c (done e c).answer
+pub single_answers : (e : ExecutorState) (c : CommandValue) → is_single c ≡ true → AreLimits e.limits → IsInRange e.transfers.line.target → Answers c (command_result e c).answer
 single_answers e (command.Info id) s limits h =
     info_answers (eqb id 0xFE) e.limits.packet_count e.limits.packet_size limits.count_low (let a = limits.count_high in omega arith) limits.size_low (let a = limits.size_high in omega arith)
 single_answers e (command.Configure idle retry matches) s limits h = (refl, refl)
@@ -130,7 +130,7 @@ info_says : (b : Bool) (count size : ℕ) → size < 2 ^ 16 →
 info_says true count size h = omega arith
 info_says false count size h = omega arith
 
-single_says : (e : ExecutorState) (c : CommandValue) → is_single c ≡ true → AreLimits e.limits → number_in c (reply_shown (done e c).answer) ≡ number_given e c
+single_says : (e : ExecutorState) (c : CommandValue) → is_single c ≡ true → AreLimits e.limits → number_in c (reply_shown (command_result e c).answer) ≡ number_given e c
 single_says e (command.Info id) s limits = info_says (eqb id 0xFE) e.limits.packet_count e.limits.packet_size (let a = limits.size_high in omega arith)
 single_says e (command.Configure idle retry matches) s limits = refl
 single_says e (command.Transfer requests) s limits = refl
@@ -142,16 +142,16 @@ single_says e (command.Clock clock) s limits = refl
 single_says e (command.Line count bits) s limits = refl
 
 answered_single : (e : ExecutorState) (c : CommandValue) (packet : List ℕ) → e.limits.packet_size ≤ 1024 → FitsPacket e.limits.packet_size 0 c → packet ≡ command_bytes c →
-    answered e packet ≡ record { reply = reply_bytes (done e c).answer; next = (done e c).next }
+    packet_answer e packet ≡ record { reply = reply_bytes (command_result e c).answer; next = (command_result e c).next }
 answered_single e c packet short fits is =
     answered_one e Plain c packet short fits (is ∙ sym (append-nil (command_bytes c)))
-    ∙ ap (λ bytes. record { reply = bytes; next = (done e c).next }) (append-nil (reply_bytes (done e c).answer))
+    ∙ ap (λ bytes. record { reply = bytes; next = (command_result e c).next }) (append-nil (reply_bytes (command_result e c).answer))
 
 -- its reply says what it answers
 reads_single : (e : ExecutorState) (c : CommandValue) → is_single c ≡ true → IsCommand c → AreLimits e.limits → IsInRange e.transfers.line.target →
-    number_by c (shown_in (reply_read c (reply_bytes (done e c).answer))) ≡ Ok (number_given e c)
+    number_by c (shown_in (reply_read c (reply_bytes (command_result e c).answer))) ≡ Ok (number_given e c)
 reads_single e c s command limits h =
-    ap (λ x. number_by c (shown_in x)) (reply_complete c (done e c).answer command (single_answers e c s limits h))
+    ap (λ x. number_by c (shown_in x)) (reply_complete c (command_result e c).answer command (single_answers e c s limits h))
     ∙ ap (λ n. Ok n) (single_says e c s limits)
 
 -- ---- over a bench
@@ -164,7 +164,7 @@ pub record IsSent (given : Limits) (c : CommandValue) (packet : List ℕ) : Type
   pub bytes : packet ≡ command_bytes c
 
 ran : (given : Limits) (c : CommandValue) (packet : List ℕ) (m : BenchState) → IsSent given c packet → HasLimits given m →
-    answered m.probe.executor packet ≡ record { reply = reply_bytes (done m.probe.executor c).answer; next = (done m.probe.executor c).next }
+    packet_answer m.probe.executor packet ≡ record { reply = reply_bytes (command_result m.probe.executor c).answer; next = (command_result m.probe.executor c).next }
 ran given c packet m is has =
     let limits : AreLimits m.probe.executor.limits = subst AreLimits (sym has.limits) is.limits in
     answered_single m.probe.executor c packet limits.size_high (single_fits c m.probe.executor.limits.packet_size is.single is.command limits.size_low) is.bytes
@@ -175,7 +175,7 @@ done_one given c packet reply result m n is read has answers =
     let e : ExecutorState = m.probe.executor in
     let limits : AreLimits e.limits = subst AreLimits (sym has.limits) is.limits in
     let all = ran given c packet m is has in
-    let bytes : reply ≡ reply_bytes (done e c).answer = answers.answer ∙ ap (λ (x : Answered). x.reply) all in
+    let bytes : reply ≡ reply_bytes (command_result e c).answer = answers.answer ∙ ap (λ (x : Answered). x.reply) all in
     let says : result ≡ Ok (number_given e c) = read ∙ ap (λ (xs : List ℕ). number_by c (shown_in (reply_read c xs))) bytes ∙ reads_single e c is.single is.command limits has.in_range in
     subst (λ (x : Result ℕ FlightEnd). DoneBy c x m n) (sym says) (record {
       number_is = refl;

@@ -1,14 +1,14 @@
 -- Commands of the probe and polls as actions, and what is done to a bench by one.
 use Rattle.std.specs.Prelude.{◌≡◌, ℕ, ◌+◌, ◌-◌, ◌*◌, ◌^◌, ◌≤◌, Bool, true, false, nat_le, min}
 use Rattle.target_machine.specs.InRange.{IsInRange}
-use Rattle.target_machine.specs.Lines.{delayed}
-use Rattle.target_machine.specs.Plain.{Action, acted, is_fault}
+use Rattle.target_machine.specs.Lines.{delayed_target}
+use Rattle.target_machine.specs.Plain.{Action, action_attempt, is_fault}
 use Rattle.target_machine.specs.declared.unit.ProbeCall.{ProbeCall}
 use Rattle.target_machine.specs.declared.unit.ProbeCall.TheVariants as probe
 use Rattle.target_calls.specs.Weights.{commands_of, weight}
 use Rattle.dap_messages.specs.declared.command_value.CommandValue.{CommandValue}
 use Rattle.dap_messages.specs.declared.command_value.CommandValue.TheVariants.{Abort, Clock, Delay, Line, Pins}
-use Rattle.dap_transfer.specs.State.{TransferState, grown}
+use Rattle.dap_transfer.specs.State.{TransferState, grown_work}
 use Rattle.probe_core.specs.Bench.{BenchState}
 use Rattle.probe_core.specs.Probe.{ended_retries_of, target_of, work_of}
 use Rattle.batch_packer.specs.Exchanges.{IsIdle}
@@ -17,9 +17,9 @@ use Rattle.batch_packer.specs.Flying.{transfers_of}
 -- An action was done whole. It makes no transfer that may wait, leaves the match mask, match retry and the list of stalls, and sets no
 -- STICKYERR.
 pub record Acts (x : Action) (p q : TransferState) : Type 0 where
-  pub passes : is_fault (acted p.line.target x).outcome ≡ false
-  pub target : q.line.target ≡ (acted p.line.target x).next
-  pub work : q.work ≡ grown p.work (weight p.line.target x)
+  pub passes : is_fault (action_attempt p.line.target x).outcome ≡ false
+  pub target : q.line.target ≡ (action_attempt p.line.target x).next
+  pub work : q.work ≡ grown_work p.work (weight p.line.target x)
   pub number : q.line.number ≡ p.line.number
   pub retries : q.ended_retries ≡ p.ended_retries
   pub pending : q.pending ≡ p.pending
@@ -40,7 +40,7 @@ pub record HasActed (x : Action) (packets : ℕ) (m n : BenchState) : Type 0 whe
 -- A poll or a command of the probe was done whole, from one state of the bench to another, and left the settings of the transfers and the
 -- idle cycles.
 pub record DoesAction (x : Action) (m o : BenchState) : Type 0 where
-  pub target : target_of o.probe ≡ (acted (target_of m.probe) x).next
+  pub target : target_of o.probe ≡ (action_attempt (target_of m.probe) x).next
   pub clear : (target_of o.probe).sticky ≡ false
   pub work : work_of o.probe ≡ work_of m.probe + weight (target_of m.probe) x
   pub retries : ended_retries_of o.probe ≡ ended_retries_of m.probe
@@ -63,4 +63,4 @@ command_of (probe.Line count bits) = Line count bits
 
 -- the transfers after so many commands that each delay 65,535 microseconds
 abbrev pub delayed_by : TransferState → ℕ → TransferState
-delayed_by p count = record p { line = record p.line { target = delayed p.line.target (65535 * count) }; work = grown p.work count }
+delayed_by p count = record p { line = record p.line { target = delayed_target p.line.target (65535 * count) }; work = grown_work p.work count }

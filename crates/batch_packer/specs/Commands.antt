@@ -8,7 +8,7 @@ use Rattle.dap_replies.specs.ReplyReading.{reply_read}
 use Rattle.dap_transfer.specs.Lines.{pins_set}
 use Rattle.dap_transfer.specs.State.{TransferState}
 use Rattle.probe_core.specs.Bench.{BenchState, counted_up}
-use Rattle.probe_core.specs.Commands.{done}
+use Rattle.probe_core.specs.Commands.{command_result}
 use Rattle.probe_core.specs.Probe.{ExecutorState}
 use Rattle.batch_packer.specs.Exchanges.{IsIdle}
 use Rattle.batch_packer.specs.Readings.{shown_in}
@@ -57,13 +57,13 @@ number_given e c = 0
 -- a command that was done, and whose reply was taken: one starting packet was sent
 pub record HasDone (c : CommandValue) (number : ℕ) (m n : BenchState) : Type 0 where
   pub number_is : number ≡ number_given m.probe.executor c
-  pub executor : n.probe.executor ≡ (done m.probe.executor c).next
+  pub executor : n.probe.executor ≡ (command_result m.probe.executor c).next
   pub idle : IsIdle n
   pub starting : n.starting ≡ counted_up m.starting
 
 -- the command was done or not
 abbrev pub MayHaveDone : CommandValue → BenchState → BenchState → Type 0
-MayHaveDone c m n = (n.probe.executor ≡ m.probe.executor) ⊎ (n.probe.executor ≡ (done m.probe.executor c).next)
+MayHaveDone c m n = (n.probe.executor ≡ m.probe.executor) ⊎ (n.probe.executor ≡ (command_result m.probe.executor c).next)
 
 -- What was done where a command is answered so. A reply is never bad, and nothing is cut.
 abbrev pub DoneBy : CommandValue → Result ℕ FlightEnd → BenchState → BenchState → Type 0

@@ -2,7 +2,7 @@
 use Rattle.std.specs.Prelude.{◌≡◌, ◌⊎◌, List, ℕ, [], ◌∷◌, length, Option, Result}
 use Rattle.dap_base.specs.Causes.{HasCause}
 use Rattle.probe_core.specs.Bench.{BenchState, Reported, StepsTo, counted_up}
-use Rattle.probe_core.specs.Packet.{answered}
+use Rattle.probe_core.specs.Packet.{packet_answer}
 use Rattle.probe_core.specs.Ranges.{AreLimits}
 use Rattle.probe_core.specs.Runs.{KeepsRuns}
 
@@ -64,11 +64,11 @@ pub record IsIdle (m : BenchState) : Type 0 where
 
 -- after a packet that an idle bench executed, and whose reply was taken
 pub record HasAnswered (packet reply : List ℕ) (m n : BenchState) : Type 0 where
-  pub answer : reply ≡ (answered m.probe.executor packet).reply
-  pub executor : n.probe.executor ≡ (answered m.probe.executor packet).next
+  pub answer : reply ≡ (packet_answer m.probe.executor packet).reply
+  pub executor : n.probe.executor ≡ (packet_answer m.probe.executor packet).next
   pub idle : IsIdle n
   pub starting : n.starting ≡ counted_up m.starting
 
 -- the packet was executed or not
 abbrev pub MayHaveRun : List ℕ → BenchState → BenchState → Type 0
-MayHaveRun packet m n = (n.probe.executor ≡ m.probe.executor) ⊎ (n.probe.executor ≡ (answered m.probe.executor packet).next)
+MayHaveRun packet m n = (n.probe.executor ≡ m.probe.executor) ⊎ (n.probe.executor ≡ (packet_answer m.probe.executor packet).next)

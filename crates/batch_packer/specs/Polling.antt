@@ -2,7 +2,7 @@
 use Rattle.std.specs.Prelude.{◌≡◌, ◌⊎◌, ℕ, ◌-◌, ◌≤◌, ◌==◌, ◌&&◌, Bool, true, false, if◌then◌else◌, is_some}
 use Rattle.std.specs.Prelude.{List, [], ◌∷◌, length, slice_index, slice_range, Option, Some, None, Result, Ok, Err}
 use Rattle.target_machine.specs.Attempt.{bank}
-use Rattle.target_machine.specs.Plain.{Action, Polls, polled}
+use Rattle.target_machine.specs.Plain.{Action, Polls, poll_result}
 use Rattle.dap_messages.specs.declared.command_value.CommandValue.{CommandValue}
 use Rattle.dap_messages.specs.declared.command_value.CommandValue.TheVariants.{Configure, Transfer}
 use Rattle.dap_messages.specs.declared.request.Response.{Response}
@@ -86,7 +86,7 @@ reads_of ask = Polls ask.mask ask.value ask.turns
 
 -- a poll whose reply was taken: it is its reads, one at a time, and the settings are those that it was given
 pub record HasPolled (config : Config) (ask : PollAsk) (matched : Bool) (m n : BenchState) : Type 0 where
-  pub matched_is : matched ≡ has_matched (polled ask.turns ask.mask ask.value (target_of m.probe))
+  pub matched_is : matched ≡ has_matched (poll_result ask.turns ask.mask ask.value (target_of m.probe))
   pub acted : HasActed (reads_of ask) 1 m n
   pub retry : (transfers_of n).setting.retry ≡ config.retry
   pub idle_cycles : n.probe.executor.idle ≡ config.idle

@@ -1,6 +1,6 @@
 //! One packet and its reply.
 ghost use Rattle.std.specs.Prelude.{◌≡◌, ◌<◌, ◌≤◌, false, length, take, IfOk, OnErr};
-ghost use Rattle.probe_core.specs.Bench.{sent, received};
+ghost use Rattle.probe_core.specs.Bench.{reported_after_packet, reported_after_reply};
 ghost use Rattle.probe_core.specs.Probe.{is_queued};
 ghost use Rattle.batch_packer.specs.Exchanges.{CallsOver, HasAnswered, IsIdle, IsOpen, MayHaveRun, StepsWhere};
 
@@ -16,7 +16,7 @@ pub fn exchange<B: Bench>(packet: &[u8], out: &mut [u8], bench: &mut B) -> Resul
     requires plain { is_queued packet.now ≡ false }
     requires room { (B.reported bench.old).limits.packet_size ≤ length out.old }
     ensures bound { IfOk result (λ n. n ≤ length out.new) }
-    ensures reported { IfOk result (λ n. B.reported bench.new ≡ received (sent (B.reported bench.old) packet.now) (take n out.new)) }
+    ensures reported { IfOk result (λ n. B.reported bench.new ≡ reported_after_reply (reported_after_packet (B.reported bench.old) packet.now) (take n out.new)) }
     ensures state { IfOk result (λ n. StepsWhere IsIdle (HasAnswered packet.now (take n out.new)) (B.state bench.old) (B.state bench.new)) }
     ensures failed { OnErr result (StepsWhere IsIdle (MayHaveRun packet.now) (B.state bench.old) (B.state bench.new)) }
     ensures keeps { CallsOver B.reported B.state B.identity result bench.old bench.new }

@@ -2,14 +2,14 @@
 ghost use Rattle.std.specs.Prelude.{◌≡◌, ◌+◌, ◌*◌, ◌<◌, ◌≤◌, ℕ, true, false, List, Option};
 ghost use Rattle.dap_base.specs.Bits.{has_bit};
 ghost use Rattle.target_machine.specs.InRange.{IsInRange};
-ghost use Rattle.target_machine.specs.Plain.{Action, Commands, acted, given};
+ghost use Rattle.target_machine.specs.Plain.{Action, Commands, action_attempt, given_number};
 ghost use Rattle.target_machine.specs.Registers.{stkerrclr};
 ghost use Rattle.target_machine.specs.declared.unit.ProbeCall.{ProbeCall};
 ghost use Rattle.target_machine.specs.declared.unit.ProbeCall.TheVariants as probe;
 ghost use Rattle.dap_messages.specs.Commands.{IsCommand};
-ghost use Rattle.dap_transfer.specs.Lines.{delayed};
+ghost use Rattle.dap_transfer.specs.Lines.{state_after_delay};
 ghost use Rattle.dap_transfer.specs.State.{TransferState};
-ghost use Rattle.probe_core.specs.Commands.{done};
+ghost use Rattle.probe_core.specs.Commands.{command_result};
 ghost use Rattle.probe_core.specs.Probe.{ExecutorState};
 ghost use Rattle.target_machine.specs.declared.access.RegAccess.{RegAccess};
 ghost use Rattle.probe_core.specs.Bench.{BenchState};
@@ -31,19 +31,19 @@ pub fn another_flight_may_follow()
 /// microseconds.
 pub fn a_command_is_its_call()
     ensures acts { (e : ExecutorState) (c : ProbeCall) → is_one c ≡ true → IsCommand (command_of c)
-        → Acts (Commands c) e.transfers (done e (command_of c)).next.transfers }
-    ensures setting { (e : ExecutorState) (c : ProbeCall) → (done e (command_of c)).next.transfers.setting ≡ e.transfers.setting }
+        → Acts (Commands c) e.transfers (command_result e (command_of c)).next.transfers }
+    ensures setting { (e : ExecutorState) (c : ProbeCall) → (command_result e (command_of c)).next.transfers.setting ≡ e.transfers.setting }
     ensures number { (e : ExecutorState) (c : ProbeCall)
-        → number_given e (command_of c) ≡ given (acted e.transfers.line.target (Commands c)).outcome }
+        → number_given e (command_of c) ≡ given_number (action_attempt e.transfers.line.target (Commands c)).outcome }
 {}
 
 /// A delay of more than 65,535 microseconds is several commands, all but the last of 65,535. The state after so many of these is
 /// `delayed_by` (`none`, `next`). With the last, which has something left, the whole delay was made (`last`).
 pub fn a_delay_is_its_commands()
     ensures none { (p : TransferState) → IsInRange p.line.target → delayed_by p 0 ≡ p }
-    ensures next { (p : TransferState) (count : ℕ) → delayed (delayed_by p count) 65535 ≡ delayed_by p (count + 1) }
+    ensures next { (p : TransferState) (count : ℕ) → state_after_delay (delayed_by p count) 65535 ≡ delayed_by p (count + 1) }
     ensures last { (p : TransferState) (count rest : ℕ) → rest ≤ 65535 → (0 < count → 0 < rest)
-        → Acts (Commands (probe.Delay (65535 * count + rest))) p (delayed (delayed_by p count) rest) }
+        → Acts (Commands (probe.Delay (65535 * count + rest))) p (state_after_delay (delayed_by p count) rest) }
 {}
 
 /// After a poll or a command of the probe a flight may follow (`flies`). A write of ABORT with bit 2 set

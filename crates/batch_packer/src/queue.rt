@@ -1,7 +1,7 @@
 //! The packets of a chain over a bench, and the replies to them.
 ghost use Rattle.std.specs.Prelude.{◌≡◌, ◌≤◌, [], fold, length, OnOk, OnErr};
 ghost use Rattle.dap_base.specs.Causes.{HasCause};
-ghost use Rattle.probe_core.specs.Bench.{StepsTo, received, sent, served};
+ghost use Rattle.probe_core.specs.Bench.{StepsTo, reported_after_reply, reported_after_packet, bench_after_packet};
 ghost use Rattle.probe_core.specs.Runs.{KeepsRuns};
 ghost use Rattle.batch_packer.specs.Exchanges.{CallsOver, IsOpen, StaysAt};
 ghost use Rattle.batch_packer.specs.Queues.{HandedSome, IsQueue, ServedSome};
@@ -16,8 +16,8 @@ use probe_core::{Bench, PacketList};
 pub fn send_all<B: Bench>(packets: &PacketList, bench: &mut B) -> Result<(), Failed>
     requires open { IsOpen (B.reported bench.old) }
     requires chain { IsQueue (B.reported bench.old).limits packets.now.items }
-    ensures reported { OnOk result (B.reported bench.new ≡ fold sent (B.reported bench.old) packets.now.items) }
-    ensures state { OnOk result (StepsTo (λ m n. n ≡ fold served m packets.now.items) (B.state bench.old) (B.state bench.new)) }
+    ensures reported { OnOk result (B.reported bench.new ≡ fold reported_after_packet (B.reported bench.old) packets.now.items) }
+    ensures state { OnOk result (StepsTo (λ m n. n ≡ fold bench_after_packet m packets.now.items) (B.state bench.old) (B.state bench.new)) }
     ensures failed { OnErr result (StepsTo (ServedSome packets.now.items) (B.state bench.old) (B.state bench.new)) }
     ensures keeps { CallsOver B.reported B.state B.identity result bench.old bench.new }
 {
@@ -42,7 +42,7 @@ pub fn receive_all<B: Bench>(
     requires many { count ≤ replies.old.room }
     ensures count { OnOk result (length replies.new.items ≡ count) }
     ensures room { replies.new.room ≡ replies.old.room }
-    ensures reported { OnOk result (B.reported bench.new ≡ fold received (B.reported bench.old) replies.new.items) }
+    ensures reported { OnOk result (B.reported bench.new ≡ fold reported_after_reply (B.reported bench.old) replies.new.items) }
     ensures state { StepsTo (HandedSome replies.new.items) (B.state bench.old) (B.state bench.new) }
     ensures keeps { StaysAt (B.reported bench.old) (B.reported bench.new) }
     ensures runs { KeepsRuns (B.state bench.old) (B.state bench.new) }

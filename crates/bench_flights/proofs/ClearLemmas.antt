@@ -1,7 +1,7 @@
 -- A write of ABORT after a fault, by what every command of the probe does.
 use Rattle.std.proofs.Common.{◌≡◌, inl, inr, ℕ, ◌+◌, ◌^◌, ◌<◌, Bool, true, false, cond, ◌&&◌, Option, Result, Ok, Err, IfOk, IfErr, refl, sym, subst}
-use Rattle.target_machine.specs.Attempt.{Attempt, attempt, done, is_free}
-use Rattle.target_machine.specs.Plain.{Commands, acted, forgives, given}
+use Rattle.target_machine.specs.Attempt.{Attempt, attempt, done_attempt, is_free}
+use Rattle.target_machine.specs.Plain.{Commands, action_attempt, forgives, given_number}
 use Rattle.target_machine.specs.State.{TargetState}
 use Rattle.target_machine.specs.declared.unit.ProbeCall.{ProbeCall}
 use Rattle.probe_core.specs.Bench.{BenchState, StepsTo}
@@ -21,13 +21,13 @@ pub clear_dones : (x y : Option BenchState) (call : ProbeCall) (r : Result ℕ F
 clear_dones x y call (Ok word) h same = steps_map _ _ (λ m o f can counts. f (may_clear call m same can)) x y h
 clear_dones x y call (Err end) h same = tt
 
-none_either : (b : Bool) (x y : Attempt) → given y.outcome ≡ 0 → given (cond (b && false) x y).outcome ≡ 0
+none_either : (b : Bool) (x y : Attempt) → given_number y.outcome ≡ 0 → given_number (cond (b && false) x y).outcome ≡ 0
 none_either true x y h = h
 none_either false x y h = h
 
-none_given : (t : TargetState) → given (acted t (Commands forgives)).outcome ≡ 0
+none_given : (t : TargetState) → given_number (action_attempt t (Commands forgives)).outcome ≡ 0
 unfolding attempt is_free
-none_given t = none_either t.sticky _ (done (record t { sticky = false })) refl
+none_given t = none_either t.sticky _ (done_attempt (record t { sticky = false })) refl
 
 left_cleared : (call : ProbeCall) (m o : BenchState) → call ≡ forgives → LeftActionOff (Commands call) ends.BenchFault m o → ClearedOff ends.BenchFault m o
 left_cleared call m o same h = by_left (subst (λ (c : ProbeCall). LeftActionOff (Commands c) ends.BenchFault m o) same h)

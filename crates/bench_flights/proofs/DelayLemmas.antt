@@ -2,7 +2,7 @@
 use Rattle.std.proofs.Common.{◌≡◌, ◌⊎◌, inl, inr, ◌∙◌, ℕ, zero, suc, ◌+◌, ◌*◌, ◌<◌, ◌≤◌, true, false, Option, Some, None, Result, Ok, Err, IfOk, IfErr, refl, sym, ap, subst, arith}
 use Rattle.std.specs.Prelude.{bit_and, ◌==◌}
 use Rattle.target_machine.specs.InRange.{IsInRange}
-use Rattle.target_machine.specs.Lines.{delayed}
+use Rattle.target_machine.specs.Lines.{delayed_target}
 use Rattle.target_machine.specs.Plain.{Action, Commands, Makes, Polls}
 use Rattle.target_machine.specs.State.{TargetState}
 use Rattle.target_machine.specs.declared.unit.ProbeCall.{ProbeCall}
@@ -61,10 +61,10 @@ made_done x word m o flies h = record {
 
 -- ---- a delay
 
-delays_add : (p : TransferState) (count rest : ℕ) → rest ≤ 65535 → (0 < count → 0 < rest) → delayed (delayed p.line.target (65535 * count)) rest ≡ delayed p.line.target (65535 * count + rest)
+delays_add : (p : TransferState) (count rest : ℕ) → rest ≤ 65535 → (0 < count → 0 < rest) → delayed_target (delayed_target p.line.target (65535 * count)) rest ≡ delayed_target p.line.target (65535 * count + rest)
 delays_add p count rest few some = (last_delayed p count rest few some).target
 
-delays_next : (p : TransferState) (count : ℕ) → delayed (delayed p.line.target (65535 * count)) 65535 ≡ delayed p.line.target (65535 * (count + 1))
+delays_next : (p : TransferState) (count : ℕ) → delayed_target (delayed_target p.line.target (65535 * count)) 65535 ≡ delayed_target p.line.target (65535 * (count + 1))
 delays_next p count = ap (λ (q : TransferState). q.line.target) (next_delayed p count)
 
 pub delay_begins : (x : Option BenchState) → StepsTo (λ m o. IsInRange (target_of m.probe) → HasDelayed 0 m o) x x
@@ -88,7 +88,7 @@ one_more count word m k o h d in_range =
     let made = d a.in_range in
     let b = made.acts in
     record {
-      target = b.target ∙ ap (λ (t : TargetState). delayed t 65535) a.target ∙ delays_next (transfers_of m) count;
+      target = b.target ∙ ap (λ (t : TargetState). delayed_target t 65535) a.target ∙ delays_next (transfers_of m) count;
       work = (let w = a.work in let v = b.work in omega (arith, w, v));
       number = b.number ∙ a.number;
       retries = b.retries ∙ a.retries;
@@ -110,7 +110,7 @@ whole_acts : (count rest : ℕ) (m k o : BenchState) → rest ≤ 65535 → (0 <
     IsInRange (target_of m.probe) → Acts (Commands (probe.Delay (65535 * count + rest))) (transfers_of m) (transfers_of o)
 whole_acts count rest m k o few some a b in_range = record {
   passes = refl;
-  target = b.target ∙ ap (λ (t : TargetState). delayed t rest) a.target ∙ delays_add (transfers_of m) count rest few some;
+  target = b.target ∙ ap (λ (t : TargetState). delayed_target t rest) a.target ∙ delays_add (transfers_of m) count rest few some;
   work = (let w = a.work in let v = b.work in let one : delay_commands rest ≡ 1 = delay_one rest few in let all = many_commands count rest few some in omega (arith, w, v, one, all));
   number = b.number ∙ a.number;
   retries = b.retries ∙ a.retries;
@@ -118,8 +118,8 @@ whole_acts count rest m k o few some a b in_range = record {
   mask = b.mask ∙ a.mask;
   matches = b.matches ∙ ap (λ (s : Setting). s.matches) a.setting;
   stalls = b.stalls ∙ ap (λ (s : Setting). s.stalls) a.setting;
-  dpidr = ap (λ (t : TargetState). t.dpidr) (b.target ∙ ap (λ (t : TargetState). delayed t rest) a.target);
-  clear = λ clear. ap (λ (t : TargetState). t.sticky) (b.target ∙ ap (λ (t : TargetState). delayed t rest) a.target) ∙ clear;
+  dpidr = ap (λ (t : TargetState). t.dpidr) (b.target ∙ ap (λ (t : TargetState). delayed_target t rest) a.target);
+  clear = λ clear. ap (λ (t : TargetState). t.sticky) (b.target ∙ ap (λ (t : TargetState). delayed_target t rest) a.target) ∙ clear;
   in_range = λ in_range. b.in_range a.in_range;
 }
 

@@ -18,7 +18,7 @@ use Rattle.dap_messages.proofs.PacketLaws.{alone_is_read}
 use Rattle.dap_replies.proofs.ReplyLaws.{response-code}
 use Rattle.flight_forms.specs.Chains.{nothing_yet}
 use Rattle.flight_forms.specs.Flights.{Part, part_of}
-use Rattle.flight_forms.specs.Forms.{bytes_in, filled, fits_guarded, fits_transfer, form_of, parts_of}
+use Rattle.flight_forms.specs.Forms.{bytes_in, filled_parts, fits_guarded, fits_transfer, form_of, parts_of}
 use Rattle.flight_forms.specs.Packets.{FitChain, block_command, transfer_command}
 use Rattle.flight_forms.specs.Packing.{AreWords, requests_for}
 use Rattle.flight_forms.specs.declared.form.Form.{Form}
@@ -109,12 +109,12 @@ single_reply (reply ∷ other ∷ replies) long = absurd (omega (arith, long))
 -- ---- a chain has two packets or more
 
 -- where there is one part alone, all accesses fit it
-filled_one : (size : ℕ) (part rest : List RegAccess) → length (filled size part rest) ≡ 1 → (rest ≡ []) ⊎ (fits_guarded size (part ++ rest) ≡ true)
+filled_one : (size : ℕ) (part rest : List RegAccess) → length (filled_parts size part rest) ≡ 1 → (rest ≡ []) ⊎ (fits_guarded size (part ++ rest) ≡ true)
 filled_one size part [] one = inl refl
 filled_one size part (a ∷ rest) one = inr (by_fit (fits_guarded size (part ++ a ∷ [])) refl one (λ e. filled_one size (part ++ a ∷ []) rest e))
   where
-    by_fit : (b : Bool) → fits_guarded size (part ++ a ∷ []) ≡ b → length (cond b (filled size (part ++ a ∷ []) rest) (part ∷ filled size (a ∷ []) rest)) ≡ 1 →
-        (length (filled size (part ++ a ∷ []) rest) ≡ 1 → (rest ≡ []) ⊎ (fits_guarded size ((part ++ a ∷ []) ++ rest) ≡ true)) → fits_guarded size (part ++ a ∷ rest) ≡ true
+    by_fit : (b : Bool) → fits_guarded size (part ++ a ∷ []) ≡ b → length (cond b (filled_parts size (part ++ a ∷ []) rest) (part ∷ filled_parts size (a ∷ []) rest)) ≡ 1 →
+        (length (filled_parts size (part ++ a ∷ []) rest) ≡ 1 → (rest ≡ []) ⊎ (fits_guarded size ((part ++ a ∷ []) ++ rest) ≡ true)) → fits_guarded size (part ++ a ∷ rest) ≡ true
     by_fit false fit one go = absurd (let s = some_parts size (a ∷ []) rest in omega (arith, one, s))
     by_fit true fit one go = by_rest (go one)
       where
@@ -140,7 +140,7 @@ not_transfer false false c h = refl
 
 chain_parts : (size count : ℕ) (accesses : List RegAccess) → 64 ≤ size → size ≤ 1024 → form_of size count accesses ≡ Some Chain → 0 < length accesses → 2 ≤ length (parts_of size accesses)
 chain_parts size count [] least most is some = absurd (omega (arith, some))
-chain_parts size count (a ∷ rest) least most is some = by_one (length (filled size (a ∷ []) rest)) refl (some_parts size (a ∷ []) rest)
+chain_parts size count (a ∷ rest) least most is some = by_one (length (filled_parts size (a ∷ []) rest)) refl (some_parts size (a ∷ []) rest)
   where
     unfit : fits_transfer size (a ∷ rest) ≡ false
     unfit = not_transfer _ _ _ is
@@ -149,7 +149,7 @@ chain_parts size count (a ∷ rest) least most is some = by_one (length (filled 
     by_which (inl none) = (let alone : form_of size count (a ∷ rest) ≡ Some Transfer = ap (λ (l : List RegAccess). form_of size count (a ∷ l)) none ∙ one_fits size count a least most in cc (alone, is))
     by_which (inr fit) = (let t = guarded_transfer size (a ∷ rest) least fit in cc (t, unfit))
 
-    by_one : (n : ℕ) → length (filled size (a ∷ []) rest) ≡ n → 1 ≤ n → 2 ≤ length (filled size (a ∷ []) rest)
+    by_one : (n : ℕ) → length (filled_parts size (a ∷ []) rest) ≡ n → 1 ≤ n → 2 ≤ length (filled_parts size (a ∷ []) rest)
     by_one zero is some = absurd (omega (arith, some))
     by_one (suc zero) is some = absurd (by_which (filled_one size (a ∷ []) rest is))
     by_one (suc (suc n)) is some = omega (arith, is)

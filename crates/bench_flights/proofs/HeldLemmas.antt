@@ -12,7 +12,7 @@ use Rattle.dap_transfer.proofs.Words.{reads_first}
 use Rattle.probe_core.specs.Ranges.{AreLimits}
 use Rattle.probe_core.specs.declared.job.Limits.{Limits}
 use Rattle.access_calls.specs.Standing.{flight_accesses, packet_capacity}
-use Rattle.flight_forms.specs.Forms.{all_write_drw, bytes_in, filled, fits_block, fits_chain, fits_guarded, fits_transfer, form_of, parts_of}
+use Rattle.flight_forms.specs.Forms.{all_write_drw, bytes_in, filled_parts, fits_block, fits_chain, fits_guarded, fits_transfer, form_of, parts_of}
 use Rattle.flight_forms.specs.Packing.{check_when, request_of, requests_for}
 use Rattle.flight_forms.specs.declared.form.Form.{Form}
 use Rattle.flight_forms.specs.declared.form.Form.TheVariants.{Block, Transfer, Chain}
@@ -78,16 +78,16 @@ block_few size accesses small e =
 
 -- a chain whose parts have so many at most, where the first has these accesses already
 filled_few : (size most : ℕ) (part rest : List RegAccess) → 1 ≤ most → ((some : List RegAccess) → fits_guarded size some ≡ true → length some ≤ most) → length part ≤ most
-    → length part + length rest ≤ length (filled size part rest) * most
+    → length part + length rest ≤ length (filled_parts size part rest) * most
 filled_few size most part [] one held few = (let e : 1 * most ≡ most = omega arith in omega (arith, e, few))
 filled_few size most part (a ∷ rest) one held few =
     by_fit (fits_guarded size (part ++ a ∷ [])) refl (λ h. filled_few size most (part ++ a ∷ []) rest one held h) (filled_few size most (a ∷ []) rest one held one)
   where
-    by_fit : (b : Bool) → fits_guarded size (part ++ a ∷ []) ≡ b → (length (part ++ a ∷ []) ≤ most → length (part ++ a ∷ []) + length rest ≤ length (filled size (part ++ a ∷ []) rest) * most)
-        → 1 + length rest ≤ length (filled size (a ∷ []) rest) * most → length part + suc (length rest) ≤ length (cond b (filled size (part ++ a ∷ []) rest) (part ∷ filled size (a ∷ []) rest)) * most
+    by_fit : (b : Bool) → fits_guarded size (part ++ a ∷ []) ≡ b → (length (part ++ a ∷ []) ≤ most → length (part ++ a ∷ []) + length rest ≤ length (filled_parts size (part ++ a ∷ []) rest) * most)
+        → 1 + length rest ≤ length (filled_parts size (a ∷ []) rest) * most → length part + suc (length rest) ≤ length (cond b (filled_parts size (part ++ a ∷ []) rest) (part ∷ filled_parts size (a ∷ []) rest)) * most
     by_fit true e longer shorter = (let n = length-append part (a ∷ []) in let more = longer (held (part ++ a ∷ []) e) in omega (arith, n, more))
     by_fit false e longer shorter =
-        let k : ℕ = length (filled size (a ∷ []) rest) in
+        let k : ℕ = length (filled_parts size (a ∷ []) rest) in
         let d : suc k * most ≡ k * most + most = omega arith in
         omega (arith, shorter, few, d)
 

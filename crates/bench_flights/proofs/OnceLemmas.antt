@@ -14,7 +14,7 @@ use Rattle.dap_messages.specs.declared.request.Response.TheVariants.{Good, Wait,
 use Rattle.dap_replies.proofs.ReplyLaws.{response_is}
 use Rattle.target_machine.specs.Counts.{one_if}
 use Rattle.dap_transfer.specs.Laws.{one_at_a_time, value_now}
-use Rattle.dap_transfer.specs.State.{TransferState, grown, is_wait}
+use Rattle.dap_transfer.specs.State.{TransferState, grown_work, is_wait}
 use Rattle.dap_transfer.specs.WireTransfer.{value_of}
 use Rattle.flight_forms.specs.Flights.{AreClear, DoesPart, Part}
 use Rattle.flight_forms.specs.declared.form.Form.{Form}
@@ -36,7 +36,7 @@ use Rattle.batch_packer.specs.declared.ends.FlightEnd.TheVariants as ends
 use Rattle.batch_packer.proofs.AloneLemmas.{after_in_range}
 use Rattle.bench_flights.specs.Flown.{FlightHasCause, IsCutResponse, NamesNoAccess}
 use Rattle.probe_core.specs.Bench.{Reported as BenchReported}
-use Rattle.bench_flights.specs.Wires.{HasRead, HasWaited, IsUnread, ReadOrNot, unnamed}
+use Rattle.bench_flights.specs.Wires.{HasRead, HasWaited, IsUnread, ReadOrNot, unnamed_end}
 use Rattle.bench_flights.proofs.WireLemmas.{steps_map}
 
 abbrev pub look : List RegAccess
@@ -70,7 +70,7 @@ module _ (m o : BenchState) (part : Part) (flies : CanFly m) (does : DoesPart (t
       record {
         gives = read_gives (target_of m.probe) flies.guard.clear;
         target = next_is good;
-        work = does.work ∙ ap (grown (work_of m.probe)) (all_made good).1;
+        work = does.work ∙ ap (grown_work (work_of m.probe)) (all_made good).1;
         retries = does.retries ∙ ap (λ (r : Response). cond (is_wait r) (min ((transfers_of m).ended_retries + 1) (2 ^ 32 - 1)) (transfers_of m).ended_retries) good;
         number = (let n = does.number in let w : one_if (is_wait part.response) ≡ 0 = ap (λ (r : Response). one_if (is_wait r)) good in let p = (all_made good).1 in omega (arith, n, w, p));
         setting = does.setting;
@@ -95,7 +95,7 @@ module _ (m o : BenchState) (part : Part) (flies : CanFly m) (does : DoesPart (t
       let none : part.performed ≡ 0 = once.refused bad in
       record {
         target = does.made.target ∙ ap (λ (n : ℕ). one_at_a_time (target_of m.probe) (take n look)) none;
-        work = does.work ∙ ap (grown (work_of m.probe)) none;
+        work = does.work ∙ ap (grown_work (work_of m.probe)) none;
         idle_cycles = idle;
       }
 
@@ -175,34 +175,34 @@ look_left x y limits accesses e values end fits is broke h =
 
 -- ---- an end that names no access
 
-pub unnamed_left : (x y : Option BenchState) (end shown : FlightEnd) → shown ≡ unnamed end → StepsTo (λ m o. CanFly m → ReadOrNot end m o) x y → StepsTo (λ m o. CanFly m → ReadOrNot shown m o) x y
+pub unnamed_left : (x y : Option BenchState) (end shown : FlightEnd) → shown ≡ unnamed_end end → StepsTo (λ m o. CanFly m → ReadOrNot end m o) x y → StepsTo (λ m o. CanFly m → ReadOrNot shown m o) x y
 unnamed_left x y end shown is h = subst (λ (e : FlightEnd). StepsTo (λ m o. CanFly m → ReadOrNot e m o) x y) (sym is) (by_end end h)
   where
-    by_end : (e : FlightEnd) → StepsTo (λ m o. CanFly m → ReadOrNot e m o) x y → StepsTo (λ m o. CanFly m → ReadOrNot (unnamed e) m o) x y
+    by_end : (e : FlightEnd) → StepsTo (λ m o. CanFly m → ReadOrNot e m o) x y → StepsTo (λ m o. CanFly m → ReadOrNot (unnamed_end e) m o) x y
     by_end (ends.Cut cut) h = h
     by_end ends.BenchFault h = h
     by_end ends.ReplyBad h = h
 
-pub unnamed_cause : (end shown : FlightEnd) (a b : BenchReported) (packet reply : List ℕ) → shown ≡ unnamed end → FlightHasCause end a b packet reply → FlightHasCause shown a b packet reply
+pub unnamed_cause : (end shown : FlightEnd) (a b : BenchReported) (packet reply : List ℕ) → shown ≡ unnamed_end end → FlightHasCause end a b packet reply → FlightHasCause shown a b packet reply
 unnamed_cause end shown a b packet reply is h = subst (λ (e : FlightEnd). FlightHasCause e a b packet reply) (sym is) (by_end end h)
   where
-    by_end : (e : FlightEnd) → FlightHasCause e a b packet reply → FlightHasCause (unnamed e) a b packet reply
+    by_end : (e : FlightEnd) → FlightHasCause e a b packet reply → FlightHasCause (unnamed_end e) a b packet reply
     by_end (ends.Cut cut) h = h
     by_end ends.BenchFault h = h
     by_end ends.ReplyBad h = h
 
-pub unnamed_response : (end shown : FlightEnd) → shown ≡ unnamed end → IsCutResponse end → IsCutResponse shown
+pub unnamed_response : (end shown : FlightEnd) → shown ≡ unnamed_end end → IsCutResponse end → IsCutResponse shown
 unnamed_response end shown is h = subst IsCutResponse (sym is) (by_end end h)
   where
-    by_end : (e : FlightEnd) → IsCutResponse e → IsCutResponse (unnamed e)
+    by_end : (e : FlightEnd) → IsCutResponse e → IsCutResponse (unnamed_end e)
     by_end (ends.Cut cut) h = h
     by_end ends.BenchFault h = h
     by_end ends.ReplyBad h = h
 
-pub unnamed_none : (end shown : FlightEnd) → shown ≡ unnamed end → NamesNoAccess shown
+pub unnamed_none : (end shown : FlightEnd) → shown ≡ unnamed_end end → NamesNoAccess shown
 unnamed_none end shown is = subst NamesNoAccess (sym is) (by_end end)
   where
-    by_end : (e : FlightEnd) → NamesNoAccess (unnamed e)
+    by_end : (e : FlightEnd) → NamesNoAccess (unnamed_end e)
     by_end (ends.Cut cut) = (refl, refl)
     by_end ends.BenchFault = tt
     by_end ends.ReplyBad = tt

@@ -1,6 +1,7 @@
 -- The cause of the end of a poll: the one reply to its packet.
 use Rattle.std.proofs.Common.{◌≡◌, ◌⊎◌, inl, inr, ◌∙◌, ℕ, zero, suc, ◌-◌, ◌≤◌, Bool, true, false, cond, List, [], ◌∷◌, length, take, Option, Some, None, Ok, Err, Result, IfErr, MatchResult, refl, sym, ap, subst, arith}
-use Rattle.std.specs.Prelude.{◌&&◌, ◌||◌, is_some, nat_lt, ◌==◌, slice_get, slice_index, slice_range}
+use Rattle.std.proofs.Math.Bool.{or-true}
+use Rattle.std.specs.Prelude.{◌&&◌, is_some, nat_lt, ◌==◌, slice_get, slice_index, slice_range}
 use Rattle.std.specs.List.{concat, list_any}
 use Rattle.std.proofs.lemmas.Bool.{eq-eqb, eqb-true, and_from}
 use Rattle.dap_messages.specs.Commands.{Packet, packet_bytes}
@@ -231,11 +232,7 @@ read_some (Ok s) h = (s, refl)
 read_some (Err fault) h = absurd cc
 
 any_second : (code : ℕ) (x y z w : Shown) → (y.response ≡ code) → list_any (λ (s : Shown). s.response == code) (x ∷ y ∷ z ∷ w ∷ []) ≡ true
-any_second code x y z w same = rw (eq-eqb y.response code same) (by_first (x.response == code))
-  where
-    by_first : (b : Bool) → (b || true) ≡ true
-    by_first true = refl
-    by_first false = refl
+any_second code x y z w same = rw (eq-eqb y.response code same) (or-true (x.response == code))
 
 module _ (config : Config) (ask : PollAsk) (reply : List ℕ) (end : FlightEnd) (h : IsCutBy config ask reply end) where
   of_four : is_of_four reply ≡ true

@@ -1,5 +1,6 @@
 -- What a reply is that was read, whatever its bytes are.
 use Rattle.std.proofs.Common.{◌≡◌, ◌∙◌, ℕ, ◌+◌, ◌-◌, ◌*◌, ◌≤◌, Bool, true, false, cond, eqb, ltb, List, [], ◌∷◌, length, take, drop, Option, Some, None, Ok, Err, Result, refl, sym, ap, subst, arith}
+use Rattle.dap_base.proofs.Basics.{same_Ok}
 use Rattle.std.specs.Prelude.{slice_index}
 use Rattle.std.specs.Int.{w16, w64, from_le_bytes}
 use Rattle.std.proofs.Math.Seq.{take-length}
@@ -18,8 +19,8 @@ use Rattle.dap_messages.specs.Rest.{Rest, bytes_past, byte_at, bytes_at, end_of,
 use Rattle.dap_messages.specs.Words.{words_in}
 use Rattle.dap_messages.specs.Replies.{TransferProgress, info_least, info_size, may_end, may_end_block, progress_at}
 use Rattle.dap_replies.specs.ReplyViews.{Shown, shown_plain}
-use Rattle.dap_replies.specs.ReplyReading.{answer_at, answered_at, block_reply_at, id_byte, info_reply_at, is_missing, judged_at, refused, refused_block, reply_read, reply_words_at, status_at, transfer_reply_at, words_given}
-use Rattle.dap_messages.proofs.Fields.{bind_ok, not_refused, ok_is, passed}
+use Rattle.dap_replies.specs.ReplyReading.{answer_at, answered_at, block_reply_at, id_byte, info_reply_at, is_missing, judged_at, fault_of_response, refused_block, reply_read, reply_words_at, status_at, transfer_reply_at, words_given}
+use Rattle.dap_messages.proofs.Fields.{bind_ok, not_refused, passed}
 use Rattle.dap_messages.proofs.PacketLaws.{ended_ok_at}
 use Rattle.dap_replies.proofs.ReplyLaws.{response_is}
 
@@ -28,7 +29,7 @@ byte_there_from : (place : ℕ) (bytes : List ℕ) (x : ℕ × Rest) → first_b
 byte_there_from place [] x e = absurd cc
 byte_there_from place (b ∷ bytes) x e =
     let made : ℕ × Rest = (b, record { place = place + 1; bytes = bytes }) in
-    subst (λ (y : ℕ × Rest). b ∷ bytes ≡ y.0 ∷ y.1.bytes) (ok_is made x e) refl
+    subst (λ (y : ℕ × Rest). b ∷ bytes ≡ y.0 ∷ y.1.bytes) (same_Ok made x e) refl
 
 byte_there : (r : Rest) (x : ℕ × Rest) → byte_at r ≡ Ok x → r.bytes ≡ x.0 ∷ x.1.bytes
 byte_there r x e = byte_there_from r.place r.bytes x e
@@ -51,7 +52,7 @@ words_long count response number r s e =
     let made : List ℕ × Rest = (take (4 * number) r.bytes, bytes_past (4 * number) r) in
     let low : 4 * number ≤ length r.bytes = ltb-false _ _ g.0 in
     let q = ended_ok_at (record { count = count; response = response; bytes = b.0.0; words = words_in b.0.0 }) s b.0.1.place b.0.1.bytes b.2 in
-    let none : drop (4 * number) r.bytes ≡ [] = ap (λ (x : List ℕ × Rest). x.1.bytes) (ok_is made b.0 g.1) ∙ q.1 in
+    let none : drop (4 * number) r.bytes ≡ [] = ap (λ (x : List ℕ × Rest). x.1.bytes) (same_Ok made b.0 g.1) ∙ q.1 in
     let short : length r.bytes - 4 * number ≡ 0 = sym (length-drop (4 * number) r.bytes) ∙ ap length none in
     (omega (arith, low, short), ap (λ (x : Shown). x.count) (sym q.0), ap (λ (x : Shown). x.response) (sym q.0))
 
@@ -73,7 +74,7 @@ unfolding answered_at
 judged_read None requests count place code r s named within e = absurd cc
 judged_read (Some response) requests count place code r s named within e =
     let p : TransferProgress = progress_at requests count in
-    let g = passed (may_end response p (is_missing response p r)) (refused response place (place + 1)) (reply_words_at count (code_of response) (words_given p (is_missing response p r)) r) s e in
+    let g = passed (may_end response p (is_missing response p r)) (fault_of_response response place (place + 1)) (reply_words_at count (code_of response) (words_given p (is_missing response p r)) r) s e in
     let w = words_long count (code_of response) (words_given p (is_missing response p r)) r s g.1 in
     record {
       count = count;
@@ -169,9 +170,9 @@ info_at id r s e =
     let low : info_size id ≤ length a.0.1.bytes = ltb-false _ _ h.0 in
     let g = not_refused (ltb (from_le_bytes w64 b.0.0) (info_least id)) (BadCount a.0.1.place) (at_end (shown_plain r.bytes) b.0.1) s b.2 in
     let q = ended_ok_at (shown_plain r.bytes) s b.0.1.place b.0.1.bytes g.1 in
-    let none : drop (info_size id) a.0.1.bytes ≡ [] = ap (λ (x : List ℕ × Rest). x.1.bytes) (ok_is made b.0 h.1) ∙ q.1 in
+    let none : drop (info_size id) a.0.1.bytes ≡ [] = ap (λ (x : List ℕ × Rest). x.1.bytes) (same_Ok made b.0 h.1) ∙ q.1 in
     let long : length a.0.1.bytes ≡ info_size id = (let short : length a.0.1.bytes - info_size id ≡ 0 = sym (length-drop (info_size id) a.0.1.bytes) ∙ ap length none in omega (arith, low, short)) in
-    let taken : b.0.0 ≡ a.0.1.bytes = sym (ap (λ (x : List ℕ × Rest). x.0) (ok_is made b.0 h.1)) ∙ ap (λ (k : ℕ). take k a.0.1.bytes) (sym long) ∙ take-length a.0.1.bytes in
+    let taken : b.0.0 ≡ a.0.1.bytes = sym (ap (λ (x : List ℕ × Rest). x.0) (same_Ok made b.0 h.1)) ∙ ap (λ (k : ℕ). take k a.0.1.bytes) (sym long) ∙ take-length a.0.1.bytes in
     let least : info_least id ≤ from_le_bytes w64 a.0.1.bytes = subst (λ (bytes : List ℕ). info_least id ≤ from_le_bytes w64 bytes) taken (ltb-false _ _ g.0) in
     let shown : s.bytes ≡ a.0.0 ∷ a.0.1.bytes = ap (λ (x : Shown). x.bytes) (sym q.0) ∙ byte_there r a.0 a.1 in
     subst (λ (bytes : List ℕ). info_least id ≤ slice_index bytes 1 + 256 * slice_index bytes 2) (sym shown) (number_of (eqb id 0xFE) a.0.0 a.0.1.bytes long least)

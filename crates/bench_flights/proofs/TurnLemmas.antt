@@ -3,13 +3,13 @@ use Rattle.std.proofs.Common.{◌≡◌, ◌⊎◌, inl, inr, ◌∙◌, ℕ, ze
 use Rattle.std.specs.Prelude.{◌==◌, ◌&&◌, bit_and, not}
 use Rattle.std.proofs.lemmas.Bool.{eq-eqb, eqb-true}
 use Rattle.target_machine.specs.Attempt.{Attempt, answers, attempt, bank, ctrl_stat, dp_read, is_free}
-use Rattle.target_machine.specs.Plain.{Polled, Polls, dp_read_of, given, is_fault, looked, polled}
+use Rattle.target_machine.specs.Plain.{Polled, Polls, dp_read_of, given_number, is_fault, poll_read, poll_result}
 use Rattle.target_machine.specs.State.{TargetState}
 use Rattle.target_machine.specs.declared.access.Outcome.{Outcome}
 use Rattle.target_machine.specs.declared.access.Outcome.TheVariants.{Value, Done, Fault}
 use Rattle.target_machine.proofs.AccessLaws.{stays}
 use Rattle.target_calls.proofs.EntryLemmas.{weight_some}
-use Rattle.dap_transfer.specs.State.{Setting, grown}
+use Rattle.dap_transfer.specs.State.{Setting, grown_work}
 use Rattle.probe_core.specs.Bench.{BenchState, StepsTo}
 use Rattle.probe_core.specs.Probe.{target_of, work_of}
 use Rattle.access_calls.specs.Standing.{RetryIsOver, transfer_number_of}
@@ -24,10 +24,10 @@ use Rattle.bench_flights.proofs.WireLemmas.{steps_join, steps_map}
 -- ---- one read is a poll of one turn
 
 one_turn : (mask requested value : ℕ) (t : TargetState) (hit : Bool) → (attempt t (dp_read_of 0x4)).outcome ≡ Value value → (bit_and value mask == requested) ≡ hit →
-    polled 1 mask requested t ≡ cond hit (record { outcome = Value 1; reads = 1; next = (first_turn t).next }) (record { outcome = Value 0; reads = 1; next = (first_turn t).next })
-unfolding polled
+    poll_result 1 mask requested t ≡ cond hit (record { outcome = Value 1; reads = 1; next = (first_turn t).next }) (record { outcome = Value 0; reads = 1; next = (first_turn t).next })
+unfolding poll_result
 one_turn mask requested value t hit gives is =
-    ap (λ (o : Outcome). looked o (first_turn t).next mask requested (polled 0 mask requested (first_turn t).next)) gives
+    ap (λ (o : Outcome). poll_read o (first_turn t).next mask requested (poll_result 0 mask requested (first_turn t).next)) gives
     ∙ ap (λ (b : Bool). cond b (record { outcome = Value 1; reads = 1; next = (first_turn t).next }) (record { outcome = Value 0; reads = 1; next = (first_turn t).next })) is
 
 read_looked : (mask requested value : ℕ) (m o : BenchState) (hit : Bool) → HasRead value m o → (bit_and value mask == requested) ≡ hit → HasLooked mask requested 1 (cond hit 1 0) m o
@@ -35,9 +35,9 @@ read_looked mask requested value m o true h is =
     let all = one_turn mask requested value (target_of m.probe) true h.gives is in
     record {
       good = ap (λ (p : Polled). is_fault p.outcome) all;
-      word_is = ap (λ (p : Polled). given p.outcome) (sym all);
+      word_is = ap (λ (p : Polled). given_number p.outcome) (sym all);
       target = h.target ∙ ap (λ (p : Polled). p.next) (sym all);
-      work = h.work ∙ ap (λ (p : Polled). grown (work_of m.probe) p.reads) (sym all);
+      work = h.work ∙ ap (λ (p : Polled). grown_work (work_of m.probe) p.reads) (sym all);
       retries = h.retries;
       number = (let n = h.number in let r = ap (λ (p : Polled). p.reads) all in omega (arith, n, r));
       setting = h.setting;
@@ -48,9 +48,9 @@ read_looked mask requested value m o false h is =
     let all = one_turn mask requested value (target_of m.probe) false h.gives is in
     record {
       good = ap (λ (p : Polled). is_fault p.outcome) all;
-      word_is = ap (λ (p : Polled). given p.outcome) (sym all);
+      word_is = ap (λ (p : Polled). given_number p.outcome) (sym all);
       target = h.target ∙ ap (λ (p : Polled). p.next) (sym all);
-      work = h.work ∙ ap (λ (p : Polled). grown (work_of m.probe) p.reads) (sym all);
+      work = h.work ∙ ap (λ (p : Polled). grown_work (work_of m.probe) p.reads) (sym all);
       retries = h.retries;
       number = (let n = h.number in let r = ap (λ (p : Polled). p.reads) all in omega (arith, n, r));
       setting = h.setting;
@@ -77,7 +77,7 @@ read_same t other =
     stays (t.sticky && not (is_free t (dp_read_of 0x4))) (record { outcome = Fault; next = t }) (dp_read t 0x4) t refl
     (other_bank (bank t == 0) (answers (ctrl_stat t) (record t { reads = min (t.reads + 1) (2 ^ 32 - 1) })) t (not_zero (bank t) other))
 
-looked_same : (o : Outcome) (u : TargetState) (mask requested : ℕ) (rest : Polled) (t : TargetState) → u ≡ t → rest.next ≡ t → (looked o u mask requested rest).next ≡ t
+looked_same : (o : Outcome) (u : TargetState) (mask requested : ℕ) (rest : Polled) (t : TargetState) → u ≡ t → rest.next ≡ t → (poll_read o u mask requested rest).next ≡ t
 looked_same Done u mask requested rest t h k = k
 looked_same Fault u mask requested rest t h k = h
 looked_same (Value n) u mask requested rest t h k = by_hit (bit_and n mask == requested)
@@ -86,13 +86,13 @@ looked_same (Value n) u mask requested rest t h k = by_hit (bit_and n mask == re
     by_hit true = h
     by_hit false = k
 
-polled_same : (n mask requested : ℕ) (t : TargetState) → (bank t ≡ 0 → ⊥) → (polled n mask requested t).next ≡ t
-unfolding polled
+polled_same : (n mask requested : ℕ) (t : TargetState) → (bank t ≡ 0 → ⊥) → (poll_result n mask requested t).next ≡ t
+unfolding poll_result
 polled_same zero mask requested t other = refl
 polled_same (suc n) mask requested t other =
     let x : Attempt = first_turn t in
     let same : x.next ≡ t = read_same t other in
-    looked_same x.outcome x.next mask requested (polled n mask requested x.next) t same
+    looked_same x.outcome x.next mask requested (poll_result n mask requested x.next) t same
     (polled_same n mask requested x.next (λ zero_bank. other (ap (λ (u : TargetState). bank u) (sym same) ∙ zero_bank)) ∙ same)
 
 -- ---- turn by turn
@@ -110,26 +110,26 @@ pub turn_next : (x y z : Option BenchState) (mask requested a value : ℕ) → (
 turn_next x y z mask requested a value is h r = steps_join _ _ _ (turn_joined mask requested a value false is) x y z h r
 
 pub turn_met : (x y z : Option BenchState) (mask requested a value : ℕ) → (bit_and value mask == requested) ≡ true → StepsTo (λ m o. CanFly m → HasLooked mask requested a 0 m o) x y → StepsTo (λ m o. CanFly m → HasRead value m o) y z →
-    StepsTo (λ m o. CanFly m → HasLooked mask requested (a + 1) 1 m o × (a + 1 ≡ (polled (a + 1) mask requested (target_of m.probe)).reads)) x z
+    StepsTo (λ m o. CanFly m → HasLooked mask requested (a + 1) 1 m o × (a + 1 ≡ (poll_result (a + 1) mask requested (target_of m.probe)).reads)) x z
 turn_met x y z mask requested a value is h r =
     steps_join _ _ _ (λ m k o p q flies. let l = p flies in (turn_joined mask requested a value true is m k o p q flies, met_reads m k o l (q l.flies))) x y z h r
   where
-    met_reads : (m k o : BenchState) → HasLooked mask requested a 0 m k → HasRead value k o → a + 1 ≡ (polled (a + 1) mask requested (target_of m.probe)).reads
+    met_reads : (m k o : BenchState) → HasLooked mask requested a 0 m k → HasRead value k o → a + 1 ≡ (poll_result (a + 1) mask requested (target_of m.probe)).reads
     met_reads m k o l q =
         let t : TargetState = target_of m.probe in
-        let all : polled (a + 1) mask requested t ≡ more_reads a (polled 1 mask requested (target_of k.probe)) =
-        polled_more a 1 mask requested t (unmet_of mask requested a m k l) ∙ ap (λ (u : TargetState). more_reads a (polled 1 mask requested u)) (sym l.target) in
+        let all : poll_result (a + 1) mask requested t ≡ more_reads a (poll_result 1 mask requested (target_of k.probe)) =
+        polled_more a 1 mask requested t (unmet_of mask requested a m k l) ∙ ap (λ (u : TargetState). more_reads a (poll_result 1 mask requested u)) (sym l.target) in
         let one = one_turn mask requested value (target_of k.probe) true q.gives is in
         (let n = ap (λ (p : Polled). p.reads) all in let r = ap (λ (p : Polled). p.reads) one in omega (arith, n, r))
 
-met_there : (mask requested a rest turns : ℕ) (m o : BenchState) → a + rest ≡ turns → HasLooked mask requested a 1 m o → a ≡ (polled a mask requested (target_of m.probe)).reads → HasDoneWhole (Polls mask requested turns) (matched_word true) m o × (a ≡ (polled turns mask requested (target_of m.probe)).reads)
+met_there : (mask requested a rest turns : ℕ) (m o : BenchState) → a + rest ≡ turns → HasLooked mask requested a 1 m o → a ≡ (poll_result a mask requested (target_of m.probe)).reads → HasDoneWhole (Polls mask requested turns) (matched_word true) m o × (a ≡ (poll_result turns mask requested (target_of m.probe)).reads)
 met_there mask requested a rest turns m o sum h reads = (
   looked_done mask requested turns 1 m o (subst (λ (n : ℕ). HasLooked mask requested n 1 m o) sum (looked_stops mask requested a rest m o h)),
-  reads ∙ ap (λ (p : Polled). p.reads) (sym (polled_stops a rest mask requested (target_of m.probe) (sym h.word_is))) ∙ ap (λ (n : ℕ). (polled n mask requested (target_of m.probe)).reads) sum,
+  reads ∙ ap (λ (p : Polled). p.reads) (sym (polled_stops a rest mask requested (target_of m.probe) (sym h.word_is))) ∙ ap (λ (n : ℕ). (poll_result n mask requested (target_of m.probe)).reads) sum,
 )
 
-pub turns_met : (x z : Option BenchState) (mask requested a turns : ℕ) → a ≤ turns → StepsTo (λ m o. CanFly m → HasLooked mask requested a 1 m o × (a ≡ (polled a mask requested (target_of m.probe)).reads)) x z →
-    StepsTo (λ m o. CanFly m → HasDoneWhole (Polls mask requested turns) (matched_word true) m o) x z × StepsTo (λ m o. CanFly m → a ≡ (polled turns mask requested (target_of m.probe)).reads) x z
+pub turns_met : (x z : Option BenchState) (mask requested a turns : ℕ) → a ≤ turns → StepsTo (λ m o. CanFly m → HasLooked mask requested a 1 m o × (a ≡ (poll_result a mask requested (target_of m.probe)).reads)) x z →
+    StepsTo (λ m o. CanFly m → HasDoneWhole (Polls mask requested turns) (matched_word true) m o) x z × StepsTo (λ m o. CanFly m → a ≡ (poll_result turns mask requested (target_of m.probe)).reads) x z
 turns_met x z mask requested a turns within h =
     let sum : a + (turns - a) ≡ turns = omega (arith, within) in (
       steps_map _ _ (λ m o f flies. let l = f flies in (met_there mask requested a (turns - a) turns m o sum l.0 l.1).0) x z h,
@@ -137,7 +137,7 @@ turns_met x z mask requested a turns within h =
     )
 
 pub turns_used : (x z : Option BenchState) (mask requested turns : ℕ) → StepsTo (λ m o. CanFly m → HasLooked mask requested turns 0 m o) x z →
-    StepsTo (λ m o. CanFly m → HasDoneWhole (Polls mask requested turns) (matched_word false) m o) x z × StepsTo (λ m o. CanFly m → turns ≡ (polled turns mask requested (target_of m.probe)).reads) x z
+    StepsTo (λ m o. CanFly m → HasDoneWhole (Polls mask requested turns) (matched_word false) m o) x z × StepsTo (λ m o. CanFly m → turns ≡ (poll_result turns mask requested (target_of m.probe)).reads) x z
 turns_used x z mask requested turns h = (
   steps_map _ _ (λ m o f flies. looked_done mask requested turns 0 m o (f flies)) x z h,
   steps_map _ _ (λ m o f flies. sym (unmet_reads turns mask requested (target_of m.probe) (unmet_of mask requested turns m o (f flies)))) x z h,
@@ -146,18 +146,18 @@ turns_used x z mask requested turns h = (
 -- ---- where a read did not come
 
 -- so many turns are fewer than all
-fewer_reads : (mask requested a turns : ℕ) (m k : BenchState) → a < turns → HasLooked mask requested a 0 m k → a < (polled turns mask requested (target_of m.probe)).reads
+fewer_reads : (mask requested a turns : ℕ) (m k : BenchState) → a < turns → HasLooked mask requested a 0 m k → a < (poll_result turns mask requested (target_of m.probe)).reads
 fewer_reads mask requested a turns m k less h =
     let t : TargetState = target_of m.probe in
     let sum : a + (turns - a) ≡ turns = omega (arith, less) in
-    let all : polled turns mask requested t ≡ more_reads a (polled (turns - a) mask requested (polled a mask requested t).next) =
-    ap (λ (n : ℕ). polled n mask requested t) (sym sum) ∙ polled_more a (turns - a) mask requested t (unmet_of mask requested a m k h) in
-    let some : 0 < (polled (turns - a) mask requested (polled a mask requested t).next).reads = weight_some (polled a mask requested t).next (Polls mask requested (turns - a)) (omega (arith, less)) in
+    let all : poll_result turns mask requested t ≡ more_reads a (poll_result (turns - a) mask requested (poll_result a mask requested t).next) =
+    ap (λ (n : ℕ). poll_result n mask requested t) (sym sum) ∙ polled_more a (turns - a) mask requested t (unmet_of mask requested a m k h) in
+    let some : 0 < (poll_result (turns - a) mask requested (poll_result a mask requested t).next).reads = weight_some (poll_result a mask requested t).next (Polls mask requested (turns - a)) (omega (arith, less)) in
     (let n = ap (λ (p : Polled). p.reads) all in omega (arith, n, some))
 
 unread_less : (mask requested a turns : ℕ) (m k o : BenchState) → a < turns → HasLooked mask requested a 0 m k → IsUnread k o → DidLess (Polls mask requested turns) m o
 unread_less mask requested a turns m k o less h u =
-    let reads : (polled a mask requested (target_of m.probe)).reads ≡ a = unmet_reads a mask requested (target_of m.probe) (unmet_of mask requested a m k h) in
+    let reads : (poll_result a mask requested (target_of m.probe)).reads ≡ a = unmet_reads a mask requested (target_of m.probe) (unmet_of mask requested a m k h) in
     let fewer = fewer_reads mask requested a turns m k less h in
     record {
       work = a;
@@ -173,7 +173,7 @@ bank_of mask requested a m k h zero_bank =
 
 waited_there : (mask requested a turns : ℕ) (m k o : BenchState) → a < turns → HasLooked mask requested a 0 m k → HasWaited k o → WasUnanswered (Polls mask requested turns) m o
 waited_there mask requested a turns m k o less h w =
-    let reads : (polled a mask requested (target_of m.probe)).reads ≡ a = unmet_reads a mask requested (target_of m.probe) (unmet_of mask requested a m k h) in
+    let reads : (poll_result a mask requested (target_of m.probe)).reads ≡ a = unmet_reads a mask requested (target_of m.probe) (unmet_of mask requested a m k h) in
     let fewer = fewer_reads mask requested a turns m k less h in
     let same : target_of o.probe ≡ target_of m.probe = w.unread.target ∙ h.target ∙ polled_same a mask requested (target_of m.probe) (λ zero_bank. w.other (bank_of mask requested a m k h zero_bank)) in
     record {
@@ -193,7 +193,7 @@ read_there mask requested a turns value m k o true less h r is =
     let n : HasLooked mask requested (a + 1) 1 m o = looked_more mask requested a 1 1 m k o h (read_looked mask requested value k o true r is) in
     let sum : (a + 1) + (turns - (a + 1)) ≡ turns = omega (arith, less) in
     let w : HasLooked mask requested turns 1 m o = subst (λ (c : ℕ). HasLooked mask requested c 1 m o) sum (looked_stops mask requested (a + 1) (turns - (a + 1)) m o n) in
-    inl (looked_done mask requested turns (given (polled turns mask requested (target_of m.probe)).outcome) m o (subst (λ (c : ℕ). HasLooked mask requested turns c m o) w.word_is w))
+    inl (looked_done mask requested turns (given_number (poll_result turns mask requested (target_of m.probe)).outcome) m o (subst (λ (c : ℕ). HasLooked mask requested turns c m o) w.word_is w))
 read_there mask requested a turns value m k o false less h r is =
     by_rest (looked_more mask requested a 1 0 m k o h (read_looked mask requested value k o false r is)) (turns - (a + 1)) refl
   where
@@ -201,7 +201,7 @@ read_there mask requested a turns value m k o false less h r is =
     by_rest n zero same =
         let all : a + 1 ≡ turns = omega (arith, same, less) in
         let w : HasLooked mask requested turns 0 m o = subst (λ (c : ℕ). HasLooked mask requested c 0 m o) all n in
-        inl (looked_done mask requested turns (given (polled turns mask requested (target_of m.probe)).outcome) m o (subst (λ (c : ℕ). HasLooked mask requested turns c m o) w.word_is w))
+        inl (looked_done mask requested turns (given_number (poll_result turns mask requested (target_of m.probe)).outcome) m o (subst (λ (c : ℕ). HasLooked mask requested turns c m o) w.word_is w))
     by_rest n (suc rest) same = inr (unread_less mask requested (a + 1) turns m o o (omega (arith, same)) n (record { target = refl; work = omega arith; idle_cycles = refl }))
 
 turn_broke : (mask requested a turns : ℕ) (end : FlightEnd) → a < turns → (m k o : BenchState) → (CanFly m → HasLooked mask requested a 0 m k) → (CanFly k → ReadOrNot end k o) → CanFly m → LeftActionOff (Polls mask requested turns) end m o

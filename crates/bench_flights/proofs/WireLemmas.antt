@@ -8,7 +8,7 @@ use Rattle.dap_messages.specs.Commands.{IsCommand}
 use Rattle.dap_messages.specs.declared.command_value.CommandValue.{CommandValue}
 use Rattle.probe_core.specs.Bench.{BenchState, StepsTo}
 use Rattle.probe_core.specs.Probe.{ExecutorState, target_of}
-use Rattle.probe_core.specs.Commands.{done}
+use Rattle.probe_core.specs.Commands.{command_result}
 use Rattle.batch_packer.specs.Actions.{Acts, command_of, is_one}
 use Rattle.batch_packer.specs.Commands.{DoneBy, HasDone, is_single}
 use Rattle.batch_packer.specs.Flying.{transfers_of}
@@ -36,15 +36,15 @@ steps_join P Q R f (Some m) (Some n) (Some o) h k = f m n o h k
 -- ---- one command
 
 -- no command of a call sets the idle cycles
-call_keeps_idle : (e : ExecutorState) (call : ProbeCall) → (done e (command_of call)).next.idle ≡ e.idle
+call_keeps_idle : (e : ExecutorState) (call : ProbeCall) → (command_result e (command_of call)).next.idle ≡ e.idle
 call_keeps_idle e (probe.Abort value) = refl
 call_keeps_idle e other = refl
 
-acts_by : (call : ProbeCall) (m o : BenchState) → is_one call ≡ true → IsCommand (command_of call) → o.probe.executor ≡ (done m.probe.executor (command_of call)).next → Acts (Commands call) (transfers_of m) (transfers_of o)
+acts_by : (call : ProbeCall) (m o : BenchState) → is_one call ≡ true → IsCommand (command_of call) → o.probe.executor ≡ (command_result m.probe.executor (command_of call)).next → Acts (Commands call) (transfers_of m) (transfers_of o)
 acts_by call m o one command same =
     subst (λ (e : ExecutorState). Acts (Commands call) (transfers_of m) e.transfers) (sym same) (call_acts m.probe.executor call one command)
 
-was_made : (call : ProbeCall) (m o : BenchState) → is_one call ≡ true → IsCommand (command_of call) → o.probe.executor ≡ (done m.probe.executor (command_of call)).next → WasMade (Commands call) m o
+was_made : (call : ProbeCall) (m o : BenchState) → is_one call ≡ true → IsCommand (command_of call) → o.probe.executor ≡ (command_result m.probe.executor (command_of call)).next → WasMade (Commands call) m o
 was_made call m o one command same = record {
   acts = acts_by call m o one command same;
   setting = ap (λ (e : ExecutorState). e.transfers.setting) same ∙ call_sets_nothing m.probe.executor call;

@@ -4,7 +4,7 @@ use Rattle.std.specs.Prelude.{List, [], slice_get, Option, Some, None, Result, O
 use Rattle.dap_base.specs.Bits.{has_bit}
 use Rattle.dap_base.specs.Causes.{Rose}
 use Rattle.target_machine.specs.Attempt.{bank}
-use Rattle.target_machine.specs.Plain.{Action, acted, given, is_fault}
+use Rattle.target_machine.specs.Plain.{Action, action_attempt, given_number, is_fault}
 use Rattle.target_machine.specs.Registers.{stkerrclr}
 use Rattle.target_machine.specs.State.{Agree}
 use Rattle.target_machine.specs.InRange.{IsInRange}
@@ -111,8 +111,8 @@ CanCount x m = work_of m.probe + weight (target_of m.probe) x < 2 ^ 64
 -- The poll or the command was made whole, and gave this.
 pub record HasDoneWhole (x : Action) (word : ℕ) (m o : BenchState) : Type 0 where
   pub does : CanCount x m → DoesAction x m o
-  pub good : is_fault (acted (target_of m.probe) x).outcome ≡ false
-  pub word_is : word ≡ given (acted (target_of m.probe) x).outcome
+  pub good : is_fault (action_attempt (target_of m.probe) x).outcome ≡ false
+  pub word_is : word ≡ given_number (action_attempt (target_of m.probe) x).outcome
   pub next : CanFly o
 
 -- nothing of the action was done, or a part of it, and the idle cycles stay
@@ -139,7 +139,7 @@ pub record WasUnanswered (x : Action) (m o : BenchState) : Type 0 where
 -- A poll or a command that did not come to its end: where the bench failed it was done whole or in part, or not at all.
 abbrev pub LeftActionOff : Action → FlightEnd → BenchState → BenchState → Type 0
 LeftActionOff x (ends.Cut cut) m o = (cut.response ≡ 0x02) × WasUnanswered x m o
-LeftActionOff x ends.BenchFault m o = HasDoneWhole x (given (acted (target_of m.probe) x).outcome) m o ⊎ DidLess x m o
+LeftActionOff x ends.BenchFault m o = HasDoneWhole x (given_number (action_attempt (target_of m.probe) x).outcome) m o ⊎ DidLess x m o
 LeftActionOff x ends.ReplyBad m o = ⊥
 
 -- it names no access as performed or confirmed

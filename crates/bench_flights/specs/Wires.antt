@@ -2,13 +2,13 @@
 use Rattle.std.specs.Prelude.{◌≡◌, ◌⊎◌, ℕ, ◌+◌, ◌*◌, ◌^◌, ◌<◌, ◌≤◌, false, true, is_some, slice_get, List, [], length, Option, None, Some, Result, IfErr, OnOk, ⊤}
 use Rattle.target_machine.specs.Attempt.{attempt, bank}
 use Rattle.target_machine.specs.InRange.{IsInRange}
-use Rattle.target_machine.specs.Lines.{delayed}
-use Rattle.target_machine.specs.Plain.{Action, acted, dp_read_of, given, is_fault, polled}
+use Rattle.target_machine.specs.Lines.{delayed_target}
+use Rattle.target_machine.specs.Plain.{Action, action_attempt, dp_read_of, given_number, is_fault, poll_result}
 use Rattle.target_machine.specs.Sound.{IsSoundProbe}
 use Rattle.target_machine.specs.declared.unit.ProbeCall.{ProbeCall}
 use Rattle.target_machine.specs.declared.access.Outcome.TheVariants.{Value}
 use Rattle.target_machine.specs.declared.access.RegAccess.{RegAccess}
-use Rattle.dap_transfer.specs.State.{grown}
+use Rattle.dap_transfer.specs.State.{grown_work}
 use Rattle.probe_core.specs.Bench.{BenchState, Reported}
 use Rattle.probe_core.specs.Probe.{ended_retries_of, target_of, work_of}
 use Rattle.probe_core.specs.declared.job.Limits.{Limits}
@@ -79,7 +79,7 @@ pub record HasMadeAction (x : Action) (word : ℕ) (m o : BenchState) : Type 0 w
   pub acts : Acts x (transfers_of m) (transfers_of o)
   pub setting : transfer_setting_of o ≡ transfer_setting_of m
   pub idle_cycles : idle_cycles_of o ≡ idle_cycles_of m
-  pub word_is : word ≡ given (acted (target_of m.probe) x).outcome
+  pub word_is : word ≡ given_number (action_attempt (target_of m.probe) x).outcome
 
 -- Of an action in one packet that ended so: where the bench failed it was made whole, or nothing was done. No reply is bad, and nothing
 -- is cut.
@@ -103,8 +103,8 @@ pub record KeepsUncut {B T : Type 0} (reported : B → Reported) (state : B → 
 
 -- so many delays of 65,535 microseconds were made
 pub record HasDelayed (count : ℕ) (m o : BenchState) : Type 0 where
-  pub target : target_of o.probe ≡ delayed (target_of m.probe) (65535 * count)
-  pub work : work_of o.probe ≡ grown (work_of m.probe) count
+  pub target : target_of o.probe ≡ delayed_target (target_of m.probe) (65535 * count)
+  pub work : work_of o.probe ≡ grown_work (work_of m.probe) count
   pub number : transfer_number_of o ≡ transfer_number_of m
   pub retries : ended_retries_of o.probe ≡ ended_retries_of m.probe
   pub pending : pending_of o ≡ pending_of m
@@ -115,12 +115,12 @@ pub record HasDelayed (count : ℕ) (m o : BenchState) : Type 0 where
 
 -- CTRL/STAT was read up to so many times, as by a poll of so many turns, which gave this.
 pub record HasLooked (mask requested turns word : ℕ) (m o : BenchState) : Type 0 where
-  pub good : is_fault (polled turns mask requested (target_of m.probe)).outcome ≡ false
-  pub word_is : word ≡ given (polled turns mask requested (target_of m.probe)).outcome
-  pub target : target_of o.probe ≡ (polled turns mask requested (target_of m.probe)).next
-  pub work : work_of o.probe ≡ grown (work_of m.probe) (polled turns mask requested (target_of m.probe)).reads
+  pub good : is_fault (poll_result turns mask requested (target_of m.probe)).outcome ≡ false
+  pub word_is : word ≡ given_number (poll_result turns mask requested (target_of m.probe)).outcome
+  pub target : target_of o.probe ≡ (poll_result turns mask requested (target_of m.probe)).next
+  pub work : work_of o.probe ≡ grown_work (work_of m.probe) (poll_result turns mask requested (target_of m.probe)).reads
   pub retries : ended_retries_of o.probe ≡ ended_retries_of m.probe
-  pub number : transfer_number_of o ≤ transfer_number_of m + 2 * (polled turns mask requested (target_of m.probe)).reads
+  pub number : transfer_number_of o ≤ transfer_number_of m + 2 * (poll_result turns mask requested (target_of m.probe)).reads
   pub setting : transfer_setting_of o ≡ transfer_setting_of m
   pub idle_cycles : idle_cycles_of o ≡ idle_cycles_of m
   pub flies : CanFly o
@@ -129,7 +129,7 @@ pub record HasLooked (mask requested turns word : ℕ) (m o : BenchState) : Type
 pub record HasRead (value : ℕ) (m o : BenchState) : Type 0 where
   pub gives : (attempt (target_of m.probe) (dp_read_of 0x4)).outcome ≡ Value value
   pub target : target_of o.probe ≡ (attempt (target_of m.probe) (dp_read_of 0x4)).next
-  pub work : work_of o.probe ≡ grown (work_of m.probe) 1
+  pub work : work_of o.probe ≡ grown_work (work_of m.probe) 1
   pub retries : ended_retries_of o.probe ≡ ended_retries_of m.probe
   pub number : transfer_number_of o ≤ transfer_number_of m + 2
   pub setting : transfer_setting_of o ≡ transfer_setting_of m
@@ -139,7 +139,7 @@ pub record HasRead (value : ℕ) (m o : BenchState) : Type 0 where
 -- a read that was not made left the target, the work and the idle cycles
 pub record IsUnread (m o : BenchState) : Type 0 where
   pub target : target_of o.probe ≡ target_of m.probe
-  pub work : work_of o.probe ≡ grown (work_of m.probe) 0
+  pub work : work_of o.probe ≡ grown_work (work_of m.probe) 0
   pub idle_cycles : idle_cycles_of o ≡ idle_cycles_of m
 
 -- A read that a WAIT ended: DPBANKSEL is not 0, as CTRL/STAT itself never waits.
@@ -158,7 +158,7 @@ ReadOrNot ends.BenchFault m o = ((value : ℕ) × HasRead value m o) ⊎ IsUnrea
 ReadOrNot ends.ReplyBad m o = ⊥
 
 -- the same end, naming no access
-abbrev pub unnamed : FlightEnd → FlightEnd
-unnamed (ends.Cut cut) = ends.Cut (record { performed = 0; confirmed = 0; response = cut.response })
-unnamed ends.BenchFault = ends.BenchFault
-unnamed ends.ReplyBad = ends.ReplyBad
+abbrev pub unnamed_end : FlightEnd → FlightEnd
+unnamed_end (ends.Cut cut) = ends.Cut (record { performed = 0; confirmed = 0; response = cut.response })
+unnamed_end ends.BenchFault = ends.BenchFault
+unnamed_end ends.ReplyBad = ends.ReplyBad

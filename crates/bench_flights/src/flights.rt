@@ -1,7 +1,7 @@
 //! What makes flights, polls and commands of the probe, as an access uses it.
 ghost use Rattle.std.specs.Prelude.{◌≡◌, ◌≤◌, ◌+◌, ◌-◌, ◌++◌, ◌∷◌, ◌^◌, ◌<◌, true, false, [], ℕ, Bool, List, Option, None, Some, length, IfOk, IfErr, OnOk};
 ghost use Rattle.std.specs.Option.{unwrap_or};
-ghost use Rattle.target_machine.specs.Plain.{Commands, Polls, forgives, polled};
+ghost use Rattle.target_machine.specs.Plain.{Commands, Polls, forgives, poll_result};
 ghost use Rattle.target_machine.specs.Sound.{IsSoundProbe};
 ghost use Rattle.target_machine.specs.declared.access.RegAccess.{RegAccess};
 ghost use Rattle.access_regs.specs.Costs.{command_cost, portions};
@@ -160,7 +160,7 @@ pub trait Flights {
         ensures done { IfOk result (λ found. StepsWhere CanFly (HasDoneWhole (Polls mask requested turns) (matched_word found.matched))
             (state self.old) (state self.new)) }
         ensures reads { IfOk result (λ found. StepsWhere CanFly
-            (λ m _. found.reads ≡ (polled turns mask requested (target_of m.probe)).reads) (state self.old) (state self.new)) }
+            (λ m _. found.reads ≡ (poll_result turns mask requested (target_of m.probe)).reads) (state self.old) (state self.new)) }
         ensures packets { IfOk result (λ found. StepsWhere CanFly (SendsFew found.reads) (state self.old) (state self.new)) }
         ensures left { IfErr result (λ end. StepsWhere CanFly (LeftActionOff (Polls mask requested turns) end)
             (state self.old) (state self.new)) }

@@ -15,7 +15,7 @@ ghost use Rattle.bench_flights.specs.Flown.{IsTargetInRange, IsUnnamed, LeftActi
 ghost use Rattle.bench_flights.specs.Opening.{least_of};
 ghost use Rattle.bench_flights.specs.Flown.{SendsFew};
 ghost use Rattle.bench_flights.specs.Wires.{AreHeld, HasMadeAction, HasRead, HaveWordValues, IsFree, IsOneCommand, KeepsUncut, KeepsWireWhole};
-ghost use Rattle.bench_flights.specs.Wires.{MadeOrNot, MaySendCommand, MaySendPoll, ReadOrNot, unnamed};
+ghost use Rattle.bench_flights.specs.Wires.{MadeOrNot, MaySendCommand, MaySendPoll, ReadOrNot, unnamed_end};
 
 use crate::flights::{Flights, Polled};
 use batch_packer::{Cut, Flight, FlightEnd, PollAsk, Slots};
@@ -67,7 +67,7 @@ fn command_of(call: ProbeCall) -> Command<'static>
 
 // The same end, naming no access.
 fn name_no_access(end: FlightEnd) -> FlightEnd
-    ensures { result ≡ unnamed end }
+    ensures { result ≡ unnamed_end end }
 {
     match end {
         FlightEnd::Cut(cut) => FlightEnd::Cut(Cut {

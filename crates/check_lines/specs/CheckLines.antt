@@ -8,7 +8,7 @@ use Rattle.sequence_trees.specs.declared.spot.Part.{Part}
 use Rattle.sequence_trees.specs.declared.spot.Spot.{Spot}
 use Rattle.sequence_resolve.specs.declared.entry.SeqEntry.{SeqEntry}
 use Rattle.sequence_resolve.specs.declared.entry.SeqSet.{SeqSet}
-use Rattle.text_lines.specs.Shown.{shown, dotted}
+use Rattle.text_lines.specs.Shown.{shown_text, dotted_numbers}
 use Rattle.check_lines.specs.Words.{level_word, part_word, kind_word, disabled_word}
 use Rattle.check_lines.specs.Counts.{block_count, control_count, atomic_count}
 
@@ -26,7 +26,7 @@ counts_words steps =
 -- a sequence: its name, its level, its counts, and whether it is disabled
 abbrev pub sequence_line : SeqEntry → List ℕ
 sequence_line e =
-    codes "sequence " ++ shown e.name ++ codes " from " ++ level_word e.from ++ counts_words e.steps ++ disabled_word e.disabled ++ codes "\n"
+    codes "sequence " ++ shown_text e.name ++ codes " from " ++ level_word e.from ++ counts_words e.steps ++ disabled_word e.disabled ++ codes "\n"
 
 -- the number of sequences, and then a line for each in the set's order
 abbrev pub check_lines : SeqSet → List (List ℕ)
@@ -44,7 +44,7 @@ place_words place = codes " " ++ decimal place.line ++ codes ":" ++ decimal plac
 
 -- the name of a sequence, the numbers of a step in it, and a part of the step
 abbrev pub step_words : List ℕ → List ℕ → Part → List ℕ
-step_words name path part = codes " " ++ shown name ++ codes " " ++ dotted path ++ codes " " ++ part_word part
+step_words name path part = codes " " ++ shown_text name ++ codes " " ++ dotted_numbers path ++ codes " " ++ part_word part
 
 -- the sequence, the step and its part, or the debug variables, which belong to no sequence
 abbrev pub where_words : Option (List ℕ) → List ℕ → Part → List ℕ

@@ -5,12 +5,12 @@ use Rattle.json_form.specs.declared.path.PathStep.{PathStep}
 use Rattle.json_form.specs.declared.path.PathStep.TheVariants.{Key, Index}
 
 -- a byte of a key: `~0` for a tilde (0x7E), and `~1` for a slash (0x2F)
-abbrev pub escaped : ℕ → List ℕ
-escaped byte = if byte == 0x7E then codes "~0" else (if byte == 0x2F then codes "~1" else byte ∷ [])
+abbrev pub escaped_byte : ℕ → List ℕ
+escaped_byte byte = if byte == 0x7E then codes "~0" else (if byte == 0x2F then codes "~1" else byte ∷ [])
 
 -- a slash, and the key or the number of the item
 abbrev pub step_text : PathStep → List ℕ
-step_text (Key name) = codes "/" ++ flat_map escaped name
+step_text (Key name) = codes "/" ++ flat_map escaped_byte name
 step_text (Index index) = codes "/" ++ decimal index
 
 -- `#`, and then step by step

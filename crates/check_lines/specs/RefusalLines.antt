@@ -5,7 +5,7 @@ use Rattle.json_form.specs.declared.path.PathStep.{PathStep}
 use Rattle.json_form.specs.declared.fault.JobFault.{JobFault}
 use Rattle.json_form.specs.Faults.{fault_name, fault_path}
 use Rattle.hex_image.specs.declared.fault.ImageKind.{ImageKind}
-use Rattle.text_lines.specs.Shown.{shown}
+use Rattle.text_lines.specs.Shown.{shown_text}
 use Rattle.job_check.specs.declared.answer.DbgconfKind.{DbgconfKind}
 use Rattle.job_check.specs.declared.answer.Refusal.{Refusal}
 use Rattle.job_check.specs.declared.answer.Refusal.TheVariants as refusals
@@ -15,7 +15,7 @@ use Rattle.check_lines.specs.CheckLines.{fault_line, place_words}
 
 -- the name of a job's fault and its path, each byte of which is shown
 abbrev pub path_line : List ℕ → List PathStep → List ℕ
-path_line name path = codes "refused " ++ name ++ codes " " ++ shown (path_text path) ++ codes "\n"
+path_line name path = codes "refused " ++ name ++ codes " " ++ shown_text (path_text path) ++ codes "\n"
 
 -- the line of a job's fault; refused memory has no path, and no line
 abbrev pub job_fault_line : JobFault → List ℕ

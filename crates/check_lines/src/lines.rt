@@ -1,6 +1,6 @@
 //! The lines of the texts.
 ghost use Rattle.std.specs.Prelude.{◌≡◌, ◌++◌, codes, IfOk};
-ghost use Rattle.text_lines.specs.Shown.{shown};
+ghost use Rattle.text_lines.specs.Shown.{shown_text};
 ghost use Rattle.check_lines.specs.Words.{level_word, kind_word};
 ghost use Rattle.check_lines.specs.CheckLines.{head_line, counts_words, sequence_line, place_words, step_words, where_words, fault_words, fault_line};
 
@@ -24,7 +24,7 @@ pub fn head_text(alloc: Global, sequences: u64) -> Result<Line, OutOfMemory>
 
 // The name of a sequence and the level that it comes from.
 fn begin_sequence(alloc: Global, entry: &SeqEntry) -> Result<Line, OutOfMemory>
-    ensures { IfOk result (λ line. line ≡ codes "sequence " ++ shown entry.now.name ++ codes " from " ++ level_word entry.now.from) }
+    ensures { IfOk result (λ line. line ≡ codes "sequence " ++ shown_text entry.now.name ++ codes " from " ++ level_word entry.now.from) }
 {
     let line = Line::begin(alloc, "sequence ")?.add_shown(entry.name.as_str().as_bytes())?;
     line.text(" from ")?.text(level_text(entry.from))

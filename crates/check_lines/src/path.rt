@@ -1,15 +1,15 @@
 //! The path of a job's fault, as a line shows it.
 ghost use Rattle.std.specs.Prelude.{◌≡◌, ◌++◌, IfOk};
 ghost use Rattle.std.specs.List.{flat_map};
-ghost use Rattle.text_lines.specs.Shown.{shown};
-ghost use Rattle.check_lines.specs.PathText.{escaped, step_text, path_text};
+ghost use Rattle.text_lines.specs.Shown.{shown_text};
+ghost use Rattle.check_lines.specs.PathText.{escaped_byte, step_text, path_text};
 
 use dap_base::OutOfMemory;
 use device_tree::{Path, PathStep};
 use text_lines::Line;
 
 fn with_byte(line: Line, byte: u8) -> Result<Line, OutOfMemory>
-    ensures { IfOk result (λ l. l ≡ line ++ shown (escaped byte)) }
+    ensures { IfOk result (λ l. l ≡ line ++ shown_text (escaped_byte byte)) }
 {
     match byte {
         b'~' => line.add_shown(b"~0"),
@@ -19,7 +19,7 @@ fn with_byte(line: Line, byte: u8) -> Result<Line, OutOfMemory>
 }
 
 fn with_name(line: Line, name: &[u8]) -> Result<Line, OutOfMemory>
-    ensures { IfOk result (λ l. l ≡ line ++ shown (flat_map escaped name.now)) }
+    ensures { IfOk result (λ l. l ≡ line ++ shown_text (flat_map escaped_byte name.now)) }
 {
     let mut line = line;
     for byte in name {
@@ -30,7 +30,7 @@ fn with_name(line: Line, name: &[u8]) -> Result<Line, OutOfMemory>
 
 // A slash, and the key or the number of the item.
 fn with_step(line: Line, step: &PathStep) -> Result<Line, OutOfMemory>
-    ensures { IfOk result (λ l. l ≡ line ++ shown (step_text step.now)) }
+    ensures { IfOk result (λ l. l ≡ line ++ shown_text (step_text step.now)) }
 {
     let line = line.text("/")?;
     match step {
@@ -40,7 +40,7 @@ fn with_step(line: Line, step: &PathStep) -> Result<Line, OutOfMemory>
 }
 
 fn with_steps(line: Line, steps: &[PathStep]) -> Result<Line, OutOfMemory>
-    ensures { IfOk result (λ l. l ≡ line ++ shown (flat_map step_text steps.now)) }
+    ensures { IfOk result (λ l. l ≡ line ++ shown_text (flat_map step_text steps.now)) }
 {
     let mut line = line;
     for step in steps {
@@ -53,7 +53,7 @@ fn with_steps(line: Line, steps: &[PathStep]) -> Result<Line, OutOfMemory>
 /// number of the item in decimal, as in `#/bench/target/words/3/value`. In a key `~` is `~0` and `/` is `~1`. `OutOfMemory` where memory is
 /// refused; the line is then dropped.
 pub fn with_path(line: Line, path: &Path) -> Result<Line, OutOfMemory>
-    ensures { IfOk result (λ l. l ≡ line ++ shown (path_text path.now)) }
+    ensures { IfOk result (λ l. l ≡ line ++ shown_text (path_text path.now)) }
 {
     let line = line.text("#")?;
     with_steps(line, path.as_slice())

@@ -1,7 +1,7 @@
 //! Names that are found fast, and that stand in the order in which they came.
 ghost use Rattle.std.specs.Prelude.{◌≡◌, ◌<◌, [], IfOk, OnOk, OnErr, IfSome, is_some, position, length, map, string_bytes, take};
 ghost use Rattle.std.specs.Str.{bytes_eq};
-ghost use Rattle.function_table.specs.Variables.{predefined};
+ghost use Rattle.function_table.specs.Variables.{names_of_predefined};
 ghost use Rattle.code_check.specs.Names.{has_name, with_name};
 
 use dap_base::OutOfMemory;
@@ -91,7 +91,7 @@ impl Names {
 
     /// The names of the predefined variables.
     pub fn predefined_names(alloc: Global) -> Result<Names, OutOfMemory>
-        ensures { IfOk result (λ n. n ≡ predefined) }
+        ensures { IfOk result (λ n. n ≡ names_of_predefined) }
     {
         let mut names = Names::new(alloc);
         for name in PREDEFINED {

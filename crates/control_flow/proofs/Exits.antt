@@ -12,11 +12,11 @@ use Rattle.target_calls.specs.NeedPoints.{Costs}
 use Rattle.target_calls.specs.World.{World}
 use Rattle.access_calls.proofs.KeepLemmas.{goes_same, goes_trans}
 use Rattle.sequence_rules.specs.declared.bindings.Binding.{Binding}
-use Rattle.sequence_rules.specs.Calls.{guarded}
+use Rattle.sequence_rules.specs.Calls.{guarded_rest}
 use Rattle.sequence_rules.specs.Late.{Late, late, Later}
 use Rattle.sequence_rules.specs.Machine.{State, Out, with_locals, with_variables}
-use Rattle.sequence_rules.specs.Steps.{turns, inside, poll_result_at, repeat_result, block, steps_result, debugged, steps_at, sequence_at}
-use Rattle.sequence_rules.specs.Values.{value, stored, used_now, result_of, truth_of, arguments, call_result, is_call, text_of}
+use Rattle.sequence_rules.specs.Steps.{turns, inside, poll_result_at, repeat_result, block, steps_result, debug_result, steps_at, sequence_at}
+use Rattle.sequence_rules.specs.Values.{value, stored_value, used_now, result_of, truth_of, arguments, call_result, is_call, text_of}
 use Rattle.sequence_rules.proofs.Goes as g
 use Rattle.sequence_rules.proofs.LateLemmas.{steady_late, later_same}
 use Rattle.sequence_rules.proofs.Made.{no_cost}
@@ -47,7 +47,7 @@ back w s out h = record { so = h.so }
 pub later_rest : {A : Type 0} (w : World) (s r : S) (x : A) → r.rest ≡ s.rest → After w s (Ok (x, r))
 later_rest w s r x e = record { so = subst (λ t. Later w s.rest t) (sym e) (later_same no_cost w s.rest) }
 
-pub later_stored : (cost : Costs) (w : World) (name : Name) (v : Value) (s : S) → After w s (stored (late cost w) name v s)
+pub later_stored : (cost : Costs) (w : World) (name : Name) (v : Value) (s : S) → After w s (stored_value (late cost w) name v s)
 later_stored cost w name v s = back w s _ (g.goes_stored (late cost w) (Later w) (steady_late cost w) name v s)
 
 pub later_locals : (w : World) (s : S) (locals : List (Binding Value)) → After {B = Unit {0}} w s (Ok (tt, with_locals s locals))
@@ -98,7 +98,7 @@ later_repeated cost w turn_us seq o timeout steps body s q k = back w s _ (g.goe
 pub later_polled_at : (cost : Costs) (w : World) (form : ℕ × ℕ) (n dp : ℕ) (s : S) → After w s (poll_result_at (late cost w) form n dp s)
 later_polled_at cost w form n dp s = back w s _ (g.goes_polled_at (late cost w) (Later w) (steady_late cost w) form n dp s)
 
-pub later_debugged : (cost : Costs) (w : World) (turn_us : ℕ) (set : SetTrees) (code : List StmtTree) (s : S) → After w s (debugged (late cost w) turn_us set code s)
+pub later_debugged : (cost : Costs) (w : World) (turn_us : ℕ) (set : SetTrees) (code : List StmtTree) (s : S) → After w s (debug_result (late cost w) turn_us set code s)
 later_debugged cost w turn_us set code s = back w s _ (g.goes_debugged (late cost w) (Later w) (steady_late cost w) turn_us set code s)
 
 pub later_steps_at : (cost : Costs) (w : World) (turn_us : ℕ) (set : SetTrees) (name : List ℕ) (s : S) → After w s (steps_at (late cost w) turn_us set name s)
@@ -136,7 +136,7 @@ module _ (runner : Runner) (depth : ℕ) (cost : Costs) (w : World) where
   pub turn_later : (steps : CodeSteps) (n : ℕ) (s : S) → After w s (cond (nat_eq n 0) (Ok (false, s)) (late_inside_of runner depth steps (late cost w) s >>= λ y. Ok (true, y.1)))
   turn_later steps n s = later_turn_rest w n (late_inside_of runner depth steps (late cost w)) s (λ r. inside_later steps r)
 
-  pub called_later : (name : Name) (args : ArgTrees) (ns : List ℕ) (s : S) → After w s (guarded (late cost w) (is_call (function_named name.text) args) (λ r. call_result (late cost w) (late_calls_of (late cost w) runner depth) (function_named name.text) (text_of args) ns r) s)
+  pub called_later : (name : Name) (args : ArgTrees) (ns : List ℕ) (s : S) → After w s (guarded_rest (late cost w) (is_call (function_named name.text) args) (λ r. call_result (late cost w) (late_calls_of (late cost w) runner depth) (function_named name.text) (text_of args) ns r) s)
   called_later name args ns s = back w s _ (g.goes_guarded (late cost w) (Later w) (steady_late cost w) _ _ s (go w s _ (later_called cost w (late_calls_of (late cost w) runner depth) (function_named name.text) (text_of args) ns s calls_later)))
 
 pub ruleset goes_on = (

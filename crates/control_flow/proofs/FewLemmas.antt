@@ -10,10 +10,10 @@ use Rattle.target_calls.specs.declared.calls.Value.{Value}
 use Rattle.target_calls.specs.NeedPoints.{Costs}
 use Rattle.target_calls.specs.World.{World}
 use Rattle.access_calls.specs.Reported.{AccessView}
-use Rattle.sequence_rules.specs.Calls.{guarded, use_now}
+use Rattle.sequence_rules.specs.Calls.{guarded_rest, use_now}
 use Rattle.sequence_rules.specs.Late.{Late, late}
 use Rattle.sequence_rules.specs.Machine.{State, Out}
-use Rattle.sequence_rules.specs.Values.{all_used, appended, argument, arguments, both, call_of, call_result, chained, numbers_of, operands, text_of, used_now, value}
+use Rattle.sequence_rules.specs.Values.{all_used, appended_values, argument, arguments, both, call_of, call_result, chained_values, numbers_of, operands, text_of, used_now, value}
 use Rattle.function_calls.specs.declared.end.End.{End}
 use Rattle.function_calls.specs.Ends.{EndsLate, MeansLate}
 use Rattle.function_calls.proofs.Leaves.{After, ends_on, later_ok}
@@ -79,12 +79,12 @@ module _ (cost : Costs) (w : World) where
   module _ (seq : List ℕ → S → O (Unit {0})) (name : Name) where
     numbers_on : (reached : AccessView) (args : ArgTrees) (out : O (List Value)) (numbers : O (List ℕ)) (ns : List ℕ) (r now : S) (result : Result Value End) (function : Option Function) (text : List ℕ) → numbers_of (late cost w) out ≡ numbers → numbers ≡ Ok (ns, r)
         → function ≡ function_named name.text → text ≡ text_of args → MeansLate w reached result now (call_result (late cost w) seq function text ns r) → MeansLate w reached result now (call_of (late cost w) seq name args out)
-    unfolding call_of guarded late
+    unfolding call_of guarded_rest late
     numbers_on reached args out numbers ns r now result function text same is its words h =
         rw (same ∙ is) (subst (λ (x : Option Function × List ℕ). MeansLate w reached result now (call_result (late cost w) seq x.0 x.1 ns r)) (λ j. (its j, words j)) h)
 
     numbers_end : (reached : AccessView) (e : End) (args : ArgTrees) (out : O (List Value)) (numbers : O (List ℕ)) (now : S) → CallsLater w seq → numbers_of (late cost w) out ≡ numbers → EndsLate w reached e now numbers → EndsLate w reached e now (call_of (late cost w) seq name args out)
-    unfolding call_of guarded late
+    unfolding call_of guarded_rest late
     numbers_end reached e args out numbers now q same h =
         rw same (ends_on w reached e now numbers _ h (λ x. later_called cost w seq (function_named name.text) (text_of args) x.0 x.1 q))
 
@@ -109,12 +109,12 @@ module _ (cost : Costs) (w : World) where
     call_on args s = call_of (late cost w) seq name args (arguments (late cost w) seq args [] s)
 
     one_is : (at : Place) (a : Tree) (s : S) → numbers_of (late cost w) (arguments (late cost w) seq (one_number at a) [] s) ≡ (used_now (late cost w) (value (late cost w) seq a s) >>= in_list)
-    unfolding arguments argument chained appended value_in_list whole_list
+    unfolding arguments argument chained_values appended_values value_in_list whole_list
     one_is at a s = number_of_one (value (late cost w) seq a s)
 
     two_is : (at later : Place) (a b : Tree) (s : S) → numbers_of (late cost w) (arguments (late cost w) seq (two_numbers at a later b) [] s)
         ≡ (operands (late cost w) (value (late cost w) seq a s) (λ r. value (late cost w) seq b r) >>= both_in_list)
-    unfolding arguments argument chained appended value_in_list whole_list
+    unfolding arguments argument chained_values appended_values value_in_list whole_list
     two_is at later a b s = numbers_of_two (value (late cost w) seq a s) (λ r. value (late cost w) seq b r)
 
     pub one_on : (reached : AccessView) (at : Place) (a : Tree) (s r now : S) (n : ℕ) (result : Result Value End) (function : Option Function) → used_now (late cost w) (value (late cost w) seq a s) ≡ Ok (n, r) → function ≡ function_named name.text

@@ -14,9 +14,9 @@ use Rattle.access_calls.specs.Reported.{AccessView}
 use Rattle.sequence_rules.specs.declared.bindings.Binding.{Binding}
 use Rattle.sequence_rules.specs.Late.{Late, late, Later}
 use Rattle.sequence_rules.specs.Machine.{State, Out, end_state, with_locals, with_variables}
-use Rattle.sequence_rules.specs.Variables.{bound, value_named, set_in}
-use Rattle.sequence_rules.specs.Values.{argument, arguments, chained}
-use Rattle.sequence_rules.specs.Steps.{in_order, counted, after_counted, declared, block, step, steps_result, turn, turns, sequence_result, sequence_at}
+use Rattle.sequence_rules.specs.Variables.{bound_variable, value_named, set_in}
+use Rattle.sequence_rules.specs.Values.{argument, arguments, chained_values}
+use Rattle.sequence_rules.specs.Steps.{in_order, counted_step, after_counted, declared_variable, block, step, steps_result, turn, turns, sequence_result, sequence_at}
 use Rattle.sequence_rules.specs.Steps as steps
 use Rattle.sequence_rules.proofs.LoopLemmas as loop
 use Rattle.function_calls.specs.declared.end.End.{End}
@@ -49,7 +49,7 @@ module _ (cost : Costs) (w : World) where
 
   pub args_fail : (seq : List ℕ → S → O (Unit {0})) (reached : AccessView) (e : End) (total : O (List Value)) (xs : List Arg) (i : ℕ) (d a : Arg) (got : List Value) (s r : S) → CallsLater w seq → total ≡ arguments (late cost w) seq (arg_trees (drop i xs)) got s → i < length xs → a ≡ get_or xs i d
       → EndsLate w reached e r (argument (late cost w) seq (arg_tree a) got s) → EndsLate w reached e r total
-  unfolding chained
+  unfolding chained_values
   args_fail seq reached e total xs i d a got s r q same h item is =
       rw (same ∙ loop.args_more (late cost w) seq xs i d got s h) (ends_on w reached e r (argument (late cost w) seq (arg_tree (get_or xs i d)) got s) _ (subst (λ x. EndsLate w reached e r (argument (late cost w) seq (arg_tree x) got s)) item is) (λ x. later_arguments cost w seq (arg_trees (drop (i + 1) xs)) x.0 x.1 q))
 
@@ -75,9 +75,9 @@ module _ (cost : Costs) (w : World) where
   entered_fail body reached e s r q none h = ends_on w reached e q (body (with_locals s [])) _ (subst (λ x. EndsLate w reached e q (body x)) none h) (λ x. later_variables w x.1 _ s.locals)
 
   -- memory was refused for a declaration
-  pub declare_refused : (name : Name) (f : S → O Value) (s k r o : S) (v : Value) → counted (late cost w) s ≡ Ok (tt, k) → f k ≡ Ok (v, r) → o ≡ r → Later w o.rest (end_state (after_counted (late cost w) (λ q. declared (late cost w) name (f q)) s)).rest
-  unfolding after_counted declared
-  declare_refused name f s k r o v h i j = rw h (rw i (rw j ((later_variables w r r.globals (r.locals ++ bound name.text v ∷ [])).so)))
+  pub declare_refused : (name : Name) (f : S → O Value) (s k r o : S) (v : Value) → counted_step (late cost w) s ≡ Ok (tt, k) → f k ≡ Ok (v, r) → o ≡ r → Later w o.rest (end_state (after_counted (late cost w) (λ q. declared_variable (late cost w) name (f q)) s)).rest
+  unfolding after_counted declared_variable
+  declare_refused name f s k r o v h i j = rw h (rw i (rw j ((later_variables w r r.globals (r.locals ++ bound_variable name.text v ∷ [])).so)))
 
   -- a called sequence gives back; no value is used
   pub entered_as : (body : S → O (Unit {0})) (s r q p : S) (dp ap control : Value) (outer : List (Binding Value)) → r ≡ with_locals s [] → body r ≡ Ok (tt, q)

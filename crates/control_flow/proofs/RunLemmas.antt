@@ -5,7 +5,7 @@ use Rattle.std.proofs.lemmas.List.{append-nil, length-append}
 use Rattle.target_machine.specs.declared.unit.HaltCause.{HaltCause}
 use Rattle.target_calls.specs.Asks.{settled_last}
 use Rattle.target_calls.specs.Journal.{Entry}
-use Rattle.target_calls.specs.NeedPoints.{Asks, Costs, needed, finished, nothing_asked}
+use Rattle.target_calls.specs.NeedPoints.{Asks, Costs, asks_at_need, asks_at_finish, nothing_asked}
 use Rattle.target_calls.specs.Values.{number_of}
 use Rattle.target_calls.specs.World.{World, is_over, fewer, stop, skips, world_after}
 use Rattle.target_calls.specs.declared.calls.Ask.{Ask}
@@ -223,7 +223,7 @@ module _ (w : World) where
     pub units : r.units ≡ s.units
     pub skipped : r.skipped ≡ skips w s.rest.asks.calls
     pub few : r.skipped < 2 ^ 32
-    pub asks : r.asks ≡ needed (finished s.rest.asks)
+    pub asks : r.asks ≡ asks_at_need (asks_at_finish s.rest.asks)
     pub written : r.written ≡ s.rest.written
 
   is_all : (o : Outcome) (r : Ran) (s : State Value Late) (y : State ℕ Now) → Alike (ComesTo w) (SameRest w) s y → Closed r s → o.variables ≡ y.globals → o.calls ≡ y.rest.calls → o.skipped ≡ y.rest.skipped → o.written ≡ y.rest.written → IsAll o r
@@ -380,7 +380,7 @@ module _ (w : World) where
       one (Err e) (Err (machine.Unanswered, r)) p k = some_none _ _ _ (stop_here no_cost w _ _ _ _ p) (whole_at _ k)
       one (Err e) (Err (machine.Lost, r)) p k = absurd p
 
-  below_fence : (s : State Value Late) (b : Asks) → b ≡ needed (finished s.rest.asks) → AreAsked (length s.rest.asks.calls) s.globals → AreAsked b.fence s.globals
+  below_fence : (s : State Value Late) (b : Asks) → b ≡ asks_at_need (asks_at_finish s.rest.asks) → AreAsked (length s.rest.asks.calls) s.globals → AreAsked b.fence s.globals
   below_fence s b is h = subst (λ n. AreAsked n s.globals) (sym (length_marked s.rest.asks.calls) ∙ ap (λ (a : Asks). a.fence) (sym is)) h
 
   -- what all was made, settled and looked up for
@@ -389,7 +389,7 @@ module _ (w : World) where
     pub units : r.units ≡ s.units
     pub skipped : r.skipped ≡ skips w r.asks.calls
     pub few : r.skipped < 2 ^ 32
-    pub finish : b ≡ needed (finished s.rest.asks)
+    pub finish : b ≡ asks_at_need (asks_at_finish s.rest.asks)
     pub asks : AreAsked b.fence s.globals → r.asks ≡ b
     pub written : r.written ≡ s.rest.written
 
@@ -408,10 +408,10 @@ module _ (w : World) where
   pub closes : (end : Ending) (s : State Value Late) (out : L) (q : Q) (lines : ℕ) (r : Ran) (b : Asks) → OutIs end s out → Pair w out q → stop w s.rest.asks.calls ≡ None → Looked r s b → RunEndsAs end lines (outcome_of q) r × HasNeeds end r.asks out
   closes ending.Done s out q lines r b is p whole k =
       let c = closed r s b k (left_asked ending.Done s out q is p whole) in
-      (is_done lines r s out q p is whole c, c.asks ∙ ap (λ (z : State Value Late). needed (finished z.rest.asks)) (sym (ends_so ending.Done s out is)))
+      (is_done lines r s out q p is whole c, c.asks ∙ ap (λ (z : State Value Late). asks_at_need (asks_at_finish z.rest.asks)) (sym (ends_so ending.Done s out is)))
   closes (ending.Halted why) s out q lines r b is p whole k =
       let c = closed r s b k (left_asked (ending.Halted why) s out q is p whole) in
-      (is_halted lines why r s out q p is whole c, c.asks ∙ ap (λ (z : State Value Late). needed (finished z.rest.asks)) (sym (ends_so (ending.Halted why) s out is)))
+      (is_halted lines why r s out q p is whole c, c.asks ∙ ap (λ (z : State Value Late). asks_at_need (asks_at_finish z.rest.asks)) (sym (ends_so (ending.Halted why) s out is)))
   closes (ending.Cut report) s out q lines r b is p whole k = absurd is
   closes (ending.BenchFault issued confirmed) s out q lines r b is p whole k = absurd is
   closes ending.ReplyBad s out q lines r b is p whole k = absurd is

@@ -2,7 +2,7 @@
 use Rattle.std.specs.Prelude.{◌≡◌, ◌⊎◌, ℕ, ◌+◌, ◌≤◌, List, length, Option, Some, None, ⊤}
 use Rattle.dap_base.specs.Causes.{Rose}
 use Rattle.target_calls.specs.Asks.{settled_last}
-use Rattle.target_calls.specs.NeedPoints.{Asks, finished, needed}
+use Rattle.target_calls.specs.NeedPoints.{Asks, asks_at_finish, asks_at_need}
 use Rattle.target_calls.specs.declared.calls.Ask.{Ask}
 use Rattle.target_calls.specs.declared.calls.Value.{Value}
 use Rattle.access_calls.specs.declared.stop.Stop.{Stop}
@@ -86,8 +86,8 @@ RunEndsAs other lines o r = IsPartOfOutcome o r
 
 -- Where a run is Done or Halted, what was asked has the need points of the meaning with results that come later, and one for the end.
 abbrev pub HasNeeds : Ending → Asks → Out Value Late (Unit {0}) → Type 0
-HasNeeds e.Done asks out = asks ≡ needed (finished (end_state out).rest.asks)
-HasNeeds (e.Halted cause) asks out = asks ≡ needed (finished (end_state out).rest.asks)
+HasNeeds e.Done asks out = asks ≡ asks_at_need (asks_at_finish (end_state out).rest.asks)
+HasNeeds (e.Halted cause) asks out = asks ≡ asks_at_need (asks_at_finish (end_state out).rest.asks)
 HasNeeds other asks out = ⊤
 
 -- the end of the access is the one that is answered, and else it has none

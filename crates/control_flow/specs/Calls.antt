@@ -11,7 +11,7 @@ use Rattle.sequence_trees.specs.Trees.{SetTrees}
 use Rattle.sequence_rules.specs.Late.{Late}
 use Rattle.sequence_rules.specs.Machine.{Machine, State, Out}
 use Rattle.sequence_rules.specs.Steps.{sequence_at}
-use Rattle.sequence_rules.specs.Values.{value, stored}
+use Rattle.sequence_rules.specs.Values.{value, stored_value}
 use Rattle.control_flow.specs.declared.runner.Runner.{Runner}
 
 -- the sequences of the runner's set, from which calls lead at most so deep
@@ -46,7 +46,7 @@ module _ (m : Machine Value Late) (turn_us : ℕ) (set : SetTrees) where
   -- a debug variable gets its value
   abbrev pub late_definition : Name → Tree → State Value Late → Out Value Late (Unit {0})
   late_definition name e s =
-      value m (λ n q. sequence_at m turn_us set 0 n q) e s >>= λ x. stored m name x.0 x.1 >>= λ y. Ok (tt, y.1)
+      value m (λ n q. sequence_at m turn_us set 0 n q) e s >>= λ x. stored_value m name x.0 x.1 >>= λ y. Ok (tt, y.1)
 
   -- one statement of the debug variables
   abbrev pub late_debug_statement : StmtTree → State Value Late → Out Value Late (Unit {0})

@@ -61,7 +61,7 @@ module _ (runner : Runner) (depth : ℕ) where
 
   -- an assignment of the value of an expression
   abbrev pub late_assignment_of : Name → Tree → LateMeaning Value
-  late_assignment_of name e m s = v.assigned m name (late_value_of e m s)
+  late_assignment_of name e m s = v.assigned_value m name (late_value_of e m s)
 
   -- ---- calls
 
@@ -71,7 +71,7 @@ module _ (runner : Runner) (depth : ℕ) where
 
   -- the values of the arguments so far, and that of an expression
   abbrev pub late_value_after : List Value → Tree → LateMeaning (List Value)
-  late_value_after got e m s = v.appended m got (late_value_of e m s)
+  late_value_after got e m s = v.appended_values m got (late_value_of e m s)
 
   -- the values of the arguments so far and of these, from left to right
   abbrev pub late_arguments_of : ArgTrees → List Value → LateMeaning (List Value)
@@ -109,11 +109,11 @@ module _ (runner : Runner) (depth : ℕ) where
 
   -- a declaration, which is a step
   abbrev pub late_declaration_of : Name → Tree → LateMeaning (Unit {0})
-  late_declaration_of name e m = st.after_counted m (λ r. st.declared m name (late_value_of e m r))
+  late_declaration_of name e m = st.after_counted m (λ r. st.declared_variable m name (late_value_of e m r))
 
   -- an expression whose value is dropped, which is a step
   abbrev pub late_plain_of : Tree → LateMeaning (Unit {0})
-  late_plain_of e m = st.after_counted m (λ r. st.dropped m (late_value_of e m r))
+  late_plain_of e m = st.after_counted m (λ r. st.dropped_value m (late_value_of e m r))
 
   -- the steps of a called sequence, with variables of its own
   abbrev pub late_sequence_of : CodeSteps → LateMeaning (Unit {0})
@@ -150,7 +150,7 @@ module _ (runner : Runner) (depth : ℕ) where
   -- a control: its condition, and then its steps
   abbrev pub late_control_of : Option Tree → Option Tree → Option ℕ → CodeSteps → LateMeaning (Unit {0})
   late_control_of cond repeat timeout steps m =
-      st.controlled m runner.turn_us (late_calls_of m runner depth) cond repeat timeout steps (late_steps_of steps m)
+      st.control_result m runner.turn_us (late_calls_of m runner depth) cond repeat timeout steps (late_steps_of steps m)
 
 module _ (runner : Runner) where
   -- ---- runs
@@ -165,7 +165,7 @@ module _ (runner : Runner) where
 
   -- the debug variables get their values, in order
   abbrev pub late_debugs_of : List StmtTree → LateMeaning (Unit {0})
-  late_debugs_of code m = st.debugged m runner.turn_us (checked_trees runner.set.now) code
+  late_debugs_of code m = st.debug_result m runner.turn_us (checked_trees runner.set.now) code
 
   -- a run: the debug variables, and then the sequence of the name
   abbrev pub late_run_of : List ℕ → LateMeaning (Unit {0})

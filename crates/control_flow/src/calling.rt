@@ -46,7 +46,7 @@ impl Runner<'_> {
 
     // A value after others.
     #[cycle(eval)]
-    #[tactic(auto, unfolding(sequence_rules::specs::Values::appended), using(crate::proofs::Exits::goes_on))]
+    #[tactic(auto, unfolding(sequence_rules::specs::Values::appended_values), using(crate::proofs::Exits::goes_on))]
     fn push_value<A: Access, K: Sink>(
         &self,
         expr: &Expr,
@@ -91,7 +91,7 @@ impl Runner<'_> {
 
     // A call with any arguments: they are evaluated, and then all are used, and then the function is called.
     #[cycle(eval)]
-    #[tactic(auto, unfolding(sequence_rules::specs::Values::call_of, sequence_rules::specs::Values::numbers_of, sequence_rules::specs::Calls::guarded), using(crate::proofs::Exits::goes_on))]
+    #[tactic(auto, unfolding(sequence_rules::specs::Values::call_of, sequence_rules::specs::Values::numbers_of, sequence_rules::specs::Calls::guarded_rest), using(crate::proofs::Exits::goes_on))]
     fn call_listed<A: Access, K: Sink>(
         &self,
         called: &CalledName,

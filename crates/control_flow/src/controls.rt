@@ -17,7 +17,7 @@ use sequence_trees::CheckedStep;
 impl Runner<'_> {
     // A control.
     #[cycle(eval)]
-    #[tactic(auto, unfolding(sequence_rules::specs::Steps::controlled), using(crate::proofs::Exits::goes_on))]
+    #[tactic(auto, unfolding(sequence_rules::specs::Steps::control_result), using(crate::proofs::Exits::goes_on))]
     pub(crate) fn run_control<A: Access, K: Sink>(
         &self,
         cond: &Option<Expr>,
@@ -82,7 +82,7 @@ impl Runner<'_> {
 
     // The steps of a control, once or in turns.
     #[cycle(eval)]
-    #[tactic(auto, unfolding(sequence_rules::specs::Steps::repeat_result, sequence_rules::specs::Calls::given, sequence_rules::specs::Calls::missing), using(crate::proofs::Exits::goes_on))]
+    #[tactic(auto, unfolding(sequence_rules::specs::Steps::repeat_result, sequence_rules::specs::Calls::value_or_missing, sequence_rules::specs::Calls::missing), using(crate::proofs::Exits::goes_on))]
     fn repeat_steps<A: Access, K: Sink>(
         &self,
         repeat: &Option<Expr>,

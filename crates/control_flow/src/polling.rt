@@ -8,7 +8,7 @@ use function_calls::{End, Held, ask, use_debug_port};
 use target_machine::{HaltCause, Unit};
 
 // One unit, whose result is dropped.
-#[tactic(auto, unfolding(sequence_rules::specs::Steps::poll_result_at, sequence_rules::specs::Steps::dropped), using(crate::proofs::Exits::goes_on))]
+#[tactic(auto, unfolding(sequence_rules::specs::Steps::poll_result_at, sequence_rules::specs::Steps::dropped_value), using(crate::proofs::Exits::goes_on))]
 fn run_poll_at<A: Access>(
     mask: u32,
     requested: u32,

@@ -1,6 +1,6 @@
 //! Runs over an access.
 ghost use Rattle.std.specs.Prelude.{◌≡◌, ◌<◌, ℕ, Bool, Option, None, length, map};
-ghost use Rattle.function_table.specs.Variables.{predefined};
+ghost use Rattle.function_table.specs.Variables.{names_of_predefined};
 ghost use Rattle.probe_core.specs.Bench.{BenchState};
 ghost use Rattle.target_calls.specs.NeedPoints.{nothing_asked};
 ghost use Rattle.target_calls.specs.World.{stop};
@@ -44,7 +44,7 @@ pub fn run<A: Access, K: Sink>(
     sink: &mut K,
 ) -> Ended
     requires turns { 0 < settings.now.turn_us }
-    requires names { map (λ variable. variable.name) settings.now.start ≡ predefined }
+    requires names { map (λ variable. variable.name) settings.now.start ≡ names_of_predefined }
     requires open { (A.reported access.old).end ≡ None }
     requires fresh { (A.reported access.old).asks ≡ nothing_asked }
     // How it ended, what is answered, and the lines are those of what the program means in the world that is left.

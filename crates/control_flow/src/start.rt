@@ -2,7 +2,7 @@
 ghost use Rattle.std.specs.Prelude.{◌≡◌, ℕ, List, Option, IfOk, map};
 ghost use Rattle.target_calls.specs.NeedPoints.{Costs, nothing_asked};
 ghost use Rattle.target_calls.specs.World.{World};
-ghost use Rattle.function_table.specs.Variables.{predefined};
+ghost use Rattle.function_table.specs.Variables.{names_of_predefined};
 ghost use Rattle.seq_check.specs.Answers.{checked_trees};
 ghost use Rattle.sequence_rules.specs.Late.{late, late_of};
 ghost use Rattle.sequence_rules.specs.Runs as r;
@@ -22,7 +22,7 @@ use target_machine::{Settings, Variable};
 
 // The predefined variables with their starting values.
 fn make_globals(alloc: Global, start: &[Variable]) -> Result<Globals<Value>, OutOfMemory>
-    requires { map (λ variable. variable.name) start.now ≡ predefined }
+    requires { map (λ variable. variable.name) start.now ≡ names_of_predefined }
     ensures { IfOk result (λ globals. bindings_of globals ≡ bindings_as_values (variables_of start.now)) }
 {
     let mut globals = Globals::new(alloc);
@@ -38,7 +38,7 @@ pub(crate) fn held_at_start(
     checked: &Checked,
     settings: &Settings,
 ) -> Result<Held, OutOfMemory>
-    requires { map (λ variable. variable.name) settings.now.start ≡ predefined }
+    requires { map (λ variable. variable.name) settings.now.start ≡ names_of_predefined }
     ensures state { (cost : Costs) (w : World) (written : Option (List ℕ)) → IfOk result (λ held. late_state_of held nothing_asked written
         ≡ start_state (late cost w) settings.now.turn_us (checked_trees checked.now) (r.as_values (late cost w) (variables_of settings.now.start))
         (late_of nothing_asked written)) }

@@ -116,7 +116,7 @@ impl Runner<'_> {
 
     // A declaration. The value is not used.
     #[cycle(eval)]
-    #[tactic(auto, unfolding(sequence_rules::specs::Steps::after_counted, sequence_rules::specs::Steps::declared), using(crate::proofs::Exits::goes_on))]
+    #[tactic(auto, unfolding(sequence_rules::specs::Steps::after_counted, sequence_rules::specs::Steps::declared_variable), using(crate::proofs::Exits::goes_on))]
     fn declare<A: Access, K: Sink>(
         &self,
         name: &Name,
@@ -143,7 +143,7 @@ impl Runner<'_> {
 
     // An expression whose value is dropped, and not used.
     #[cycle(eval)]
-    #[tactic(auto, unfolding(sequence_rules::specs::Steps::after_counted, sequence_rules::specs::Steps::dropped), using(crate::proofs::Exits::goes_on))]
+    #[tactic(auto, unfolding(sequence_rules::specs::Steps::after_counted, sequence_rules::specs::Steps::dropped_value), using(crate::proofs::Exits::goes_on))]
     fn run_expression<A: Access, K: Sink>(
         &self,
         expr: &Expr,

@@ -13,7 +13,7 @@ use target_calls::Value;
 impl Runner<'_> {
     // The value of an expression: a name or an access is not used.
     #[cycle(eval)]
-    #[tactic(auto, unfolding(sequence_rules::specs::Values::value, sequence_rules::specs::Values::named, sequence_rules::specs::Calls::given, sequence_rules::specs::Calls::missing), using(crate::proofs::Exits::goes_on))]
+    #[tactic(auto, unfolding(sequence_rules::specs::Values::value, sequence_rules::specs::Values::named_value, sequence_rules::specs::Calls::value_or_missing, sequence_rules::specs::Calls::missing), using(crate::proofs::Exits::goes_on))]
     pub(crate) fn evaluate<A: Access, K: Sink>(
         &self,
         expr: &Expr,
@@ -54,7 +54,7 @@ impl Runner<'_> {
     // The value of an operand or an argument, which is not used. Most are numbers or names, which are taken here, without a call for each.
     #[inline(always)]
     #[cycle(eval)]
-    #[tactic(auto, unfolding(sequence_rules::specs::Values::value, sequence_rules::specs::Values::named, sequence_rules::specs::Calls::given, sequence_rules::specs::Calls::missing), using(crate::proofs::Exits::goes_on))]
+    #[tactic(auto, unfolding(sequence_rules::specs::Values::value, sequence_rules::specs::Values::named_value, sequence_rules::specs::Calls::value_or_missing, sequence_rules::specs::Calls::missing), using(crate::proofs::Exits::goes_on))]
     pub(crate) fn evaluate_operand<A: Access, K: Sink>(
         &self,
         expr: &Expr,
@@ -122,7 +122,7 @@ impl Runner<'_> {
     // An assignment. The value is not used.
     #[inline(never)]
     #[cycle(eval)]
-    #[tactic(auto, unfolding(sequence_rules::specs::Values::assigned), using(crate::proofs::Exits::goes_on))]
+    #[tactic(auto, unfolding(sequence_rules::specs::Values::assigned_value), using(crate::proofs::Exits::goes_on))]
     fn assign<A: Access, K: Sink>(
         &self,
         name: &Name,

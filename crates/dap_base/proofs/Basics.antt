@@ -1,5 +1,5 @@
 -- Facts of tests, of lists and of texts that the standard library has under no name.
-use Rattle.std.proofs.Common.{◌≡◌, ℕ, Bool, true, false, ◌&&◌, ◌||◌, nat_lt, List, [], ◌∷◌, length, drop, map, Contains, slice_index_or, zero, suc, ◌<◌, Option, Some, None, bytes_eq, refl, sym, ap, arith}
+use Rattle.std.proofs.Common.{◌≡◌, ℕ, Bool, true, false, ◌&&◌, ◌||◌, nat_lt, List, [], ◌∷◌, length, drop, map, Contains, slice_index_or, zero, suc, ◌<◌, Some, None, Result, Ok, bytes_eq, refl, sym, ap, arith, Option}
 use Rattle.std.proofs.lemmas.Bool.{and_parts, both_ways, false_from_ne_true, le-ltb}
 use Rattle.std.proofs.lemmas.Slice.Eq.{bytes_eq-Decides}
 use Rattle.std.proofs.Math.Bool.{or-false, or-true}
@@ -47,6 +47,9 @@ contains_at f (y ∷ xs) x (suc k) lt is = let r = contains_at f xs x k (omega a
 
 pub contains_map : {X Y : Type 0} (f : X → Y) (xs : List X) (x : X) → Contains xs x → Contains (map f xs) (f x)
 contains_map f xs x k = contains_at f xs x k.0 k.1 k.2
+
+pub same_Ok : {A E : Type 0} (x y : A) → ◌≡◌ {A = Result A E} (Ok x) (Ok y) → x ≡ y
+same_Ok x y e = cc
 
 pub some_none : {A : Type 0} (x : A) → Some x ≡ None → ⊥
 some_none x e = cc

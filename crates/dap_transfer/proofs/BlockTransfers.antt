@@ -3,12 +3,12 @@ use Rattle.std.proofs.Common.{◌≡◌, ℕ, ◌+◌, Bool, true, false, List, 
 use Rattle.dap_messages.specs.declared.request.Request.{Request}
 use Rattle.dap_messages.specs.declared.request.RequestKind.TheVariants.{Write}
 use Rattle.dap_messages.specs.Requests.{is_posted, kind_of, write_after, write_last}
-use Rattle.dap_transfer.specs.Block.{BlockMakesPrefix, block_from, blocked, writes_of}
+use Rattle.dap_transfer.specs.Block.{BlockMakesPrefix, block_from, block_result, writes_of}
 use Rattle.dap_messages.specs.declared.request.RequestKind.{RequestKind}
 use Rattle.dap_transfer.proofs.Prefix.{makes_prefix}
 use Rattle.dap_transfer.specs.Laws.{AreNormal, IsNormalKind, one_at_a_time}
 use Rattle.dap_transfer.specs.State.{TransferState, Transferred}
-use Rattle.dap_transfer.specs.Transfer.{ended, good_front, run_to_place, transferred}
+use Rattle.dap_transfer.specs.Transfer.{run_reply, good_front, run_to_place, transfer_result}
 use Rattle.dap_transfer.specs.Wires.{access_of, Checks, Wire, between, check_if, item, last_mask, mask_by, rdbuff, wires, wires_from}
 
 block_wires : (byte i j m : ℕ) (words : List ℕ) → kind_of byte ≡ Write → j ≡ i + length words →
@@ -38,11 +38,11 @@ wires_same byte m w words e =
     (λ i. wires_from 0 m false rs ++ check_if (last_write byte (write_last (kind_of byte) false) words e (ap (λ k. write_last k false) e) i) (length rs) (mask_same byte m (w ∷ words) e i))
     ∙ block_wires byte 0 (length rs) m (w ∷ words) e (count_same byte (w ∷ words) ∙ omega arith)
 
-pub block_is_transfer : (p : TransferState) (byte w : ℕ) (words : List ℕ) → kind_of byte ≡ Write → transferred p (writes_of byte (w ∷ words)) ≡ blocked p byte (w ∷ words)
+pub block_is_transfer : (p : TransferState) (byte w : ℕ) (words : List ℕ) → kind_of byte ≡ Write → transfer_result p (writes_of byte (w ∷ words)) ≡ block_result p byte (w ∷ words)
 block_is_transfer p byte w words e =
     let rs : List Request = writes_of byte (w ∷ words) in
     let ran = λ (ws : List Wire). run_to_place p.setting false p.line ws (good_front p.setting p.line ws) in
-    λ i. ended p [] (ran (wires_same byte p.mask w words e i)) (count_same byte (w ∷ words) i) (mask_same byte p.mask (w ∷ words) e i)
+    λ i. run_reply p [] (ran (wires_same byte p.mask w words e i)) (count_same byte (w ∷ words) i) (mask_same byte p.mask (w ∷ words) e i)
 
 normal_by : (k : RequestKind) → k ≡ Write → IsNormalKind k
 normal_by k e = subst IsNormalKind (sym e) tt

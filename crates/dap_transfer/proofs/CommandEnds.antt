@@ -14,10 +14,10 @@ use Rattle.dap_messages.specs.declared.request.Response.{Response}
 use Rattle.dap_messages.specs.declared.request.Response.TheVariants.{Good, Wait, Fault, Mismatch}
 use Rattle.dap_messages.specs.Requests.{is_posted, kind, write_last}
 use Rattle.dap_transfer.specs.Wires.{Wire, Posts, Moves, Fetches, Reads, Writes, Checks, item, rdbuff, fetch_if, access_of, between, own, check_if}
-use Rattle.dap_transfer.specs.State.{Setting, TransferState, Transferred, WireState, grown}
+use Rattle.dap_transfer.specs.State.{Setting, TransferState, Transferred, WireState, grown_work}
 use Rattle.dap_transfer.specs.Transfer.{RunResult, is_pending, reads_back}
 use Rattle.dap_transfer.specs.WireTransfer.{ends}
-use Rattle.dap_transfer.specs.Private.{close_ran, mask_if, noted, request_ran, run, served, word_of}
+use Rattle.dap_transfer.specs.Private.{close_ran, mask_if, state_after_command, request_ran, run, state_after_run, word_of}
 use Rattle.dap_transfer.specs.Laws.{IsNormalKind, AreNormal}
 use Rattle.dap_transfer.proofs.Runs.{run-append}
 use Rattle.dap_transfer.proofs.Steps.{continued, start_notes, from_start, goes_on, one_after, breaks_off, closes, ended_here, run_written, between_written}
@@ -25,7 +25,7 @@ use Rattle.dap_transfer.proofs.Prefix.{IsPlain, good_or_not, leaves_good, leaves
 use Rattle.dap_transfer.proofs.TargetFacts.{ap_waits, rdbuff_waits}
 use Rattle.dap_transfer.proofs.Words.{reads_first}
 use Rattle.target_machine.specs.Counts.{one_if}
-use Rattle.dap_transfer.specs.CommandEnds.{may_be_free, writes_ap, AreGuarded, doubted, in_doubt, target_after, EndsAt, Ends}
+use Rattle.dap_transfer.specs.CommandEnds.{may_be_free, writes_ap, AreGuarded, is_doubted, in_doubt, target_after, EndsAt, Ends}
 use Rattle.dap_transfer.proofs.StickyFacts.{stays_clear, free_may}
 use Rattle.dap_transfer.proofs.RunEnds.{OneAs, Reports, one_ends, ReportsAs, alone_reports, back_reports, fetched_reports, gives_one}
 use Rattle.dap_transfer.proofs.ReadWords.{posted_bits, read_bits}
@@ -177,7 +177,7 @@ wait_done false t o u w rs n w_u owes known_doubt known words last =
 pub none_done : (x : Response) (t : TargetState) (o u w waits : Bool) (after own : ℕ) (rs : List Request) (ran : RunResult) (pending : Bool) →
     (x ≡ Good → (rs ≡ []) × (waits ≡ u) × (after ≡ 0) × (own ≡ 0)) → (x ≡ Wait → pending ≡ ran.pending) →
     (w ≡ true → u ≡ true) → (t.sticky ≡ true → (o || w) ≡ true) →
-    ReportsAs x o u t waits after own ran → (x ≡ Wait → 0 ≡ length rs → ran.pending ≡ true) → EndsAt t o u rs (length ran.words) 0 x (doubted x pending)
+    ReportsAs x o u t waits after own ran → (x ≡ Wait → 0 ≡ length rs → ran.pending ≡ true) → EndsAt t o u rs (length ran.words) 0 x (is_doubted x pending)
 none_done Good t o u w waits after own rs ran pending good is w_u owes reports last =
     let g = good refl in
     let reported : (o || u) ≡ true → t.sticky ≡ false = λ h. (let f = reports.0 in f (ap (λ b. o || b) g.1 ∙ h)) in
@@ -274,7 +274,7 @@ pub record Reached (t : TargetState) (o u : Bool) (i before : ℕ) (rs : List Re
   pub more : length d.words ≡ before + given
   pub ends : EndsAt t o u rs given (d.executed - i) d.response (in_doubt d)
 
-wait_pending : (x : Response) (p : TransferState) (b : Bool) → x ≡ Wait → (noted p x b).pending ≡ b
+wait_pending : (x : Response) (p : TransferState) (b : Bool) → x ≡ Wait → (state_after_command p x b).pending ≡ b
 wait_pending Good p b e = absurd (cc)
 wait_pending Wait p b e = refl
 wait_pending Fault p b e = absurd (cc)
@@ -291,7 +291,7 @@ ended_reached p words i ran t o u w waits after own rs d is good w_u owes report
       given = length ran.words;
       more = length-append words ran.words;
       ends = subst (λ (n : ℕ). EndsAt t o u rs (length ran.words) n ran.response (in_doubt (ended_here p words i ran))) none
-          (none_done ran.response t o u w waits after own rs ran (ended_here p words i ran).next.pending good (wait_pending ran.response (record p { line = ran.line; work = grown p.work ran.work }) ran.pending) w_u owes reports last);
+          (none_done ran.response t o u w waits after own rs ran (ended_here p words i ran).next.pending good (wait_pending ran.response (record p { line = ran.line; work = grown_work p.work ran.work }) ran.pending) w_u owes reports last);
     })
   where
     none : 0 ≡ i - i
@@ -337,7 +337,7 @@ reaches p words notes (r ∷ rs) w normal guarded one w_u owes =
     elim (good_or_not ran.response) [
       | inl good ↦
           let next : Notes = record { outstanding = is_posted (kind r); unchecked = ran.written; executed = notes.executed + 1 } in
-          let q : TransferState = served p ran (kind r) r in
+          let q : TransferState = state_after_run p ran (kind r) r in
           let reported = reported_good ran.response _ _ _ _ _ _ ran good reports in
           let clear : t.sticky ≡ false = clear_now notes.outstanding w t.sticky owes reported.0 in
           let written : ran.written ≡ write_last (kind r) notes.unchecked =

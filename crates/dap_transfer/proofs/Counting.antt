@@ -10,7 +10,7 @@ use Rattle.dap_messages.specs.declared.request.Response.TheVariants.{Good, Wait,
 use Rattle.dap_messages.specs.Requests.{is_posted, kind, write_last}
 use Rattle.dap_transfer.specs.Wires.{Matches, Wire, access_of, item, wires_from, between, own, post_if, fetch_if, check_if, mask_after, last_mask}
 use Rattle.dap_transfer.specs.State.{Setting, TransferState, Transferred, WireState}
-use Rattle.dap_transfer.specs.Transfer.{RunResult, ended, ending, is_writes}
+use Rattle.dap_transfer.specs.Transfer.{RunResult, run_reply, ending, is_writes}
 use Rattle.dap_transfer.specs.WireTransfer.{Ending}
 use Rattle.dap_transfer.specs.Private.{first_then, front, run}
 use Rattle.dap_transfer.specs.CommandEnds.{counted_from}
@@ -90,11 +90,11 @@ wires_later k i m o (r ∷ rs) =
     ∙ sym (later-append k (between (kind r) o i m r) (wires_from (i + 1) (mask_after m r) (is_posted (kind r)) rs))
 
 ended_moved : (x : Response) (p : TransferState) (words : List ℕ) (ran : RunResult) (k whole mask : ℕ) → ran.response ≡ x →
-    ended p words (moved_by x k ran) (k + whole) mask ≡ counted_from k (ended p words ran whole mask)
+    run_reply p words (moved_by x k ran) (k + whole) mask ≡ counted_from k (run_reply p words ran whole mask)
 ended_moved x p words ran k whole mask e =
-    subst (λ (a : RunResult). ended p words (moved_by x k a) (k + whole) mask ≡ counted_from k (ended p words a whole mask)) (λ j. record ran { response = sym e j }) (by_end x)
+    subst (λ (a : RunResult). run_reply p words (moved_by x k a) (k + whole) mask ≡ counted_from k (run_reply p words a whole mask)) (λ j. record ran { response = sym e j }) (by_end x)
   where
-    by_end : (x : Response) → ended p words (moved_by x k (record ran { response = x })) (k + whole) mask ≡ counted_from k (ended p words (record ran { response = x }) whole mask)
+    by_end : (x : Response) → run_reply p words (moved_by x k (record ran { response = x })) (k + whole) mask ≡ counted_from k (run_reply p words (record ran { response = x }) whole mask)
     by_end Good = refl
     by_end Wait = refl
     by_end Fault = refl
@@ -112,6 +112,6 @@ counts_from p words o u k i rs =
     (λ j. wires_later k i p.mask o rs j ++ check_if last (whole j) mask) ∙ ap (λ vs. all_later k (wires_from i p.mask o rs) ++ vs) (check_later last k (i + length rs) mask)
     ∙ sym (later-append k (wires_from i p.mask o rs) (check_if last (i + length rs) mask)) in
     let ran : RunResult = run p.setting u p.line ws in
-    (λ j. ended p words (run p.setting u p.line (is j)) (whole j) mask)
-    ∙ ap (λ (a : RunResult). ended p words a (k + (i + length rs)) mask) (run_moved k p.setting u p.line ws)
+    (λ j. run_reply p words (run p.setting u p.line (is j)) (whole j) mask)
+    ∙ ap (λ (a : RunResult). run_reply p words a (k + (i + length rs)) mask) (run_moved k p.setting u p.line ws)
     ∙ ended_moved ran.response p words ran k (i + length rs) mask refl

@@ -13,10 +13,10 @@ use Rattle.dap_messages.specs.declared.request.Response.TheVariants.{Good, Wait,
 use Rattle.dap_messages.specs.Requests.{mask_request, match_request}
 use Rattle.dap_transfer.specs.Wires.{Wire, Matches, item, access_of}
 use Rattle.dap_transfer.specs.State.{Setting, TransferState, Transferred, WireState}
-use Rattle.dap_transfer.specs.Transfer.{RunResult, ending, transferred}
+use Rattle.dap_transfer.specs.Transfer.{RunResult, ending, transfer_result}
 use Rattle.dap_transfer.specs.ValueMatch.{match_ending, match_ending_as}
 use Rattle.dap_transfer.specs.WireTransfer.{Ending, ends, access_made, value, value_of}
-use Rattle.dap_transfer.specs.Private.{first_then, mask_if, request_ran, run, served}
+use Rattle.dap_transfer.specs.Private.{first_then, mask_if, request_ran, run, state_after_run}
 use Rattle.dap_transfer.specs.CommandEnds.{counted_from}
 use Rattle.dap_transfer.proofs.Counting.{counts_from}
 use Rattle.dap_transfer.proofs.Steps.{continued, start_notes, from_start, goes_on, breaks_off, ended_here}
@@ -93,14 +93,14 @@ one_note = record { outstanding = false; unchecked = false; executed = 1 }
 
 -- where it matches, the requests after it are done under the mask that is set
 pub match_opens : (p : TransferState) (v mask : ℕ) (rs : List Request) → eqb (bit_and p.line.target.dpidr p.mask) v ≡ true →
-    transferred p (dpidr_match v ∷ mask_request mask ∷ rs) ≡ counted_from 2 (transferred (record p { mask = mask }) rs)
+    transfer_result p (dpidr_match v ∷ mask_request mask ∷ rs) ≡ counted_from 2 (transfer_result (record p { mask = mask }) rs)
 match_opens p v mask rs hit =
     let rest : List Request = mask_request mask ∷ rs in
     let is : request_ran p start_notes (dpidr_match v) ≡ match_ran true p.line p.mask = ran_match p v true (λ e. absurd (cc)) hit in
     let good : (request_ran p start_notes (dpidr_match v)).response ≡ Good = ap (λ (ran : RunResult). ran.response) is in
     sym (from_start p (dpidr_match v ∷ rest))
     ∙ goes_on p [] start_notes (dpidr_match v) rest good refl
-    ∙ ap (λ (ran : RunResult). continued (served p ran Match (dpidr_match v)) ran.words (record { outstanding = false; unchecked = ran.written; executed = 1 }) rest) is
+    ∙ ap (λ (ran : RunResult). continued (state_after_run p ran Match (dpidr_match v)) ran.words (record { outstanding = false; unchecked = ran.written; executed = 1 }) rest) is
     ∙ ap (λ (n : ℕ). continued (record p { work = n }) [] one_note rest) (grown_none p.work)
     ∙ goes_on p [] one_note (mask_request mask) rs refl refl
     ∙ ap (λ (n : ℕ). continued (record p { work = n; mask = mask }) [] two_notes rs) (grown_none p.work)
@@ -112,7 +112,7 @@ mismatched p = record { executed = 0; response = Mismatch; words = []; next = p 
 
 -- where it doesn't, nothing is done
 pub match_shuts : (p : TransferState) (v : ℕ) (rs : List Request) → p.setting.matches ≡ 0 → eqb (bit_and p.line.target.dpidr p.mask) v ≡ false →
-    transferred p (dpidr_match v ∷ rs) ≡ record { executed = 0; response = Mismatch; words = []; next = p }
+    transfer_result p (dpidr_match v ∷ rs) ≡ record { executed = 0; response = Mismatch; words = []; next = p }
 match_shuts p v rs no_retry miss =
     let is : request_ran p start_notes (dpidr_match v) ≡ match_ran false p.line p.mask = ran_match p v false (λ _. no_retry) miss in
     let bad : (request_ran p start_notes (dpidr_match v)).response ≡ Good → ⊥ = λ e. (let f = sym (ap (λ (ran : RunResult). ran.response) is) ∙ e in not_both f) in

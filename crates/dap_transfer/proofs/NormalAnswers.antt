@@ -14,7 +14,7 @@ use Rattle.dap_messages.specs.Responses.{code_of, response_of}
 use Rattle.dap_messages.specs.Replies.{AnswersTransfer, kind_at, last_is_posted, may_end_by, may_stop, passes, progress_at}
 use Rattle.dap_transfer.specs.Laws.{AreNormal, IsNormalKind}
 use Rattle.target_machine.specs.Counts.{one_if}
-use Rattle.dap_transfer.specs.CommandEnds.{EndsAt, posted_last, doubted}
+use Rattle.dap_transfer.specs.CommandEnds.{EndsAt, posted_last, is_doubted}
 
 pub posted_at : (n : ℕ) (o : Bool) (rs : List Request) → suc n ≤ length rs → posted_last o (take (suc n) rs) ≡ last_is_posted rs (suc n)
 posted_at n o [] h = absurd (omega arith)
@@ -74,8 +74,8 @@ pub count_missing : (b : Bool) → one_if b ≡ cond b 1 0
 count_missing true = refl
 count_missing false = refl
 
-ends_by : (x : Response) (t : TargetState) (rs : List Request) (given n : ℕ) (pending : Bool) → AreNormal rs → EndsAt t false false rs given n x (doubted x pending) →
-    IsTrue (may_end_by (response_of (code_of x)) (progress_at rs n) (doubted x pending && posted_last false (take n rs)))
+ends_by : (x : Response) (t : TargetState) (rs : List Request) (given n : ℕ) (pending : Bool) → AreNormal rs → EndsAt t false false rs given n x (is_doubted x pending) →
+    IsTrue (may_end_by (response_of (code_of x)) (progress_at rs n) (is_doubted x pending && posted_last false (take n rs)))
 ends_by Good t rs given n pending normal ends = ap (λ b. b && true) (eq-eqb n (length rs) (ends.whole refl))
 ends_by Wait t rs given n pending normal ends = may_stop_at t rs given n Wait pending normal ends (λ e. cc)
 ends_by Fault t rs given n pending normal ends = may_stop_at t rs given n Fault true normal ends (λ e. cc)
@@ -83,14 +83,14 @@ ends_by Mismatch t rs given n pending normal ends = absurd (ends.never refl)
 
 -- the reply to an unguarded Transfer of normal requests
 pub answers_normal : (t : TargetState) (rs : List Request) (n : ℕ) (x : Response) (pending : Bool) (words : List ℕ) → AreNormal rs → AllByRecursion (λ word. word < 2 ^ 32) words →
-    EndsAt t false false rs (length words) n x (doubted x pending) → AnswersTransfer rs n (code_of x) words
+    EndsAt t false false rs (length words) n x (is_doubted x pending) → AnswersTransfer rs n (code_of x) words
 answers_normal t rs n x pending words normal fits ends =
-    let missing : Bool = doubted x pending && posted_last false (take n rs) in
+    let missing : Bool = is_doubted x pending && posted_last false (take n rs) in
     record {
       within = ends.most;
       fits = fits;
       missing = missing;
-      posted = missing_posted (doubted x pending) n rs ends.most;
+      posted = missing_posted (is_doubted x pending) n rs ends.most;
       given = ap (λ k. length words + k) (sym (count_missing missing)) ∙ ends.words ∙ omega arith;
       ends = ends_by x t rs (length words) n pending normal ends;
     }

@@ -15,8 +15,8 @@ use Rattle.dap_messages.specs.Requests.{is_posted, kind, write_last}
 use Rattle.dap_transfer.specs.Wires.{Wire, Posts, Moves, Fetches, Reads, Writes, Checks, item, rdbuff, fetch_if, access_of, between, check_if}
 use Rattle.dap_transfer.specs.State.{Setting, TransferState, Transferred, WireState}
 use Rattle.dap_transfer.specs.WireTransfer.{Ending, ends, number_after, wire_ending, wire_ending_as}
-use Rattle.dap_transfer.specs.Transfer.{RunResult, ending, transferred}
-use Rattle.dap_transfer.specs.Private.{mask_if, run, run_then, request_ran, close_ran, served}
+use Rattle.dap_transfer.specs.Transfer.{RunResult, ending, transfer_result}
+use Rattle.dap_transfer.specs.Private.{mask_if, run, run_then, request_ran, close_ran, state_after_run}
 use Rattle.dap_transfer.specs.Laws.{IsNormalKind, AreNormal}
 use Rattle.target_machine.specs.Counts.{one_if}
 use Rattle.dap_transfer.specs.CommandEnds.{IsNumbered, NumbersTransfers, posted_in}
@@ -185,7 +185,7 @@ numbers p words notes (r ∷ rs) normal one =
     elim (good_or_not ran.response) [
       | inl good ↦
           let next : Notes = record { outstanding = is_posted (kind r); unchecked = ran.written; executed = notes.executed + 1 } in
-          let q : TransferState = served p ran (kind r) r in
+          let q : TransferState = state_after_run p ran (kind r) r in
           let d : Transferred = continued q (words ++ ran.words) next rs in
           let written : ran.written ≡ write_last (kind r) notes.unchecked =
           run_written p.setting notes.unchecked p.line (between (kind r) notes.outstanding notes.executed p.mask r) good

@@ -5,7 +5,7 @@ use Rattle.std.proofs.lemmas.Bool.{eqb-true}
 use Rattle.target_machine.specs.Attempt.{Attempt, answers, attempt, bank, ctrl_stat, is_free}
 use Rattle.target_machine.proofs.PollLemmas.{reads_plain}
 use Rattle.target_machine.specs.PollCounts.{reads_counted}
-use Rattle.target_machine.specs.Plain.{Polled, given, is_fault, looked, polled}
+use Rattle.target_machine.specs.Plain.{Polled, given_number, is_fault, poll_read, poll_result}
 use Rattle.target_machine.specs.State.{TargetState}
 use Rattle.target_machine.specs.declared.access.Outcome.{Outcome}
 use Rattle.target_machine.specs.declared.access.Outcome.TheVariants as outcome
@@ -16,9 +16,9 @@ use Rattle.dap_messages.specs.declared.request.Response.{Response}
 use Rattle.dap_messages.specs.declared.request.Response.TheVariants.{Good, Wait, Fault, Mismatch}
 use Rattle.dap_messages.specs.Requests.{mask_request, match_request}
 use Rattle.dap_transfer.specs.CommandEnds.{counted_from}
-use Rattle.dap_transfer.specs.Private.{first_then, mask_if, request_ran, run, served, value_matched}
-use Rattle.dap_transfer.specs.State.{Setting, TransferState, Transferred, WireState, grown}
-use Rattle.dap_transfer.specs.Transfer.{RunResult, transferred}
+use Rattle.dap_transfer.specs.Private.{first_then, mask_if, request_ran, run, state_after_run, value_matched}
+use Rattle.dap_transfer.specs.State.{Setting, TransferState, Transferred, WireState, grown_work}
+use Rattle.dap_transfer.specs.Transfer.{RunResult, transfer_result}
 use Rattle.dap_transfer.specs.ValueMatch.{has_matched, match_ending, match_ending_as}
 use Rattle.dap_transfer.specs.WireTransfer.{Ending, ends, access_made, next_number, value, value_of}
 use Rattle.dap_transfer.specs.Wires.{Matches, Wire, access_of, item}
@@ -83,8 +83,8 @@ one_turn true l w x e = λ i. record { response = Good; line = ctrl_made l w e i
 one_turn false l w x e = refl
 
 pub match_polls : (n : ℕ) (s : Setting) (mask w v : ℕ) (l : WireState) → bank l.target ≡ 0 →
-    match_ending s mask v (ctrl_read w) n l ≡ poll_ending (polled n mask v l.target) l
-unfolding polled
+    match_ending s mask v (ctrl_read w) n l ≡ poll_ending (poll_result n mask v l.target) l
+unfolding poll_result
 match_polls zero s mask w v l e = refl
 match_polls (suc n) s mask w v l e =
     let t : TargetState = l.target in
@@ -94,8 +94,8 @@ match_polls (suc n) s mask w v l e =
     ∙ ap (λ c. match_ending_as Good (eqb (bit_and c mask) v) l (ctrl_read w) (rest (access_made l (ctrl_read w)))) (ctrl_value l w e)
     ∙ ap (λ k. match_ending_as Good hit l (ctrl_read w) (rest k)) (ctrl_made l w e)
     ∙ ap (λ x. match_ending_as Good hit l (ctrl_read w) x) (match_polls n s mask w v (line_after l) e)
-    ∙ one_turn hit l w (polled n mask v (after_read t)) e
-    ∙ ap (λ (x : Attempt). poll_ending (looked x.outcome x.next mask v (polled n mask v x.next)) l) (sym (reads_plain t e))
+    ∙ one_turn hit l w (poll_result n mask v (after_read t)) e
+    ∙ ap (λ (x : Attempt). poll_ending (poll_read x.outcome x.next mask v (poll_result n mask v x.next)) l) (sym (reads_plain t e))
 
 -- a read at the address of CTRL/STAT that never waits is one of CTRL/STAT
 reads_it : (at_ap read : Bool) (addr b : ℕ) → read ≡ true → addr ≡ 4 → (not at_ap && cond read (eqb addr 0 || (eqb addr 4 && eqb b 0)) (eqb addr 0)) ≡ true →
@@ -116,7 +116,7 @@ same_read a ea er en = λ i. record { ap = ea i; read = er i; addr = en i; value
 
 -- what the value match of a probe comes to
 abbrev pub poll_of : TransferState → ℕ → Polled
-poll_of p v = polled (p.setting.matches + 1) p.mask v p.line.target
+poll_of p v = poll_result (p.setting.matches + 1) p.mask v p.line.target
 
 -- a value match of CTRL/STAT that a probe makes now
 pub ctrl_matched : (p : TransferState) (a : RegAccess) (v : ℕ) → a.read ≡ true → a.addr ≡ 4 → is_free p.line.target a ≡ true →
@@ -129,10 +129,10 @@ ctrl_matched p a v er ea free =
 pub ctrl_ended : (p : TransferState) (a : RegAccess) (v : ℕ) → a.read ≡ true → a.addr ≡ 4 → is_free p.line.target a ≡ true →
     (t u : TargetState) (mask number turns reads : ℕ) (o : Outcome) (r : Response) →
     t ≡ p.line.target → mask ≡ p.mask → number ≡ p.line.number → turns ≡ p.setting.matches + 1 →
-    record { outcome = o; reads = reads; next = u } ≡ polled turns mask v t → r ≡ cond (eqb (given o) 1) Good Mismatch →
+    record { outcome = o; reads = reads; next = u } ≡ poll_result turns mask v t → r ≡ cond (eqb (given_number o) 1) Good Mismatch →
     record { response = r; line = record { target = u; number = number }; count = reads } ≡ value_matched p a v
 ctrl_ended p a v er ea free t u mask number turns reads o r target_is mask_is number_is turns_is polled_is response_is =
-    let same : record { outcome = o; reads = reads; next = u } ≡ poll_of p v = polled_is ∙ (λ i. polled (turns_is i) (mask_is i) v (target_is i)) in
+    let same : record { outcome = o; reads = reads; next = u } ≡ poll_of p v = polled_is ∙ (λ i. poll_result (turns_is i) (mask_is i) v (target_is i)) in
     ap (λ (x : Response). record { response = x; line = record { target = u; number = number }; count = reads }) response_is
     ∙ (λ i. record { response = cond (has_matched (same i)) Good Mismatch; line = record { target = (same i).next; number = number_is i }; count = (same i).reads })
     ∙ sym (ctrl_matched p a v er ea free)
@@ -141,12 +141,12 @@ never_either : (b : Bool) (u : TargetState) (x : Polled) → is_fault x.outcome 
 never_either true u x h = refl
 never_either false u x h = h
 
-pub never_faults : (n mask v : ℕ) (t : TargetState) → bank t ≡ 0 → is_fault (polled n mask v t).outcome ≡ false
-unfolding polled
+pub never_faults : (n mask v : ℕ) (t : TargetState) → bank t ≡ 0 → is_fault (poll_result n mask v t).outcome ≡ false
+unfolding poll_result
 never_faults zero mask v t e = refl
 never_faults (suc n) mask v t e =
-    ap (λ (x : Attempt). is_fault (looked x.outcome x.next mask v (polled n mask v x.next)).outcome) (reads_plain t e)
-    ∙ never_either (eqb (bit_and (ctrl_stat t) mask) v) (after_read t) (polled n mask v (after_read t)) (never_faults n mask v (after_read t) e)
+    ap (λ (x : Attempt). is_fault (poll_read x.outcome x.next mask v (poll_result n mask v x.next)).outcome) (reads_plain t e)
+    ∙ never_either (eqb (bit_and (ctrl_stat t) mask) v) (after_read t) (poll_result n mask v (after_read t)) (never_faults n mask v (after_read t) e)
 
 -- ---- the value match alone
 
@@ -181,28 +181,28 @@ ran_match p v m e h =
 
 -- the probe after it
 abbrev pub poll_left : TransferState → Polled → TransferState
-poll_left p x = record p { line = poll_line x p.line; work = grown p.work x.reads }
+poll_left p x = record p { line = poll_line x p.line; work = grown_work p.work x.reads }
 
 abbrev pub poll_end : Bool → TransferState → Polled → Transferred
 poll_end true p x = record { executed = 1; response = Good; words = []; next = poll_left p x }
 poll_end false p x = record { executed = 0; response = Mismatch; words = []; next = poll_left p x }
 
-grown_none : (w n : ℕ) → grown (grown w (n + 0)) 0 ≡ grown w n
+grown_none : (w n : ℕ) → grown_work (grown_work w (n + 0)) 0 ≡ grown_work w n
 grown_none w n = omega arith
 
 abbrev one_note : Notes
 one_note = record { outstanding = false; unchecked = false; executed = 1 }
 
 pub match_alone : (p : TransferState) (v : ℕ) (m : Bool) → bank p.line.target ≡ 0 → has_matched (poll_of p v) ≡ m →
-    transferred p (ctrl_match v ∷ []) ≡ poll_end m p (poll_of p v)
+    transfer_result p (ctrl_match v ∷ []) ≡ poll_end m p (poll_of p v)
 match_alone p v true e h =
     let x : Polled = poll_of p v in
     let is : request_ran p start_notes (ctrl_match v) ≡ poll_ran true x p.line p.mask = ran_match p v true e h in
     let good : (request_ran p start_notes (ctrl_match v)).response ≡ Good = ap (λ (ran : RunResult). ran.response) is in
     sym (from_start p (ctrl_match v ∷ []))
     ∙ goes_on p [] start_notes (ctrl_match v) [] good refl
-    ∙ ap (λ (ran : RunResult). continued (served p ran Match (ctrl_match v)) ran.words (record { outstanding = false; unchecked = ran.written; executed = 1 }) []) is
-    ∙ closes (record p { line = poll_line x p.line; work = grown p.work (x.reads + 0) }) [] one_note
+    ∙ ap (λ (ran : RunResult). continued (state_after_run p ran Match (ctrl_match v)) ran.words (record { outstanding = false; unchecked = ran.written; executed = 1 }) []) is
+    ∙ closes (record p { line = poll_line x p.line; work = grown_work p.work (x.reads + 0) }) [] one_note
     ∙ ap (λ (n : ℕ). record { executed = 1; response = Good; words = []; next = record p { line = poll_line x p.line; work = n } }) (grown_none p.work x.reads)
 match_alone p v false e h =
     let x : Polled = poll_of p v in
@@ -217,7 +217,7 @@ match_alone p v false e h =
 
 -- ---- a mask in front
 
-pub mask_in_front : (p : TransferState) (mask : ℕ) (rs : List Request) → transferred p (mask_request mask ∷ rs) ≡ counted_from 1 (transferred (record p { mask = mask }) rs)
+pub mask_in_front : (p : TransferState) (mask : ℕ) (rs : List Request) → transfer_result p (mask_request mask ∷ rs) ≡ counted_from 1 (transfer_result (record p { mask = mask }) rs)
 mask_in_front p mask rs =
     sym (from_start p (mask_request mask ∷ rs))
     ∙ goes_on p [] start_notes (mask_request mask) rs refl refl
@@ -225,8 +225,8 @@ mask_in_front p mask rs =
     ∙ counts_from (record p { mask = mask }) [] false false 1 0 rs
     ∙ ap (counted_from 1) (from_start (record p { mask = mask }) rs)
 
-nothing_done : (p : TransferState) → transferred p [] ≡ record { executed = 0; response = Good; words = []; next = p }
+nothing_done : (p : TransferState) → transfer_result p [] ≡ record { executed = 0; response = Good; words = []; next = p }
 nothing_done p = ap (λ (n : ℕ). record { executed = 0; response = Good; words = []; next = record p { work = n } }) (grown_same p.work)
 
-pub mask_alone : (p : TransferState) (mask : ℕ) → transferred p (mask_request mask ∷ []) ≡ record { executed = 1; response = Good; words = []; next = record p { mask = mask } }
+pub mask_alone : (p : TransferState) (mask : ℕ) → transfer_result p (mask_request mask ∷ []) ≡ record { executed = 1; response = Good; words = []; next = record p { mask = mask } }
 mask_alone p mask = mask_in_front p mask [] ∙ ap (counted_from 1) (nothing_done (record p { mask = mask }))

@@ -1,7 +1,7 @@
 -- What commands need of the target: STICKYERR.
 use Rattle.std.proofs.Common.{◌≡◌, eqb, ltb, ℕ, ◌+◌, ◌-◌, ◌^◌, ◌&&◌, ◌||◌, not, Bool, true, false, cond, refl}
 use Rattle.std.specs.Prelude.{slice_index, min}
-use Rattle.target_machine.specs.Attempt.{Attempt, attempt, is_free, bank, dp_access, dp_read, dp_write, ap_access, ctrl_written, answers, done, ctrl_stat}
+use Rattle.target_machine.specs.Attempt.{Attempt, attempt, is_free, bank, dp_access, dp_read, dp_write, ap_access, ctrl_written, answers, done_attempt, ctrl_stat}
 use Rattle.dap_base.specs.Bits.{has_bit}
 use Rattle.target_machine.specs.State.{TargetState}
 use Rattle.target_machine.specs.declared.access.Outcome.TheVariants as outcome
@@ -31,9 +31,9 @@ clear_read t addr h =
 
 clear_write : (t : TargetState) (addr value : ℕ) → t.sticky ≡ false → Clear (dp_write t addr value)
 clear_write t addr value h =
-    clear_either (eqb addr 0) (done (cond (has_bit value 4) (record t { sticky = false }) t)) _ (record { is = sticky_either (has_bit value 4) (record t { sticky = false }) t refl h })
-    (clear_either (eqb addr 4) (done (cond (eqb (bank t) 0) (ctrl_written t value) t)) _ (record { is = sticky_either (eqb (bank t) 0) (ctrl_written t value) t h h })
-    (clear_either (eqb addr 8) (done _) (done t) (record { is = h }) (record { is = h })))
+    clear_either (eqb addr 0) (done_attempt (cond (has_bit value 4) (record t { sticky = false }) t)) _ (record { is = sticky_either (has_bit value 4) (record t { sticky = false }) t refl h })
+    (clear_either (eqb addr 4) (done_attempt (cond (eqb (bank t) 0) (ctrl_written t value) t)) _ (record { is = sticky_either (eqb (bank t) 0) (ctrl_written t value) t h h })
+    (clear_either (eqb addr 8) (done_attempt _) (done_attempt t) (record { is = h }) (record { is = h })))
 
 clear_access : (t : TargetState) (a : RegAccess) → t.sticky ≡ false → Clear (dp_access t a)
 clear_access t a h = clear_either a.read (dp_read t a.addr) (dp_write t a.addr a.value) (clear_read t a.addr h) (clear_write t a.addr a.value h)

@@ -3,7 +3,7 @@ use Rattle.std.proofs.Common.{◌≡◌, ℕ, Bool, true, false, cond, List, [],
 use Rattle.std.specs.List.{AllByRecursion}
 use Rattle.target_machine.specs.Attempt.{attempt}
 use Rattle.target_machine.specs.InRange.{IsAttemptInRange, IsInRange, IsWord}
-use Rattle.target_machine.specs.Plain.{Makes, given}
+use Rattle.target_machine.specs.Plain.{Makes, given_number}
 use Rattle.target_machine.specs.State.{TargetState}
 use Rattle.target_machine.specs.declared.access.Outcome.{Outcome}
 use Rattle.target_machine.specs.declared.access.Outcome.TheVariants.{Value, Done, Fault}
@@ -13,12 +13,12 @@ use Rattle.dap_messages.specs.declared.request.Request.{Request}
 use Rattle.dap_messages.specs.Requests.{kind}
 use Rattle.dap_transfer.specs.Laws.{AreNormal, read_values, reads_value, value_now}
 use Rattle.dap_transfer.specs.State.{TransferState}
-use Rattle.dap_transfer.specs.Transfer.{transferred}
+use Rattle.dap_transfer.specs.Transfer.{transfer_result}
 use Rattle.dap_transfer.specs.WireTransfer.{value_of}
 use Rattle.dap_transfer.specs.Wires.{access_of}
 use Rattle.dap_transfer.proofs.ReadWords.{has_words}
 
-same_value : (o : Outcome) → given o ≡ value_of o
+same_value : (o : Outcome) → given_number o ≡ value_of o
 same_value (Value n) = refl
 same_value Done = refl
 same_value Fault = refl
@@ -53,8 +53,8 @@ front_words : (xs ys : List ℕ) → AllByRecursion IsWord (xs ++ ys) → AllByR
 front_words [] ys h = tt
 front_words (x ∷ xs) ys h = (h.0, front_words xs ys h.1)
 
-pub words_in_range : (p : TransferState) (rs : List Request) → AreNormal rs → IsInRange p.line.target → Words rs → AllByRecursion IsWord (transferred p rs).words
+pub words_in_range : (p : TransferState) (rs : List Request) → AreNormal rs → IsInRange p.line.target → Words rs → AllByRecursion IsWord (transfer_result p rs).words
 words_in_range p rs normal h v =
     let has = has_words p rs normal in
-    front_words (transferred p rs).words has.0
-    (subst (AllByRecursion IsWord) (sym has.3) (values_in_range p.line.target (take (transferred p rs).executed rs) h (taken_words (transferred p rs).executed rs v)))
+    front_words (transfer_result p rs).words has.0
+    (subst (AllByRecursion IsWord) (sym has.3) (values_in_range p.line.target (take (transfer_result p rs).executed rs) h (taken_words (transfer_result p rs).executed rs v)))

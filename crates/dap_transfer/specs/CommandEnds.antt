@@ -10,7 +10,7 @@ use Rattle.dap_messages.specs.declared.request.Response.TheVariants.{Good, Wait,
 use Rattle.dap_messages.specs.Requests.{is_posted, kind, reads_in, write_after}
 use Rattle.dap_transfer.specs.Wires.{access_of}
 use Rattle.dap_transfer.specs.State.{TransferState, Transferred}
-use Rattle.dap_transfer.specs.Transfer.{transferred}
+use Rattle.dap_transfer.specs.Transfer.{transfer_result}
 use Rattle.dap_transfer.specs.Laws.{one_at_a_time}
 
 -- an access that, under some SELECT, acts also where STICKYERR is set: DPIDR, CTRL/STAT, ABORT
@@ -29,15 +29,15 @@ AreGuarded after_write (r ∷ rs) = ((after_write && may_be_free (access_of r)) 
 
 -- Whether the outcome of the last executed access is not known: at WAIT where a read was outstanding or a write unchecked,
 -- and at FAULT always.
-abbrev pub doubted : Response → Bool → Bool
-doubted Good pending = false
-doubted Wait pending = pending
-doubted Fault pending = true
-doubted Mismatch pending = false
+abbrev pub is_doubted : Response → Bool → Bool
+is_doubted Good pending = false
+is_doubted Wait pending = pending
+is_doubted Fault pending = true
+is_doubted Mismatch pending = false
 
 -- the same of a command that was done
 abbrev pub in_doubt : Transferred → Bool
-in_doubt d = doubted d.response d.next.pending
+in_doubt d = is_doubted d.response d.next.pending
 
 -- whether the last request is a posted read; without a request, whether one was outstanding before
 abbrev pub posted_last : Bool → List Request → Bool
@@ -68,7 +68,7 @@ pub record EndsAt (t : TargetState) (outstanding unchecked : Bool) (rs : List Re
 
 -- how a command of these requests ends
 abbrev pub Ends : TransferState → List Request → Type 0
-Ends p rs = let d = transferred p rs in EndsAt p.line.target false false rs (length d.words) d.executed d.response (in_doubt d)
+Ends p rs = let d = transfer_result p rs in EndsAt p.line.target false false rs (length d.words) d.executed d.response (in_doubt d)
 
 -- What a command with a mask after its last request does, by what it does without. Where it ended well one request more is executed, and the
 -- mask is set.
@@ -77,8 +77,8 @@ masked_by Good d mask = record d { executed = d.executed + 1; next = record d.ne
 masked_by _ d mask = d
 
 -- the same, by how the command ended
-abbrev pub masked : Transferred → ℕ → Transferred
-masked d mask = masked_by d.response d mask
+abbrev pub masked_result : Transferred → ℕ → Transferred
+masked_result d mask = masked_by d.response d mask
 
 -- the same command with k executed requests in front of it
 abbrev pub counted_from : ℕ → Transferred → Transferred
@@ -106,4 +106,4 @@ IsNumbered before outstanding unchecked n rs response number =
 
 -- how far a command of these requests goes on in the list of stalls
 abbrev pub NumbersTransfers : TransferState → List Request → Type 0
-NumbersTransfers p rs = let d = transferred p rs in IsNumbered p.line.number false false d.executed rs d.response d.next.line.number
+NumbersTransfers p rs = let d = transfer_result p rs in IsNumbered p.line.number false false d.executed rs d.response d.next.line.number

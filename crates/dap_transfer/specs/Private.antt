@@ -9,7 +9,7 @@ use Rattle.dap_messages.specs.declared.request.Response.TheVariants.{Good}
 use Rattle.dap_messages.specs.Requests.{gives_word, kind}
 use Rattle.dap_transfer.specs.declared.notes.Notes.{Notes}
 use Rattle.dap_transfer.specs.declared.notes.Served.{Served}
-use Rattle.dap_transfer.specs.State.{Setting, TransferState, WireState, grown, is_wait}
+use Rattle.dap_transfer.specs.State.{Setting, TransferState, WireState, grown_work, is_wait}
 use Rattle.dap_transfer.specs.Transfer.{RunResult, ending, is_pending, is_work, is_writes, word_of_role}
 use Rattle.dap_transfer.specs.ValueMatch.{match_ending}
 use Rattle.dap_transfer.specs.WireTransfer.{Ending, reads_rdbuff_itself, value, wire_ending_as}
@@ -60,8 +60,8 @@ mask_if Good k mask r = mask_by k mask r
 mask_if _ k mask r = mask
 
 -- the probe after a run that a request made
-abbrev pub served : TransferState → RunResult → RequestKind → Request → TransferState
-served p ran k r = record p { line = ran.line; work = grown p.work ran.work; mask = mask_if ran.response k p.mask r }
+abbrev pub state_after_run : TransferState → RunResult → RequestKind → Request → TransferState
+state_after_run p ran k r = record p { line = ran.line; work = grown_work p.work ran.work; mask = mask_if ran.response k p.mask r }
 
 -- what the notes say after a request: where it ended well what is owed, else whether something was pending
 abbrev pub IsNoted : Response → RunResult → Bool → Notes → Notes → Type 0
@@ -101,8 +101,8 @@ IsClosed Good ran new = ⊤
 IsClosed _ ran new = (new.outstanding || new.unchecked) ≡ ran.pending
 
 -- the probe where a command has ended
-abbrev pub noted : TransferState → Response → Bool → TransferState
-noted p response pending = record p {
+abbrev pub state_after_command : TransferState → Response → Bool → TransferState
+state_after_command p response pending = record p {
   ended_retries = if is_wait response then min (p.ended_retries + 1) (2 ^ 32 - 1) else p.ended_retries;
   pending = if is_wait response then pending else p.pending;
 }
@@ -137,5 +137,5 @@ with_own fetched (Err r) = record { response = r; fetched = fetched; own = None 
 abbrev pub word_done_as : Response → TransferState → RegAccess → TransferState
 word_done_as r p a = record p {
   line = (wire_ending_as r p.line a).line;
-  work = grown p.work (if not (reads_rdbuff_itself a) then (wire_ending_as r p.line a).count else 0);
+  work = grown_work p.work (if not (reads_rdbuff_itself a) then (wire_ending_as r p.line a).count else 0);
 }

@@ -46,8 +46,8 @@ fresh_transfers target stalls = record {
 }
 
 -- a count that has grown, or stays at its last value
-abbrev pub grown : ℕ → ℕ → ℕ
-grown work n = max work (min (work + n) (2 ^ 64 - 1))
+abbrev pub grown_work : ℕ → ℕ → ℕ
+grown_work work n = max work (min (work + n) (2 ^ 64 - 1))
 
 -- whether a wire transfer or a command ended well
 abbrev pub is_good : Response → Bool

@@ -1,11 +1,11 @@
 -- A value match: reads until the value under the mask is the one that is requested.
 use Rattle.std.specs.Prelude.{ℕ, zero, suc, ◌+◌, Bool, true, false, not, ◌&&◌, ◌==◌, bit_and}
-use Rattle.target_machine.specs.Plain.{Polled, given}
+use Rattle.target_machine.specs.Plain.{Polled, given_number}
 use Rattle.target_machine.specs.declared.access.RegAccess.{RegAccess}
 use Rattle.dap_messages.specs.declared.request.Response.{Response}
 use Rattle.dap_messages.specs.declared.request.Response.TheVariants.{Good, Mismatch}
 use Rattle.dap_transfer.specs.State.{Setting, WireState}
-use Rattle.dap_transfer.specs.WireTransfer.{Ending, ends, access_made, reads_dpidr, reads_rdbuff_itself, refused, value}
+use Rattle.dap_transfer.specs.WireTransfer.{Ending, ends, access_made, reads_dpidr, reads_rdbuff_itself, refused_state, value}
 
 -- one read more was made before
 abbrev pub one_more : Ending → Ending
@@ -15,7 +15,7 @@ one_more d = record d { count = d.count + 1 }
 abbrev pub match_ending_as : Response → Bool → WireState → RegAccess → Ending → Ending
 match_ending_as Good true l a rest = record { response = Good; line = access_made l a; count = 1 }
 match_ending_as Good false l a rest = one_more rest
-match_ending_as r hit l a rest = record { response = r; line = refused l a; count = 0 }
+match_ending_as r hit l a rest = record { response = r; line = refused_state l a; count = 0 }
 
 -- a match of so many reads at most; it ends as a mismatch where none of them hits
 abbrev pub match_ending : Setting → ℕ → ℕ → RegAccess → ℕ → WireState → Ending
@@ -29,4 +29,4 @@ is_match_work a = not (reads_rdbuff_itself a) && not (reads_dpidr a)
 
 -- whether a poll matched
 abbrev pub has_matched : Polled → Bool
-has_matched x = given x.outcome == 1
+has_matched x = given_number x.outcome == 1

@@ -30,8 +30,8 @@ abbrev pub access_made : WireState → RegAccess → WireState
 access_made l a = record { target = (attempt l.target a).next; number = number_after l a }
 
 -- and else nothing is
-abbrev pub refused : WireState → RegAccess → WireState
-refused l a = record l { number = number_after l a }
+abbrev pub refused_state : WireState → RegAccess → WireState
+refused_state l a = record l { number = number_after l a }
 
 -- the value that an outcome has
 abbrev pub value_of : Outcome → ℕ
@@ -51,7 +51,7 @@ pub record Ending : Type 0 where
 -- one wire transfer that ends so
 abbrev pub wire_ending_as : Response → WireState → RegAccess → Ending
 wire_ending_as Good l a = record { response = Good; line = access_made l a; count = 1 }
-wire_ending_as r l a = record { response = r; line = refused l a; count = 0 }
+wire_ending_as r l a = record { response = r; line = refused_state l a; count = 0 }
 
 -- how one wire transfer of this access ends
 abbrev pub wire_ending : Setting → WireState → RegAccess → Ending

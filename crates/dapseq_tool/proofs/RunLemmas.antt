@@ -4,7 +4,7 @@ use Rattle.std.specs.Prelude.{◌≢◌, IfErr, IfSome, IsSome}
 use Rattle.dap_base.specs.Causes.{Rose}
 use Rattle.dap_base.specs.Streams.{PutAppends}
 use Rattle.text_lines.specs.Causes.{NamesFault}
-use Rattle.probe_core.specs.Bench.{BenchState, IsSame, Reported, StepsTo, fresh, loaded}
+use Rattle.probe_core.specs.Bench.{BenchState, IsSame, Reported, StepsTo, fresh, reported_after_load}
 use Rattle.probe_core.specs.Probe.{fresh_probe}
 use Rattle.probe_core.specs.Runs.{IsWholeRun, KeepsLog, KeepsRuns}
 use Rattle.probe_core.specs.declared.job.BenchJob.{BenchJob}
@@ -275,7 +275,7 @@ bad_after old mid new sent got same h =
     subst (λ (r : Reported). HasBadReply old r sent got) (sym same) (record { begun = h.begun; place = h.place; packet = h.packet; reply = h.reply; bad = h.bad })
 
 -- a load keeps the number of exchanges
-pub bad_before : (old mid new : Reported) (job : BenchJob) (sent got : List ℕ) → mid ≡ loaded old job → HasBadReply mid new sent got → HasBadReply old new sent got
+pub bad_before : (old mid new : Reported) (job : BenchJob) (sent got : List ℕ) → mid ≡ reported_after_load old job → HasBadReply mid new sent got → HasBadReply old new sent got
 bad_before old mid new job sent got is h =
     let k = subst (λ (r : Reported). HasBadReply r new sent got) is h in
     record { begun = k.begun; place = k.place; packet = k.packet; reply = k.reply; bad = k.bad }
@@ -288,7 +288,7 @@ got_after code old mid new same h =
     subst (λ (r : Reported). HasGotResponse code old r) (sym same) (record { begun = h.begun; place = h.place; response = h.response })
 
 -- a load keeps the number of exchanges
-pub got_before : (code : ℕ) (old mid new : Reported) (job : BenchJob) → mid ≡ loaded old job → HasGotResponse code mid new → HasGotResponse code old new
+pub got_before : (code : ℕ) (old mid new : Reported) (job : BenchJob) → mid ≡ reported_after_load old job → HasGotResponse code mid new → HasGotResponse code old new
 got_before code old mid new job is h =
     let k = subst (λ (r : Reported). HasGotResponse code r new) is h in
     record { begun = k.begun; place = k.place; response = k.response }

@@ -5,7 +5,7 @@ use Rattle.target_calls.specs.World.{World, start_world}
 use Rattle.probe_core.specs.Bench.{BenchState}
 use Rattle.probe_core.specs.Probe.{target_of}
 use Rattle.access_calls.specs.declared.ended.Ending.TheVariants as e
-use Rattle.image_load.specs.Laid.{CanLoad, laid}
+use Rattle.image_load.specs.Laid.{CanLoad, laid_memory}
 use Rattle.image_load.specs.Pieces.{pieces}
 use Rattle.rom_scan.specs.Listing.{component_lines, listed_within}
 use Rattle.rom_scan.specs.Showing.{CanScan}
@@ -38,7 +38,7 @@ IsDoneAlone run before = (alone_in (first_world run) (program_by run) before).en
 
 -- The words of the target are those that the sequence leaves, with the image laid over them. All of the image was loaded.
 pub record IsLaid (run : Run) (before : Option (List ℕ)) (i : JobImage) (r : RunEnd) (n : BenchState) : Type 0 where
-  pub words : (target_of n.probe).words ≡ laid (left_world run before).target.words i.image
+  pub words : (target_of n.probe).words ≡ laid_memory (left_world run before).target.words i.image
   pub close : r.close ≡ closes.Loaded (length i.image) (length (pieces i.image))
 
 -- A run of the mode `load` that is done, where the image may be loaded after the sequence, is so.

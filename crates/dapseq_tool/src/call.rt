@@ -1,7 +1,7 @@
 //! The whole call.
 ghost use Rattle.std.specs.Prelude.{◌≡◌, ◌≢◌, ◌⊎◌, IfOk};
 ghost use Rattle.dap_base.specs.Causes.{IsQuiet, Rose};
-ghost use Rattle.probe_core.specs.Bench.{seen};
+ghost use Rattle.probe_core.specs.Bench.{seen_bench};
 ghost use Rattle.dapseq_tool.specs.Answers.{answer_status, answer_text, failed_status};
 ghost use Rattle.dapseq_tool.specs.Asked.{IsNoCommand, IsReadLine, IsRunLine, IsSoundAnswer, IsSoundRequest};
 ghost use Rattle.dapseq_tool.specs.Frame.{CountsSink, IsFramed, IsFulfilled, IsStatusFor, IsUnasked, KeepsOver, RequestIsFinished};
@@ -60,9 +60,9 @@ fn perform<B: Bench, K: Sink, A: OverBench<B>>(
     sink: &mut K,
 ) -> Over<B>
     requires { IsSoundRequest what.now }
-    ensures does { DoesAfter (access_kind A.Access.journal A.Access.cost A.Access.is_sparing) what.now (seen B.reported B.state bench)
+    ensures does { DoesAfter (access_kind A.Access.journal A.Access.cost A.Access.is_sparing) what.now (seen_bench B.reported B.state bench)
         (result.bench ≡ bench) (K.written sink.old)
-        (record { written = K.written sink.new; end = result.status; bench = seen B.reported B.state result.bench }) }
+        (record { written = K.written sink.new; end = result.status; bench = seen_bench B.reported B.state result.bench }) }
     ensures keeps { KeepsOver (B.identity result.bench ≡ B.identity bench) (K.faults sink.old) (K.faults sink.new)
         (B.reported bench).faults (B.reported result.bench).faults result.status }
     ensures status { IsStatusFor what.now result.status }
@@ -96,9 +96,9 @@ fn fulfil<B: Bench, K: Sink, A: OverBench<B>>(
     sink: &mut K,
 ) -> Over<B>
     requires { IsSoundRequest asked.now.what }
-    ensures done { IsFulfilled (access_kind A.Access.journal A.Access.cost A.Access.is_sparing) asked.now (seen B.reported B.state bench)
+    ensures done { IsFulfilled (access_kind A.Access.journal A.Access.cost A.Access.is_sparing) asked.now (seen_bench B.reported B.state bench)
         (result.bench ≡ bench) (K.written sink.old)
-        (record { written = K.written sink.new; end = result.status; bench = seen B.reported B.state result.bench }) }
+        (record { written = K.written sink.new; end = result.status; bench = seen_bench B.reported B.state result.bench }) }
     ensures keeps { KeepsOver (B.identity result.bench ≡ B.identity bench) (K.faults sink.old) (K.faults sink.new)
         (B.reported bench).faults (B.reported result.bench).faults result.status }
 {
@@ -130,9 +130,9 @@ fn finish<B: Bench, K: Sink, A: OverBench<B>>(
     sink: &mut K,
 ) -> Over<B>
     requires { IfOk asked.now (λ asked. IsSoundRequest asked.what) }
-    ensures done { RequestIsFinished (access_kind A.Access.journal A.Access.cost A.Access.is_sparing) asked.now (seen B.reported B.state bench)
+    ensures done { RequestIsFinished (access_kind A.Access.journal A.Access.cost A.Access.is_sparing) asked.now (seen_bench B.reported B.state bench)
         (result.bench ≡ bench) (K.written sink.old)
-        (record { written = K.written sink.new; end = result.status; bench = seen B.reported B.state result.bench }) }
+        (record { written = K.written sink.new; end = result.status; bench = seen_bench B.reported B.state result.bench }) }
     ensures keeps { KeepsOver (B.identity result.bench ≡ B.identity bench) (K.faults sink.old) (K.faults sink.new)
         (B.reported bench).faults (B.reported result.bench).faults result.status }
 {

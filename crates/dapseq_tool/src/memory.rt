@@ -6,7 +6,7 @@ ghost use Rattle.dapseq_tool.specs.Headline.{BenchCall};
 ghost use Rattle.dapseq_tool.specs.InMemory.{IsCallInMemory};
 ghost use Rattle.dapseq_tool.specs.Success.{RequestIsDone};
 ghost use Rattle.dapseq_tool.specs.declared.asking.Requested.{Requested};
-ghost use Rattle.dapseq_tool.specs.Packed.{packed};
+ghost use Rattle.dapseq_tool.specs.Packed.{packed_kind};
 
 use crate::packed::dapseq;
 use crate::status::Status;
@@ -84,7 +84,7 @@ fn is_out_of_room(status: Status) -> bool
 pub fn dapseq_in_memory(alloc: Global, words: &Words, bytes: &[u8]) -> Result<InMemory, OutOfMemory>
     // What the words and the bytes ask for was done.
     ensures done { IfOk result (λ end. (call : BenchCall) × IsCallInMemory words.now bytes.now end call
-        × (asked : Requested) × AsksForRequest words.now bytes.now asked × RequestIsDone packed call asked.number asked.what) }
+        × (asked : Requested) × AsksForRequest words.now bytes.now asked × RequestIsDone packed_kind call asked.number asked.what) }
 
     // A run alone loads the bench, and only where its job is not refused.
     ensures unloaded { IfOk result (λ end. (IsRunLine words.now → ⊥) → IsBeforeLoad end.bench) }

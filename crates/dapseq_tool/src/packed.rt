@@ -6,7 +6,7 @@ ghost use Rattle.dapseq_tool.specs.Frame.{IsCall};
 ghost use Rattle.dapseq_tool.specs.Headline.{bench_moment, DoesWithBench, FailsWriting};
 ghost use Rattle.job_source.specs.Source.{AreTaken};
 ghost use Rattle.dapseq_tool.specs.Success.{HasGotBadReply, Success};
-ghost use Rattle.dapseq_tool.specs.Packed.{packed};
+ghost use Rattle.dapseq_tool.specs.Packed.{packed_kind};
 
 use crate::call::make_call;
 use crate::status::Status;
@@ -24,7 +24,7 @@ fn call_lent<S: Source, K: Sink, B: Bench>(
     bench: &mut B,
 ) -> Status
     ensures { let at = bench_moment S.left S.faults K.written K.faults B.reported B.state in
-        IsCall packed (record { words = words.now; old = at source.old sink.old bench.old; new = at source.new sink.new bench.new; end = result })
+        IsCall packed_kind (record { words = words.now; old = at source.old sink.old bench.old; new = at source.new sink.new bench.new; end = result })
         (source.new ≡ source.old) (bench.new ≡ bench.old) }
 {
     let over = make_call::<S, K, &mut B, Packed<&mut B>>(alloc, words, source, sink, &mut *bench);
@@ -60,12 +60,12 @@ pub fn dapseq<S: Source, K: Sink, B: Bench>(
 ) -> Status
     // What the words and the bytes ask for was done.
     ensures asked { let at = bench_moment S.left S.faults K.written K.faults B.reported B.state in
-        DoesWithBench packed (record { words = words.now; old = at source.old sink.old bench.old; new = at source.new sink.new bench.new; end = result })
+        DoesWithBench packed_kind (record { words = words.now; old = at source.old sink.old bench.old; new = at source.new sink.new bench.new; end = result })
         (bench.new ≡ bench.old) }
 
     // Where nothing outside failed and the bench is observable, it was done whole.
     ensures success { let at = bench_moment S.left S.faults K.written K.faults B.reported B.state in
-        Success packed (record { words = words.now; old = at source.old sink.old bench.old; new = at source.new sink.new bench.new; end = result }) }
+        Success packed_kind (record { words = words.now; old = at source.old sink.old bench.old; new = at source.new sink.new bench.new; end = result }) }
 
     // A bad reply is one that was received, and its bench is not observable.
     ensures bad_reply { let at = bench_moment S.left S.faults K.written K.faults B.reported B.state in

@@ -1,6 +1,6 @@
 //! A run that is asked for.
 ghost use Rattle.std.specs.Prelude.{◌≡◌, Some};
-ghost use Rattle.probe_core.specs.Bench.{fresh, seen};
+ghost use Rattle.probe_core.specs.Bench.{fresh, seen_bench};
 ghost use Rattle.dapseq_tool.specs.Answers.{close_status, run_status, status_after, text_status};
 ghost use Rattle.dapseq_tool.specs.Asked.{IsSoundRun};
 ghost use Rattle.dapseq_tool.specs.Frame.{IsLoadedFor, KeepsRun};
@@ -98,7 +98,7 @@ fn run_loaded<B: Bench, K: Sink, A: OverBench<B>>(
     requires { IsLoadedFor run.now (B.reported bench) }
     ensures run { (r : RunEnd) × HasRunAndReported (access_kind A.Access.journal A.Access.cost A.Access.is_sparing) run.now
         (B.state bench ≡ Some (fresh run.now.valid.job.bench)) (B.reported bench) (K.written sink.old) r
-        (record { written = K.written sink.new; end = result.status; bench = seen B.reported B.state result.bench }) }
+        (record { written = K.written sink.new; end = result.status; bench = seen_bench B.reported B.state result.bench }) }
     ensures keeps { KeepsRun (B.identity result.bench ≡ B.identity bench) (K.faults sink.old) (K.faults sink.new)
         (B.reported bench).faults (B.reported result.bench).faults result.status }
 {
@@ -127,8 +127,8 @@ pub fn run_asked<B: Bench, K: Sink, A: OverBench<B>>(
     sink: &mut K,
 ) -> Over<B>
     requires { IsSoundRun run.now }
-    ensures run { AskedRun (access_kind A.Access.journal A.Access.cost A.Access.is_sparing) run.now (seen B.reported B.state bench) (K.written sink.old)
-        (record { written = K.written sink.new; end = result.status; bench = seen B.reported B.state result.bench }) }
+    ensures run { AskedRun (access_kind A.Access.journal A.Access.cost A.Access.is_sparing) run.now (seen_bench B.reported B.state bench) (K.written sink.old)
+        (record { written = K.written sink.new; end = result.status; bench = seen_bench B.reported B.state result.bench }) }
     ensures keeps { KeepsRun (B.identity result.bench ≡ B.identity bench) (K.faults sink.old) (K.faults sink.new)
         (B.reported bench).faults (B.reported result.bench).faults result.status }
 {

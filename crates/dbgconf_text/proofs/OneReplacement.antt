@@ -8,8 +8,8 @@ use Rattle.expr_grammar.proofs.OneDivision.{gives_tokens}
 use Rattle.dbgconf_text.specs.declared.conf.ConfItem.{ConfItem}
 use Rattle.dbgconf_text.specs.declared.replacing.ReplaceFault.{ReplaceFault}
 use Rattle.dbgconf_text.specs.declared.replacing.ReplaceFault.TheVariants.{UndefinedName, OutOfMemory}
-use Rattle.dbgconf_text.specs.Cuts.{cuts, spliced}
-use Rattle.dbgconf_text.specs.Replacing.{AreCode, Replaces, code, no_code, no_memory, settings_of, undefined}
+use Rattle.dbgconf_text.specs.Cuts.{cuts, spliced_text}
+use Rattle.dbgconf_text.specs.Replacing.{AreCode, Replaces, code, no_code, no_memory, settings_of, undefined_name}
 
 none_some : (x : Place) → None ≡ Some x → ⊥
 none_some x e = cc
@@ -35,7 +35,7 @@ place_no_memory x e = cc
 pub one_text : (text : List ℕ) (conf : List ConfItem) (x y : List ℕ) → Replaces text conf (Ok x) → Replaces text conf (Ok y) → x ≡ y
 one_text text conf x y (code ts are is a) (code us them too b) =
     let same : ts ≡ us = gives_tokens text (Ok ts) are us them in
-    a.1 ∙ ap (λ (l : List Lexeme). spliced text 0 (cuts (settings_of conf) l)) same ∙ sym b.1
+    a.1 ∙ ap (λ (l : List Lexeme). spliced_text text 0 (cuts (settings_of conf) l)) same ∙ sym b.1
 one_text text conf x y (code ts are is a) (no_code none e) = absurd (none ts are is)
 one_text text conf x y (code ts are is a) (no_memory e) = absurd (text_no_fault y OutOfMemory e)
 one_text text conf x y (no_code none e) (code us them too b) = absurd (none us them too)
@@ -46,7 +46,7 @@ one_text text conf x y (no_memory e) b = absurd (text_no_fault x OutOfMemory e)
 pub one_place : (text : List ℕ) (conf : List ConfItem) (x y : Place) → Replaces text conf (Err (UndefinedName x)) → Replaces text conf (Err (UndefinedName y)) → x ≡ y
 one_place text conf x y (code ts are is a) (code us them too b) =
     let same : ts ≡ us = gives_tokens text (Ok ts) are us them in
-    same_Some x y (sym a ∙ ap (λ (l : List Lexeme). undefined l conf) same ∙ b)
+    same_Some x y (sym a ∙ ap (λ (l : List Lexeme). undefined_name l conf) same ∙ b)
 one_place text conf x y (code ts are is a) (no_code none e) = absurd (none ts are is)
 one_place text conf x y (code ts are is a) (no_memory e) = absurd (place_no_memory y e)
 one_place text conf x y (no_code none e) b = absurd (fault_no_text text (UndefinedName x) e)
@@ -55,14 +55,14 @@ one_place text conf x y (no_memory e) b = absurd (place_no_memory x e)
 pub text_or_place : (text : List ℕ) (conf : List ConfItem) (x : List ℕ) (y : Place) → Replaces text conf (Ok x) → Replaces text conf (Err (UndefinedName y)) → ⊥
 text_or_place text conf x y (code ts are is a) (code us them too b) =
     let same : ts ≡ us = gives_tokens text (Ok ts) are us them in
-    none_some y (sym a.0 ∙ ap (λ (l : List Lexeme). undefined l conf) same ∙ b)
+    none_some y (sym a.0 ∙ ap (λ (l : List Lexeme). undefined_name l conf) same ∙ b)
 text_or_place text conf x y a (no_code none e) = fault_no_text text (UndefinedName y) e
 text_or_place text conf x y a (no_memory e) = place_no_memory y e
 text_or_place text conf x y (no_code none e) (code us them too b) = none us them too
 text_or_place text conf x y (no_memory e) (code us them too b) = text_no_fault x OutOfMemory e
 
 pub some_replacement : (text : List ℕ) (ts : List Lexeme) (conf : List ConfItem) → AreTokensOf text ts → AreCode ts → ((new : List ℕ) × Replaces text conf (Ok new)) ⊎ ((at : Place) × Replaces text conf (Err (UndefinedName at)))
-some_replacement text ts conf are is = by (undefined ts conf) refl where
-  by : (o : Option Place) → undefined ts conf ≡ o → ((new : List ℕ) × Replaces text conf (Ok new)) ⊎ ((at : Place) × Replaces text conf (Err (UndefinedName at)))
-  by None e = inl (spliced text 0 (cuts (settings_of conf) ts), code ts are is (e, refl))
+some_replacement text ts conf are is = by (undefined_name ts conf) refl where
+  by : (o : Option Place) → undefined_name ts conf ≡ o → ((new : List ℕ) × Replaces text conf (Ok new)) ⊎ ((at : Place) × Replaces text conf (Err (UndefinedName at)))
+  by None e = inl (spliced_text text 0 (cuts (settings_of conf) ts), code ts are is (e, refl))
   by (Some at) e = inr (at, code ts are is e)

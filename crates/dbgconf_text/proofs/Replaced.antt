@@ -13,7 +13,7 @@ use Rattle.expr_grammar.specs.Refusal.{Accepts, IsAccepted}
 use Rattle.expr_grammar.proofs.OneDivision.{gives_tokens}
 use Rattle.dbgconf_text.specs.declared.conf.ConfItem.{ConfItem}
 use Rattle.dbgconf_text.specs.declared.replacing.ReplaceFault.{ReplaceFault}
-use Rattle.dbgconf_text.specs.Cuts.{cuts, spliced}
+use Rattle.dbgconf_text.specs.Cuts.{cuts, spliced_text}
 use Rattle.dbgconf_text.specs.Replacing.{AreCode, HasValues, Replaces, code, no_code, no_memory, settings_of}
 use Rattle.dbgconf_text.specs.Splicing.{is_memory}
 use Rattle.dbgconf_text.proofs.Whole.{accepted}
@@ -32,11 +32,11 @@ other_tokens text ts are other us them c =
 pub no_tokens : (text : List ℕ) (at : Place) → Lexes text (Err (tokens.BadToken at)) → (us : List Lexeme) → AreTokensOf text us → AreCode us → ⊥
 no_tokens text at l us them c = gives_tokens text (Err (tokens.BadToken at)) l us them
 
-has_by : (text : List ℕ) (conf : List ConfItem) (new : List ℕ) (ts : List Lexeme) → AreTokensOf text ts → new ≡ spliced text 0 (cuts (settings_of conf) ts) → HasValues text conf new
+has_by : (text : List ℕ) (conf : List ConfItem) (new : List ℕ) (ts : List Lexeme) → AreTokensOf text ts → new ≡ spliced_text text 0 (cuts (settings_of conf) ts) → HasValues text conf new
 has_by text conf new ts are is us trees small them acc =
     let same : ts ≡ us = gives_tokens text (Ok ts) are us them in
     let r = accepted text (settings_of conf) us trees small them acc in
-    let whole : new ≡ spliced text 0 (cuts (settings_of conf) us) = is ∙ ap (λ (l : List Lexeme). spliced text 0 (cuts (settings_of conf) l)) same in
+    let whole : new ≡ spliced_text text 0 (cuts (settings_of conf) us) = is ∙ ap (λ (l : List Lexeme). spliced_text text 0 (cuts (settings_of conf) l)) same in
     (r.tokens, r.trees, subst (λ (n : List ℕ). AreTokensOf n r.tokens) (sym whole) r.are, r.accepted, r.same)
 
 pub has_values : (text : List ℕ) (conf : List ConfItem) (new : List ℕ) → Replaces text conf (Ok new) → HasValues text conf new

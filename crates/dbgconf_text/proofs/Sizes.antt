@@ -13,7 +13,7 @@ use Rattle.expr_grammar.specs.Grammar.{ReadsCode}
 use Rattle.expr_grammar.specs.Lexing.{AreTokensOf, Divides, nothing}
 use Rattle.expr_grammar.proofs.Moves.{divides_order}
 use Rattle.dbgconf_text.specs.declared.conf.ConfItem.{ConfItem}
-use Rattle.dbgconf_text.specs.Cuts.{AreSmall, Cut, Setting, cut_after, cuts, spliced, value_of, without}
+use Rattle.dbgconf_text.specs.Cuts.{AreSmall, Cut, Setting, cut_after, cuts, spliced_text, value_of, without}
 use Rattle.dbgconf_text.specs.Replacing.{Replaces, code, no_code, no_memory, setting_of, settings_of}
 use Rattle.dbgconf_text.proofs.Splice.{Cutting, apart, cut, done, token_within}
 use Rattle.dbgconf_text.proofs.Changed.{changes}
@@ -87,7 +87,7 @@ cuts_size set (k ∷ n ∷ e ∷ ts) = cuts_by set k n e ts (is_mark (codes "__v
 
 -- ---- texts
 
-spliced_size : (text : List ℕ) {ts changed : List Lexeme} {cs : List Cut} → Cutting ts changed cs → (a : ℕ) → Divides text a ts (length text) → length (spliced text a cs) ≤ (length text - a) + 19 * length cs
+spliced_size : (text : List ℕ) {ts changed : List Lexeme} {cs : List Cut} → Cutting ts changed cs → (a : ℕ) → Divides text a ts (length text) → length (spliced_text text a cs) ≤ (length text - a) + 19 * length cs
 spliced_size text done a d = omega (arith, length-drop a text)
 spliced_size text (cut front mid rest changed equals number semi v more eq_is semi_is kind_is text_is small sub) a d =
     let p = apart text a front equals (mid ++ semi ∷ rest) (length text) d in
@@ -99,11 +99,11 @@ spliced_size text (cut front mid rest changed equals number semi v more eq_is se
     let mid_low : equals.start + length equals.text ≤ semi.start = divides_order text (equals.start + length equals.text) mid semi.start q.before in
     let semi_in = token_within text semi q.here (omega (arith, semi_one)) in
     let front_size : length (take (equals.start + 1 - a) (drop a text)) ≤ equals.start + 1 - a = omega (arith, length-take (equals.start + 1 - a) (drop a text)) in
-    let all = length-append (take (equals.start + 1 - a) (drop a text)) (32 ∷ (hex v ++ spliced text semi.start more)) in
-    let after = length-append (hex v) (spliced text semi.start more) in
+    let all = length-append (take (equals.start + 1 - a) (drop a text)) (32 ∷ (hex v ++ spliced_text text semi.start more)) in
+    let after = length-append (hex v) (spliced_text text semi.start more) in
     omega (arith, later, low, mid_low, one, semi_one, semi_in, front_size, all, after, hex_size v small)
 
-pub replaced_size : (text : List ℕ) (set : List Setting) (ts : List Lexeme) (trees : List StmtTree) → AreSmall set → AreTokensOf text ts → ReadsCode ts trees → length (spliced text 0 (cuts set ts)) ≤ length text + 19 * length set
+pub replaced_size : (text : List ℕ) (set : List Setting) (ts : List Lexeme) (trees : List StmtTree) → AreSmall set → AreTokensOf text ts → ReadsCode ts trees → length (spliced_text text 0 (cuts set ts)) ≤ length text + 19 * length set
 replaced_size text set ts trees small are reads =
     let whole = spliced_size text (changes trees set ts small reads).cutting 0 are in
     omega (arith, whole, cuts_size set ts)

@@ -16,7 +16,7 @@ use Rattle.expr_grammar.specs.Lexing.{is_blank, place_at, IsGapFront, blank, IsT
 use Rattle.expr_grammar.specs.Lexing as lexing
 use Rattle.expr_grammar.proofs.Fronts.{first, number_taken, number_text, list_all_get}
 use Rattle.expr_grammar.specs.Moved.{AreMoved}
-use Rattle.dbgconf_text.specs.Cuts.{Cut, spliced}
+use Rattle.dbgconf_text.specs.Cuts.{Cut, spliced_text}
 use Rattle.dbgconf_text.proofs.Numbers.{hex_number}
 use Rattle.expr_grammar.proofs.Local.{size_of_mark, mark_by_first}
 use Rattle.expr_grammar.proofs.Moves.{MovedTo, divides_moves, divides_order}
@@ -107,17 +107,17 @@ one_equals equals is = ap length is.text_is
 pub token_within : (text : List ℕ) (t : Lexeme) → IsTokenOf text t → 0 < length t.text → t.start + length t.text ≤ length text
 token_within text t is pos = omega (arith, is.front.within, length-drop t.start text, pos)
 
-spliced_first : (text : List ℕ) {ts changed : List Lexeme} {cs : List Cut} → Cutting ts changed cs → (a : ℕ) → Divides text a ts (length text) → a < length text → first (spliced text a cs) ≡ first (drop a text)
+spliced_first : (text : List ℕ) {ts changed : List Lexeme} {cs : List Cut} → Cutting ts changed cs → (a : ℕ) → Divides text a ts (length text) → a < length text → first (spliced_text text a cs) ≡ first (drop a text)
 spliced_first text done a d lt = refl
 spliced_first text (cut front mid rest changed equals number semi v more eq_is semi_is kind_is text_is small sub) a d lt =
     let p = apart text a front equals (mid ++ semi ∷ rest) (length text) d in
     let low : a ≤ equals.start = divides_order text a front equals.start p.before in
     let n : 0 < equals.start + 1 - a = omega (arith, low) in
     let long : 0 < length (take (equals.start + 1 - a) (drop a text)) = omega (arith, n, length-take (equals.start + 1 - a) (drop a text), length-drop a text, lt) in
-    get_or_append_left (take (equals.start + 1 - a) (drop a text)) (32 ∷ (hex v ++ spliced text semi.start more)) 0 0 long ∙ get_or-take (equals.start + 1 - a) (drop a text) 0 0 n
+    get_or_append_left (take (equals.start + 1 - a) (drop a text)) (32 ∷ (hex v ++ spliced_text text semi.start more)) 0 0 long ∙ get_or-take (equals.start + 1 - a) (drop a text) 0 0 n
 
 module _ (text new : List ℕ) where
-  pub spliced_tokens : {ts changed : List Lexeme} {cs : List Cut} → Cutting ts changed cs → (a c : ℕ) → Divides text a ts (length text) → a ≤ length text → c ≤ length new → drop c new ≡ spliced text a cs → MovedTo new c (length new) changed
+  pub spliced_tokens : {ts changed : List Lexeme} {cs : List Cut} → Cutting ts changed cs → (a c : ℕ) → Divides text a ts (length text) → a ≤ length text → c ≤ length new → drop c new ≡ spliced_text text a cs → MovedTo new c (length new) changed
   spliced_tokens {ts} done a c d low low2 is =
       let len = length text - a in
       let same : take (suc len) (drop a text) ≡ take (suc len) (drop c new) = ap (take (suc len)) (sym is) in
@@ -136,7 +136,7 @@ module _ (text new : List ℕ) where
       let k = equals.start - a in
       let X = drop a text in
       let H = hex v in
-      let R = spliced text semi.start more in
+      let R = spliced_text text semi.start more in
       let Y = H ++ R in
       let T = take (k + 1) X in
       let size : length T ≡ k + 1 = length-take-le (k + 1) X (omega (arith, length-drop a text, equals_in, one, start_low)) in

@@ -7,7 +7,7 @@ use Rattle.std.proofs.iter.FirstChar.{beside_ascii}
 use Rattle.std.proofs.lemmas.Str.{IsUtf8-drop}
 use Rattle.std.proofs.lemmas.Bool.{both_ways, false_from_ne_true}
 use Rattle.std.proofs.lemmas.List.{length-append, length-drop, length-take-le, drop-drop, take_at, drop_at, take-append-drop, get_or-drop, get_or-take, drop_all}
-use Rattle.std.proofs.Math.Bool.{or-false}
+use Rattle.std.proofs.Math.Bool.{or-false, or_assoc}
 use Rattle.std.proofs.lemmas.Option.{same_Some}
 use Rattle.text_lines.specs.Hex.{hex}
 use Rattle.expr_grammar.specs.declared.code.Name.{Name}
@@ -17,7 +17,7 @@ use Rattle.expr_grammar.specs.Tree.{Tree, StmtTree}
 use Rattle.expr_grammar.specs.Reading.{is_mark}
 use Rattle.expr_grammar.specs.Grammar.{IsMark, IsName, Reads, ReadsCode}
 use Rattle.expr_grammar.specs.Lexing.{IsTokenOf, Divides}
-use Rattle.dbgconf_text.specs.Cuts.{Setting, Cut, value_of, without, semicolon, cut_after, cuts, spliced}
+use Rattle.dbgconf_text.specs.Cuts.{Setting, Cut, value_of, without, semicolon, cut_after, cuts, spliced_text}
 use Rattle.dbgconf_text.specs.Replacing.{declares}
 use Rattle.dbgconf_text.specs.Splicing.{CanCut, Splicing, cut_of, flag, left_after, out_after, pending, rest_after, statement_len}
 use Rattle.expr_grammar.proofs.Moves.{divides_order, gap_order}
@@ -58,11 +58,8 @@ value_without n m (s ∷ more) = value_step n m s more (bytes_eq s.name n) (byte
 declares_append : (f : Bool) (xs ys : List Lexeme) (m : List ℕ) → declares f (xs ++ ys) m ≡ (declares f xs m || declares (flag f xs) ys m)
 declares_append f [] ys m = refl
 declares_append f (k ∷ xs) ys m =
-    let rest = declares_append (is_mark (codes "__var") k) xs ys m in
-    by (f && bytes_eq k.text m) (declares (is_mark (codes "__var") k) (xs ++ ys) m) (declares (is_mark (codes "__var") k) xs m) (declares (flag (is_mark (codes "__var") k) xs) ys m) rest where
-      by : (a b c d : Bool) → b ≡ (c || d) → (a || b) ≡ ((a || c) || d)
-      by true b c d e = refl
-      by false b c d e = e
+    ap (λ b. f && bytes_eq k.text m || b) (declares_append (is_mark (codes "__var") k) xs ys m)
+    ∙ sym (or_assoc (f && bytes_eq k.text m) (declares (is_mark (codes "__var") k) xs m) (declares (flag (is_mark (codes "__var") k) xs) ys m))
 
 flag_append : (f : Bool) (xs ys : List Lexeme) → flag f (xs ++ ys) ≡ flag (flag f xs) ys
 flag_append f [] ys = refl
@@ -260,7 +257,7 @@ known text out rest all n set own right s e = record {
 -- a statement that stays: the names that are left are these
 stays : (text out rest : List ℕ) (all : List Lexeme) (n : ℕ) (set left : List Setting) (own right : List Lexeme) (more : List StmtTree) → Splicing text out rest all n set → drop n all ≡ own ++ right → ReadsCode right more
     → ((name : List ℕ) → value_of name left ≡ pending set (take n all ++ own) name) → flag false (take n all ++ own) ≡ false
-    → out ++ spliced text (length text - length rest) (cuts left right) ≡ spliced text 0 (cuts set all) → Splicing text out rest all (n + length own) set
+    → out ++ spliced_text text (length text - length rest) (cuts left right) ≡ spliced_text text 0 (cuts set all) → Splicing text out rest all (n + length own) set
 stays text out rest all n set left own right more s e reads values fl so_far =
     let k = known text out rest all n set own right s e in
     let t = divides_tail text s.offset own right (length text) (subst (λ (l : List Lexeme). Divides text s.offset l (length text)) e s.divides) in
@@ -277,7 +274,7 @@ stays text out rest all n set left own right more s e reads values fl so_far =
       left = left;
       values = λ name. values name ∙ ap (λ (l : List Lexeme). pending set l name) (sym k.before);
       apart = ap (flag false) k.before ∙ fl;
-      so_far = ap (λ (l : List Lexeme). out ++ spliced text (length text - length rest) (cuts left l)) k.after ∙ so_far;
+      so_far = ap (λ (l : List Lexeme). out ++ spliced_text text (length text - length rest) (cuts left l)) k.after ∙ so_far;
     }
 
 flag_on : (before own : List Lexeme) → flag false before ≡ false → flag false own ≡ false → flag false (before ++ own) ≡ false
@@ -289,7 +286,7 @@ turn_free text out rest all n set own right more s e reads h =
     stays text out rest all n set s.left own right more s e reads
     (λ name. s.values name ∙ sym (pending_free set (take n all) own name s.apart h))
     (flag_on (take n all) own s.apart (free_flag own h))
-    (ap (λ (c : List Cut). out ++ spliced text (length text - length rest) c) (sym (ap (cuts s.left) e ∙ skip_all s.left own right h)) ∙ s.so_far)
+    (ap (λ (c : List Cut). out ++ spliced_text text (length text - length rest) c) (sym (ap (cuts s.left) e ∙ skip_all s.left own right h)) ∙ s.so_far)
 
 module _ (text out rest : List ℕ) (all : List Lexeme) (n : ℕ) (set : List Setting) (own right : List Lexeme) (more : List StmtTree) (s : Splicing text out rest all n set) (e : drop n all ≡ own ++ right) (reads : ReadsCode right more)
     (name : Name) (value : Tree) (p : changed.Parts own name value) where
@@ -307,7 +304,7 @@ module _ (text out rest : List ℕ) (all : List Lexeme) (n : ℕ) (set : List Se
   turn_kept : pending set (take n all) name.text ≡ None → Splicing text out rest all (n + length own) set
   turn_kept is =
       stays text out rest all n set (without name.text s.left) own right more s e reads next_values (flag_on (take n all) own s.apart (flag_one own name value p))
-      (ap (λ (c : List Cut). out ++ spliced text (length text - length rest) c) (sym (all_cuts None is)) ∙ s.so_far)
+      (ap (λ (c : List Cut). out ++ spliced_text text (length text - length rest) c) (sym (all_cuts None is)) ∙ s.so_far)
 
   -- the cut of this statement, that it can be made, and what it leads to
   pub record Made (v : ℕ) : Type 0 where
@@ -346,9 +343,9 @@ module _ (text out rest : List ℕ) (all : List Lexeme) (n : ℕ) (set : List Se
       let at : semicolon (p.mid ++ p.semi ∷ right) ≡ p.semi.start = semi_found p.mid p.semi right (plain value 0 p.mid p.value) p.is_semi in
       let X = take f rest in
       let H = hex v in
-      let R = spliced text p.semi.start (cuts (without name.text s.left) right) in
-      let old : spliced text h (cuts s.left (drop n all)) ≡ X ++ 32 ∷ (H ++ R) =
-      ap (spliced text h) cs ∙ ap (λ (i : ℕ). take f (drop h text) ++ 32 ∷ (H ++ spliced text i (cuts (without name.text s.left) right))) at ∙ ap (λ (l : List ℕ). take f l ++ 32 ∷ (H ++ R)) (sym s.back) in
+      let R = spliced_text text p.semi.start (cuts (without name.text s.left) right) in
+      let old : spliced_text text h (cuts s.left (drop n all)) ≡ X ++ 32 ∷ (H ++ R) =
+      ap (spliced_text text h) cs ∙ ap (λ (i : ℕ). take f (drop h text) ++ 32 ∷ (H ++ spliced_text text i (cuts (without name.text s.left) right))) at ∙ ap (λ (l : List ℕ). take f l ++ 32 ∷ (H ++ R)) (sym s.back) in
       let joined : (out ++ (X ++ 32 ∷ H)) ++ R ≡ out ++ (X ++ 32 ∷ (H ++ R)) = append_assoc out (X ++ 32 ∷ H) R ∙ ap (λ (l : List ℕ). out ++ l) (append_assoc X (32 ∷ H) R) in
       record {
         can = record { from_low = from_low; to_low = omega (arith, mid_low, one); to_in = omega (arith, semi_in); first_cut = first_cut; second_cut = second_cut };
@@ -365,8 +362,8 @@ module _ (text out rest : List ℕ) (all : List Lexeme) (n : ℕ) (set : List Se
           left = without name.text s.left;
           values = λ m. next_values m ∙ ap (λ (l : List Lexeme). pending set l m) (sym k.before);
           apart = ap (flag false) k.before ∙ flag_on (take n all) own s.apart (flag_one own name value p);
-          so_far = ap (λ (i : ℕ). (out ++ (X ++ 32 ∷ H)) ++ spliced text i (cuts (without name.text s.left) (drop (n + length own) all))) new_here
-              ∙ ap (λ (l : List Lexeme). (out ++ (X ++ 32 ∷ H)) ++ spliced text p.semi.start (cuts (without name.text s.left) l)) k.after
+          so_far = ap (λ (i : ℕ). (out ++ (X ++ 32 ∷ H)) ++ spliced_text text i (cuts (without name.text s.left) (drop (n + length own) all))) new_here
+              ∙ ap (λ (l : List Lexeme). (out ++ (X ++ 32 ∷ H)) ++ spliced_text text p.semi.start (cuts (without name.text s.left) l)) k.after
               ∙ joined ∙ ap (λ (l : List ℕ). out ++ l) (sym old) ∙ s.so_far;
         };
       }
@@ -492,10 +489,10 @@ starts text out all set code utf8 d r e =
       left = set;
       values = λ name. refl;
       apart = refl;
-      so_far = ap (λ (l : List ℕ). l ++ spliced text (length text - length text) (cuts set all)) e ∙ ap (λ (i : ℕ). spliced text i (cuts set all)) zero_at;
+      so_far = ap (λ (l : List ℕ). l ++ spliced_text text (length text - length text) (cuts set all)) e ∙ ap (λ (i : ℕ). spliced_text text i (cuts set all)) zero_at;
     }
 
-pub ends_with : (text out rest : List ℕ) (all : List Lexeme) (n : ℕ) (set : List Setting) → Splicing text out rest all n set → length all ≤ n → out ++ rest ≡ spliced text 0 (cuts set all)
+pub ends_with : (text out rest : List ℕ) (all : List Lexeme) (n : ℕ) (set : List Setting) → Splicing text out rest all n set → length all ≤ n → out ++ rest ≡ spliced_text text 0 (cuts set all)
 ends_with text out rest all n set s le =
     let none : drop n all ≡ [] = drop_all n all le in
-    ap (λ (l : List ℕ). out ++ l) s.back ∙ sym (ap (λ (l : List Lexeme). out ++ spliced text (length text - length rest) (cuts s.left l)) none) ∙ s.so_far
+    ap (λ (l : List ℕ). out ++ l) s.back ∙ sym (ap (λ (l : List Lexeme). out ++ spliced_text text (length text - length rest) (cuts s.left l)) none) ∙ s.so_far

@@ -7,7 +7,7 @@ use Rattle.expr_grammar.specs.Lexeme.{Lexeme}
 use Rattle.dbgconf_text.specs.declared.conf.ConfItem.{ConfItem}
 use Rattle.dbgconf_text.specs.Cuts.{value_of}
 use Rattle.dbgconf_text.specs.Conf.{has_item}
-use Rattle.dbgconf_text.specs.Replacing.{declares, settings_of, undefined}
+use Rattle.dbgconf_text.specs.Replacing.{declares, settings_of, undefined_name}
 use Rattle.dbgconf_text.specs.Splicing.{first_left, pending}
 
 some_by : (b : Bool) (v : ℕ) (o : Option ℕ) → is_some (cond b (Some v) o) ≡ (b || is_some o)
@@ -31,13 +31,13 @@ one_by : (declared : Bool) (value : Option ℕ) (at : Place) (x y : Option Place
 one_by true value at x y some e = e
 one_by false value at x y some e = rw some refl
 
-go_on : (before conf : List ConfItem) (whole : List ConfItem) (ts : List Lexeme) (value : List ℕ → Option ℕ) → whole ≡ before ++ conf → ((name : List ℕ) → value name ≡ pending (settings_of whole) ts name) → first_left value conf ≡ undefined ts conf
+go_on : (before conf : List ConfItem) (whole : List ConfItem) (ts : List Lexeme) (value : List ℕ → Option ℕ) → whole ≡ before ++ conf → ((name : List ℕ) → value name ≡ pending (settings_of whole) ts name) → first_left value conf ≡ undefined_name ts conf
 go_on before [] whole ts value e h = refl
 go_on before (item ∷ more) whole ts value e h =
     let rest = go_on (before ++ item ∷ []) more whole ts value (e ∙ sym (append_assoc before (item ∷ []) more)) h in
     let some : is_some (value_of item.name.text (settings_of whole)) ≡ true = value_some whole item.name.text ∙ ap (λ (c : List ConfItem). has_item c item.name.text) e ∙ has_own before item more in
     ap (λ (o : Option ℕ). cond (is_some o) (Some item.name.at) (first_left value more)) (h item.name.text)
-    ∙ one_by (declares false ts item.name.text) (value_of item.name.text (settings_of whole)) item.name.at (first_left value more) (undefined ts more) some rest
+    ∙ one_by (declares false ts item.name.text) (value_of item.name.text (settings_of whole)) item.name.at (first_left value more) (undefined_name ts more) some rest
 
-pub first_undefined : (conf : List ConfItem) (ts : List Lexeme) (value : List ℕ → Option ℕ) → ((name : List ℕ) → value name ≡ pending (settings_of conf) ts name) → first_left value conf ≡ undefined ts conf
+pub first_undefined : (conf : List ConfItem) (ts : List Lexeme) (value : List ℕ → Option ℕ) → ((name : List ℕ) → value name ≡ pending (settings_of conf) ts name) → first_left value conf ≡ undefined_name ts conf
 first_undefined conf ts value h = go_on [] conf conf ts value refl h

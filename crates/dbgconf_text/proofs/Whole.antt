@@ -5,7 +5,7 @@ use Rattle.expr_grammar.specs.Tree.{StmtTree}
 use Rattle.expr_grammar.specs.Grammar.{ReadsCode}
 use Rattle.expr_grammar.specs.Lexing.{AreTokensOf}
 use Rattle.expr_grammar.specs.Bare.{bare_code}
-use Rattle.dbgconf_text.specs.Cuts.{Setting, cuts, spliced, with_values, AreSmall}
+use Rattle.dbgconf_text.specs.Cuts.{Setting, cuts, spliced_text, with_values, AreSmall}
 use Rattle.dbgconf_text.proofs.Splice.{spliced_tokens}
 use Rattle.dbgconf_text.proofs.Changed.{changes}
 use Rattle.expr_grammar.proofs.Again.{again_code}
@@ -23,9 +23,9 @@ pub record Replaced (new : List ℕ) (code : List StmtTree) : Type 0 where
   pub same : bare_code trees ≡ bare_code code
   pub fits : Fits [] tokens
 
-pub replaced : (text : List ℕ) (set : List Setting) (ts : List Lexeme) (code : List StmtTree) → AreSmall set → AreTokensOf text ts → ReadsCode ts code → Fits [] ts → Replaced (spliced text 0 (cuts set ts)) (with_values set code)
+pub replaced : (text : List ℕ) (set : List Setting) (ts : List Lexeme) (code : List StmtTree) → AreSmall set → AreTokensOf text ts → ReadsCode ts code → Fits [] ts → Replaced (spliced_text text 0 (cuts set ts)) (with_values set code)
 replaced text set ts code small are reads fit =
-    let new = spliced text 0 (cuts set ts) in
+    let new = spliced_text text 0 (cuts set ts) in
     let c = changes code set ts small reads in
     let m = spliced_tokens text new c.cutting 0 0 are (omega arith) (omega arith) refl in
     let x = again_code (with_values set code) c.changed m.us c.reads m.moved in
@@ -38,7 +38,7 @@ pub record IsReplaced (new : List ℕ) (code : List StmtTree) : Type 0 where
   pub accepted : IsAccepted ReadsCode Statement tokens trees
   pub same : bare_code trees ≡ bare_code code
 
-pub accepted : (text : List ℕ) (set : List Setting) (ts : List Lexeme) (code : List StmtTree) → AreSmall set → AreTokensOf text ts → IsAccepted ReadsCode Statement ts code → IsReplaced (spliced text 0 (cuts set ts)) (with_values set code)
+pub accepted : (text : List ℕ) (set : List Setting) (ts : List Lexeme) (code : List StmtTree) → AreSmall set → AreTokensOf text ts → IsAccepted ReadsCode Statement ts code → IsReplaced (spliced_text text 0 (cuts set ts)) (with_values set code)
 accepted text set ts code small are is =
     let r = replaced text set ts code small are is.reads (fits ts is.none_deep) in
     record { tokens = r.tokens; trees = r.trees; are = r.are; accepted = record { reads = r.reads; none_deep = none_deep r.tokens r.fits }; same = r.same }

@@ -53,9 +53,9 @@ cuts set (k ∷ n ∷ e ∷ ts) =
     if is_mark (codes "__var") k then cut_after (value_of n.text set) e ts (cuts (without n.text set) (n ∷ e ∷ ts)) else cuts set (n ∷ e ∷ ts)
 
 -- the text from an offset on, with a space and the number, as `0x` and its digits, in the place of each cut
-abbrev pub spliced : List ℕ → ℕ → List Cut → List ℕ
-spliced text here [] = drop here text
-spliced text here (c ∷ more) = take (c.from - here) (drop here text) ++ 32 ∷ (hex c.value ++ spliced text c.to more)
+abbrev pub spliced_text : List ℕ → ℕ → List Cut → List ℕ
+spliced_text text here [] = drop here text
+spliced_text text here (c ∷ more) = take (c.from - here) (drop here text) ++ 32 ∷ (hex c.value ++ spliced_text text c.to more)
 
 -- ---- in code
 

@@ -13,7 +13,7 @@ use Rattle.expr_grammar.specs.declared.limit.Span.TheVariants.{Statement}
 use Rattle.dbgconf_text.specs.declared.conf.ConfItem.{ConfItem}
 use Rattle.dbgconf_text.specs.declared.replacing.ReplaceFault.{ReplaceFault}
 use Rattle.dbgconf_text.specs.declared.replacing.ReplaceFault.TheVariants.{UndefinedName, OutOfMemory}
-use Rattle.dbgconf_text.specs.Cuts.{AreSmall, Setting, cuts, spliced, with_values}
+use Rattle.dbgconf_text.specs.Cuts.{AreSmall, Setting, cuts, spliced_text, with_values}
 
 -- a name and its value without the place of the name
 abbrev pub setting_of : ConfItem → Setting
@@ -29,9 +29,9 @@ declares after [] name = false
 declares after (k ∷ ts) name = (after && bytes_eq k.text name) || declares (is_mark (codes "__var") k) ts name
 
 -- the place of the first name of the list that the tokens do not declare
-abbrev pub undefined : List Lexeme → List ConfItem → Option Place
-undefined ts [] = None
-undefined ts (item ∷ more) = if declares false ts item.name.text then undefined ts more else Some item.name.at
+abbrev pub undefined_name : List Lexeme → List ConfItem → Option Place
+undefined_name ts [] = None
+undefined_name ts (item ∷ more) = if declares false ts item.name.text then undefined_name ts more else Some item.name.at
 
 -- the tokens are code, of which none is too deep
 abbrev pub AreCode : List Lexeme → Type 0
@@ -39,8 +39,8 @@ AreCode ts = (code : List StmtTree) × IsAccepted ReadsCode Statement ts code
 
 -- what is answered where the tokens are code: the first name that is not declared, or else the text with the values
 abbrev pub AnswersCode : List ℕ → List Lexeme → List ConfItem → Result (List ℕ) ReplaceFault → Type 0
-AnswersCode text ts conf (Ok new) = (undefined ts conf ≡ None) × (new ≡ spliced text 0 (cuts (settings_of conf) ts))
-AnswersCode text ts conf (Err (UndefinedName at)) = undefined ts conf ≡ Some at
+AnswersCode text ts conf (Ok new) = (undefined_name ts conf ≡ None) × (new ≡ spliced_text text 0 (cuts (settings_of conf) ts))
+AnswersCode text ts conf (Err (UndefinedName at)) = undefined_name ts conf ≡ Some at
 AnswersCode text ts conf (Err OutOfMemory) = ⊤
 
 -- What is answered: the text as it is, where it is no code; and else what is answered to code. Apart from memory there is one such answer (`laws::one_replacement`).

@@ -12,7 +12,7 @@ use Rattle.expr_grammar.specs.Lexing.{Divides}
 use Rattle.expr_grammar.specs.Reading.{is_mark}
 use Rattle.expr_grammar.specs.Tree.{StmtTree}
 use Rattle.dbgconf_text.specs.declared.conf.ConfItem.{ConfItem}
-use Rattle.dbgconf_text.specs.Cuts.{Setting, Cut, cuts, semicolon, spliced, value_of}
+use Rattle.dbgconf_text.specs.Cuts.{Setting, Cut, cuts, semicolon, spliced_text, value_of}
 use Rattle.dbgconf_text.specs.Replacing.{declares}
 
 -- whether memory was refused
@@ -86,4 +86,4 @@ pub record Splicing (text out rest : List ℕ) (all : List Lexeme) (n : ℕ) (se
   pub left : List Setting
   pub values : (name : List ℕ) → value_of name left ≡ pending set (take n all) name
   pub apart : flag false (take n all) ≡ false
-  pub so_far : out ++ spliced text (length text - length rest) (cuts left (drop n all)) ≡ spliced text 0 (cuts set all)
+  pub so_far : out ++ spliced_text text (length text - length rest) (cuts left (drop n all)) ≡ spliced_text text 0 (cuts set all)

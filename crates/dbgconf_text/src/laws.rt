@@ -14,7 +14,7 @@ ghost use Rattle.dbgconf_text.specs.declared.conf.ConfFault.{ConfFault};
 ghost use Rattle.dbgconf_text.specs.declared.conf.ConfFault.TheVariants as faults;
 ghost use Rattle.dbgconf_text.specs.declared.conf.ConfItem.{ConfItem};
 ghost use Rattle.dbgconf_text.specs.Conf.{AnswersText, IsConf, IsRepeatedFirst, IsUnexpectedFirst};
-ghost use Rattle.dbgconf_text.specs.Cuts.{AreSmall, Setting, cuts, spliced, with_values};
+ghost use Rattle.dbgconf_text.specs.Cuts.{AreSmall, Setting, cuts, spliced_text, with_values};
 ghost use Rattle.dbgconf_text.specs.Replacing.{AreCode, Replaces, settings_of};
 ghost use Rattle.dbgconf_text.specs.There.{AreThere};
 ghost use Rattle.dbgconf_text.specs.Written.{AreNames};
@@ -72,14 +72,14 @@ pub fn replacement_or_place()
 pub fn replaced_text_reads_as_replaced_code()
     ensures { (text : List ℕ) (set : List Setting) (ts : List Lexeme) (code : List StmtTree) → AreSmall set → AreTokensOf text ts
         → IsAccepted ReadsCode Statement ts code
-        → (us : List Lexeme) × (trees : List StmtTree) × AreTokensOf (spliced text 0 (cuts set ts)) us × IsAccepted ReadsCode Statement us trees
+        → (us : List Lexeme) × (trees : List StmtTree) × AreTokensOf (spliced_text text 0 (cuts set ts)) us × IsAccepted ReadsCode Statement us trees
         × (bare_code trees ≡ bare_code (with_values set code)) }
 {}
 
 /// Replaced values of 64 bits make a text at most 19 bytes longer for each name.
 pub fn replaced_text_is_short()
     ensures spliced { (text : List ℕ) (set : List Setting) (ts : List Lexeme) (code : List StmtTree) → AreSmall set → AreTokensOf text ts → ReadsCode ts code
-        → length (spliced text 0 (cuts set ts)) ≤ length text + 19 * length set }
+        → length (spliced_text text 0 (cuts set ts)) ≤ length text + 19 * length set }
     ensures replaced { (text : List ℕ) (conf : List ConfItem) (new : List ℕ) → AreSmall (settings_of conf) → Replaces text conf (Ok new)
         → length new ≤ length text + 19 * length conf }
 {}

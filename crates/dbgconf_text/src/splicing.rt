@@ -3,7 +3,7 @@ ghost use Rattle.std.specs.Prelude.{◌≡◌, ◌+◌, ◌≤◌, ◌++◌, ◌
 ghost use Rattle.expr_grammar.specs.Lexeme.{lexemes};
 ghost use Rattle.expr_grammar.specs.Lexing.{AreTokensOf};
 ghost use Rattle.text_lines.specs.Hex.{hex};
-ghost use Rattle.dbgconf_text.specs.Cuts.{Cut, cuts, semicolon, spliced};
+ghost use Rattle.dbgconf_text.specs.Cuts.{Cut, cuts, semicolon, spliced_text};
 ghost use Rattle.dbgconf_text.specs.Replacing.{AreCode, settings_of};
 ghost use Rattle.dbgconf_text.specs.Splicing.{CanCut, cut_of, left_after, out_after, pending, rest_after, statement_len};
 ghost use Rattle.dbgconf_text.specs.Values.{value_in};
@@ -112,7 +112,7 @@ pub fn splice(
 ) -> Result<(String, NamedValues), OutOfMemory>
     requires are { AreTokensOf text.now (lexemes tokens.now) }
     requires code { AreCode (lexemes tokens.now) }
-    ensures text { IfOk result (λ r. string_bytes r.0 ≡ spliced text.now 0 (cuts (settings_of conf.now) (lexemes tokens.now))) }
+    ensures text { IfOk result (λ r. string_bytes r.0 ≡ spliced_text text.now 0 (cuts (settings_of conf.now) (lexemes tokens.now))) }
     ensures left { IfOk result (λ r. (name : List ℕ) → value_in r.1 name ≡ pending (settings_of conf.now) (lexemes tokens.now) name) }
 {
     let mut left = NamedValues::of(alloc, conf)?;

@@ -1,9 +1,10 @@
 -- Reading a pack gives exactly the pack that the value stands for.
 use Rattle.std.proofs.Common.{codes, [], None, refl, subst}
+use Rattle.dap_base.proofs.Basics.{same_Ok}
 use Rattle.json_form.specs.declared.path.PathStep.TheVariants.{Key}
 use Rattle.json_form.specs.Faults.{at}
 use Rattle.json_form.specs.Reading.{never, repeats_by}
-use Rattle.json_form.proofs.ReadingLaws.{Reads, bind_ok, ok_is, at_reads}
+use Rattle.json_form.proofs.ReadingLaws.{Reads, bind_ok, at_reads}
 use Rattle.json_form.proofs.LeafLaws.{text_reads, flag_reads}
 use Rattle.json_form.proofs.ObjectLaws.{only_keys_sound, only_keys_complete, required_reads, or_else_reads, optional_reads}
 use Rattle.json_form.proofs.ListLaws.{list_reads, alone_reads}
@@ -22,7 +23,7 @@ sequence_reads = record {
       let disable = bind_ok _ _ x pname.2 in
       let info = bind_ok _ _ x disable.2 in
       let steps = bind_ok _ _ x info.2 in
-      subst (IsSequence d) (ok_is _ x steps.2) (record {
+      subst (IsSequence d) (same_Ok _ x steps.2) (record {
         known = only_keys_sound _ d a.0 a.1;
         name = (required_reads _ _ _ text_reads).sound d name.0 name.1;
         pname = (optional_reads _ _ _ text_reads).sound d pname.0 pname.1;
@@ -48,7 +49,7 @@ level_reads =
       sound = λ d x e. (
           let a = bind_ok _ _ x e in
           let b = bind_ok _ _ x a.2 in
-          subst (HasLevel d) (ok_is _ x b.2) (record {
+          subst (HasLevel d) (same_Ok _ x b.2) (record {
             debugvars = (optional_reads _ _ _ text_reads).sound d a.0 a.1;
             sequences = sequences.sound d b.0 b.1;
           }));
@@ -69,7 +70,7 @@ variant_reads = record {
       let a = bind_ok _ _ x e in
       let b = bind_ok _ _ x a.2 in
       let c = bind_ok _ _ x b.2 in
-      subst (IsVariant d) (ok_is _ x c.2) (record {
+      subst (IsVariant d) (same_Ok _ x c.2) (record {
         known = only_keys_sound _ d a.0 a.1;
         name = (required_reads _ _ _ text_reads).sound d b.0 b.1;
         level = level_reads.sound d c.0 c.1;
@@ -91,7 +92,7 @@ device_reads =
           let b = bind_ok _ _ x a.2 in
           let c = bind_ok _ _ x b.2 in
           let v = bind_ok _ _ x c.2 in
-          subst (IsDevice d) (ok_is _ x v.2) (record {
+          subst (IsDevice d) (same_Ok _ x v.2) (record {
             known = only_keys_sound _ d a.0 a.1;
             name = (required_reads _ _ _ text_reads).sound d b.0 b.1;
             level = level_reads.sound d c.0 c.1;
@@ -115,7 +116,7 @@ sub_family_reads =
           let b = bind_ok _ _ x a.2 in
           let c = bind_ok _ _ x b.2 in
           let v = bind_ok _ _ x c.2 in
-          subst (IsSubFamily d) (ok_is _ x v.2) (record {
+          subst (IsSubFamily d) (same_Ok _ x v.2) (record {
             known = only_keys_sound _ d a.0 a.1;
             name = (required_reads _ _ _ text_reads).sound d b.0 b.1;
             level = level_reads.sound d c.0 c.1;
@@ -141,7 +142,7 @@ family_reads =
           let c = bind_ok _ _ x b.2 in
           let s = bind_ok _ _ x c.2 in
           let v = bind_ok _ _ x s.2 in
-          subst (IsFamily d) (ok_is _ x v.2) (record {
+          subst (IsFamily d) (same_Ok _ x v.2) (record {
             known = only_keys_sound _ d a.0 a.1;
             name = (required_reads _ _ _ text_reads).sound d b.0 b.1;
             level = level_reads.sound d c.0 c.1;
@@ -166,7 +167,7 @@ pack_reads =
           let a = bind_ok _ _ x e in
           let b = bind_ok _ _ x a.2 in
           let c = bind_ok _ _ x b.2 in
-          subst (IsPack d) (ok_is _ x c.2) (record {
+          subst (IsPack d) (same_Ok _ x c.2) (record {
             known = only_keys_sound _ d a.0 a.1;
             top = (optional_reads _ _ _ defaults_reads).sound d b.0 b.1;
             families = families.sound d c.0 c.1;

@@ -1,5 +1,6 @@
 -- Reading steps gives exactly the steps that the value stands for.
 use Rattle.std.proofs.Common.{◌≡◌, ℕ, ◌-◌, ◌^◌, codes, Bool, true, false, cond, if◌then◌else◌, List, Option, Some, None, is_some, Result, Ok, Ordering, Less, Equal, Greater, nat_cmp, refl, ap, sym, subst, ◌∙◌}
+use Rattle.dap_base.proofs.Basics.{same_Ok}
 use Rattle.std.specs.Ordering.{match_ordering}
 use Rattle.std.specs.Cmp.Lexicographic.{slice_cmp}
 use Rattle.serde_json.specs.Data.{Data, null, boolean, number, string, array, object, Items, no_items, item, Members, no_members, member}
@@ -8,7 +9,7 @@ use Rattle.json_form.specs.declared.fault.JobFault.{JobFault}
 use Rattle.json_form.specs.declared.path.PathStep.TheVariants.{Key, Index}
 use Rattle.json_form.specs.Faults.{at}
 use Rattle.json_form.specs.Form.{IsText, IsNumber, MayHave, MayHaveText}
-use Rattle.json_form.proofs.ReadingLaws.{Reads, bind_ok, ok_is, at_ok}
+use Rattle.json_form.proofs.ReadingLaws.{Reads, bind_ok, at_ok}
 use Rattle.json_form.proofs.LeafLaws.{text_reads, flag_reads, number_reads}
 use Rattle.json_form.proofs.ObjectLaws.{only_keys_sound, only_keys_complete, required_reads, or_else_reads, optional_reads}
 use Rattle.device_tree.specs.StepTree.{StepTree, no_steps, block, control}
@@ -30,7 +31,7 @@ block_sound d s e =
     let i = bind_ok _ _ s c.2 in (
       b.0,
       c.0,
-      sym (ok_is _ s i.2),
+      sym (same_Ok _ s i.2),
       record {
         known = only_keys_sound _ d a.0 a.1;
         code_is = (required_reads _ _ _ text_reads).sound d b.0 b.1;
@@ -62,7 +63,7 @@ after_sound steps d s e =
       a.0,
       b.0,
       c.0,
-      sym (ok_is _ s i.2),
+      sym (same_Ok _ s i.2),
       record {
         cond_is = (optional_reads _ _ _ text_reads).sound d a.0 a.1;
         repeat_is = (optional_reads _ _ _ text_reads).sound d b.0 b.1;

@@ -3,7 +3,7 @@ use Rattle.std.specs.Prelude.{codes, false, [], None, Result, Ok}
 use Rattle.serde_json.specs.Data.{Data}
 use Rattle.json_form.specs.declared.fault.JobFault.{JobFault}
 use Rattle.dap_base.specs.Outcome.{◌>>=◌}
-use Rattle.json_form.specs.Reading.{text, flag, only_keys, required, optional, or_else, list_of, alone, never, repeats_by}
+use Rattle.json_form.specs.Reading.{text, flag, only_keys, required_value, optional, or_else, list_of, alone, never, repeats_by}
 use Rattle.device_tree.specs.Keys.{sequence_keys, level_keys, variant_keys, device_keys, sub_family_keys, family_keys, pack_keys}
 use Rattle.device_tree.specs.StepsReading.{steps_in}
 use Rattle.device_tree.specs.Same.{same_sequence, same_variant}
@@ -21,11 +21,11 @@ use Rattle.device_tree.specs.declared.pack.Pack.{Pack}
 unfoldable pub sequence_in : Data → Result SeqText JobFault
 sequence_in d = do
   known ← only_keys sequence_keys d
-  name ← required (codes "name") text d
+  name ← required_value (codes "name") text d
   pname ← optional (codes "Pname") text d
   disable ← or_else (codes "disable") flag false d
   info ← optional (codes "info") text d
-  steps ← required (codes "steps") steps_in d
+  steps ← required_value (codes "steps") steps_in d
   Ok (record { name = name; pname = pname; disable = disable; steps = steps })
 
 -- the keys of a level, in the object that holds it
@@ -47,7 +47,7 @@ defaults_in d = do
 unfoldable pub variant_in : Data → Result Variant JobFault
 variant_in d = do
   known ← only_keys variant_keys d
-  name ← required (codes "Dvariant") text d
+  name ← required_value (codes "Dvariant") text d
   own ← level_in d
   Ok (record { name = name; level = own })
 
@@ -55,7 +55,7 @@ variant_in d = do
 unfoldable pub device_in : Data → Result Device JobFault
 device_in d = do
   known ← only_keys device_keys d
-  name ← required (codes "Dname") text d
+  name ← required_value (codes "Dname") text d
   own ← level_in d
   variants ← or_else (codes "variants") (list_of None (alone variant_in) (repeats_by same_variant)) [] d
   Ok (record { name = name; level = own; variants = variants })
@@ -64,7 +64,7 @@ device_in d = do
 unfoldable pub sub_family_in : Data → Result SubFamily JobFault
 sub_family_in d = do
   known ← only_keys sub_family_keys d
-  name ← required (codes "DsubFamily") text d
+  name ← required_value (codes "DsubFamily") text d
   own ← level_in d
   devices ← or_else (codes "devices") (list_of None (alone device_in) never) [] d
   Ok (record { name = name; level = own; devices = devices })
@@ -73,7 +73,7 @@ sub_family_in d = do
 unfoldable pub family_in : Data → Result Family JobFault
 family_in d = do
   known ← only_keys family_keys d
-  name ← required (codes "Dfamily") text d
+  name ← required_value (codes "Dfamily") text d
   own ← level_in d
   subs ← or_else (codes "subFamilies") (list_of None (alone sub_family_in) never) [] d
   devices ← or_else (codes "devices") (list_of None (alone device_in) never) [] d
@@ -84,5 +84,5 @@ unfoldable pub pack_in : Data → Result Pack JobFault
 pack_in d = do
   known ← only_keys pack_keys d
   top ← optional (codes "defaults") defaults_in d
-  families ← required (codes "families") (list_of None (alone family_in) never) d
+  families ← required_value (codes "families") (list_of None (alone family_in) never) d
   Ok (record { defaults = top; families = families })

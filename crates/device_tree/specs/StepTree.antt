@@ -38,18 +38,18 @@ marks_onto (block c a rest) ms = inr (inl (c, a)) ∷ marks_onto rest ms
 marks_onto (control c r t inner rest) ms = inr (inr (c, (r, t))) ∷ marks_onto inner (marks_onto rest ms)
 
 -- Read from the right: a stack of the lists that begin here.
-abbrev pushed : Mark → List StepTree → List StepTree
-pushed (inl n) stack = no_steps ∷ stack
-pushed (inr (inl b)) [] = []
-pushed (inr (inl b)) (rest ∷ stack) = block b.0 b.1 rest ∷ stack
-pushed (inr (inr c)) [] = []
-pushed (inr (inr c)) (inner ∷ []) = []
-pushed (inr (inr c)) (inner ∷ rest ∷ stack) = control c.0 c.1.0 c.1.1 inner rest ∷ stack
+abbrev pushed_lists : Mark → List StepTree → List StepTree
+pushed_lists (inl n) stack = no_steps ∷ stack
+pushed_lists (inr (inl b)) [] = []
+pushed_lists (inr (inl b)) (rest ∷ stack) = block b.0 b.1 rest ∷ stack
+pushed_lists (inr (inr c)) [] = []
+pushed_lists (inr (inr c)) (inner ∷ []) = []
+pushed_lists (inr (inr c)) (inner ∷ rest ∷ stack) = control c.0 c.1.0 c.1.1 inner rest ∷ stack
 
 -- the lists that marks stand for, the first one on top
 abbrev stack_of : List Mark → List StepTree
 stack_of [] = []
-stack_of (m ∷ ms) = pushed m (stack_of ms)
+stack_of (m ∷ ms) = pushed_lists m (stack_of ms)
 
 -- the list on top of the stack
 abbrev top_of : List StepTree → StepTree
@@ -59,9 +59,9 @@ top_of (s ∷ stack) = s
 -- a lemma: the marks of steps stand for the steps, on top of what the other marks stand for
 stack_of-marks_onto : (s : StepTree) (ms : List Mark) → stack_of (marks_onto s ms) ≡ s ∷ stack_of ms
 stack_of-marks_onto no_steps ms = refl
-stack_of-marks_onto (block c a rest) ms = ap (pushed (inr (inl (c, a)))) (stack_of-marks_onto rest ms)
+stack_of-marks_onto (block c a rest) ms = ap (pushed_lists (inr (inl (c, a)))) (stack_of-marks_onto rest ms)
 stack_of-marks_onto (control c r t inner rest) ms =
-    ap (pushed (inr (inr (c, (r, t))))) (stack_of-marks_onto inner (marks_onto rest ms) ∙ ap (λ stack. inner ∷ stack) (stack_of-marks_onto rest ms))
+    ap (pushed_lists (inr (inr (c, (r, t))))) (stack_of-marks_onto inner (marks_onto rest ms) ∙ ap (λ stack. inner ∷ stack) (stack_of-marks_onto rest ms))
 
 -- a lemma: the steps are read again from their marks
 pub tree_again : (s : StepTree) → top_of (stack_of (marks_onto s [])) ≡ s

@@ -10,7 +10,7 @@ use Rattle.json_form.specs.declared.fault.JobFault.TheVariants.{Missing, WrongKi
 use Rattle.json_form.specs.declared.path.PathStep.TheVariants.{Key, Index}
 use Rattle.json_form.specs.Faults.{at}
 use Rattle.dap_base.specs.Outcome.{◌>>=◌}
-use Rattle.json_form.specs.Reading.{text, flag, number as number_in, only_keys, required, optional, or_else}
+use Rattle.json_form.specs.Reading.{text, flag, number as number_in, only_keys, required_value, optional, or_else}
 use Rattle.device_tree.specs.Keys.{block_keys, control_keys}
 use Rattle.device_tree.specs.StepTree.{StepTree, no_steps}
 use Rattle.device_tree.specs.StepsView.{then_step, tree_len}
@@ -21,7 +21,7 @@ use Rattle.device_tree.specs.declared.steps.Step.TheVariants.{Block, Control}
 unfoldable pub block_step : Data → Result Step JobFault
 block_step d = do
   known ← only_keys block_keys d
-  code ← required (codes "block") text d
+  code ← required_value (codes "block") text d
   atomic ← or_else (codes "atomic") flag false d
   info ← optional (codes "info") text d
   Ok (Block code atomic)

@@ -1,8 +1,9 @@
 -- An access made at once is the call of its unit.
 use Rattle.std.proofs.Common.{◌≡◌, ◌∙◌, ℕ, ◌/◌, ◌%◌, Bool, true, false, cond, not, ◌&&◌, length, take, List, [], ◌∷◌, ◌++◌, map, sym, subst, refl, ap}
+use Rattle.std.proofs.lemmas.Bool.{true≢false, false≢true}
 use Rattle.std.proofs.lemmas.List.{append-nil}
 use Rattle.target_machine.specs.Attempt.{Attempt, attempt}
-use Rattle.target_machine.specs.Plain.{Action, Makes, CallDone, CallEnd, Answered, Skipped, Faulted, Small, in_order, is_fault, given, issued, csw_actions, cfg_actions, transfer_actions, memory_actions, has_large, contains, needs_cfg, unit_actions, result_of, from_lanes, may_forgive, ended, commanded, forgives, call_done, select_of, ap_access_of, dp_read_of, dp_write_of, polled}
+use Rattle.target_machine.specs.Plain.{Action, Makes, CallDone, CallEnd, Answered, Skipped, Faulted, Small, in_order, is_fault, given_number, issued_actions, csw_actions, cfg_actions, transfer_actions, memory_actions, has_large, contains, needs_cfg, unit_actions, result_of, from_lanes, may_forgive, ended_call, command_attempt, forgives, call_done, select_of, ap_access_of, dp_read_of, dp_write_of, poll_result}
 use Rattle.target_calls.specs.World.{is_faulted}
 use Rattle.dap_base.specs.Bits.{has_bit}
 use Rattle.target_machine.specs.Registers.{cfg_la}
@@ -25,21 +26,21 @@ cons_nil a rest e = cc
 
 module _ (t : TargetState) (large : Bool) (size : ℕ) (read : Bool) (n address value : ℕ) where
   pub transfer_fault : (x : Attempt) → x ≡ in_order t (csw_actions n) → is_fault x.outcome ≡ true → x ≡ in_order t (memory_actions t large size read n address value)
-  transfer_fault x is bad = joined_fault t (csw_actions n) (transfer_actions large size read address value (given (in_order t (csw_actions n)).outcome)) x is bad
+  transfer_fault x is bad = joined_fault t (csw_actions n) (transfer_actions large size read address value (given_number (in_order t (csw_actions n)).outcome)) x is bad
 
-  pub transfer_pass : (x y : Attempt) → x ≡ in_order t (csw_actions n) → is_fault x.outcome ≡ false → y ≡ in_order x.next (transfer_actions large size read address value (given x.outcome))
+  pub transfer_pass : (x y : Attempt) → x ≡ in_order t (csw_actions n) → is_fault x.outcome ≡ false → y ≡ in_order x.next (transfer_actions large size read address value (given_number x.outcome))
       → y ≡ in_order t (memory_actions t large size read n address value)
   transfer_pass x y is good next =
-      let csw : given x.outcome ≡ given (in_order t (csw_actions n)).outcome = ap (λ (z : Attempt). given z.outcome) is in
-      joined_pass t (csw_actions n) (transfer_actions large size read address value (given (in_order t (csw_actions n)).outcome)) x y (cons_nil _ _) is good (next ∙ ap (λ (k : ℕ). in_order x.next (transfer_actions large size read address value k)) csw)
+      let csw : given_number x.outcome ≡ given_number (in_order t (csw_actions n)).outcome = ap (λ (z : Attempt). given_number z.outcome) is in
+      joined_pass t (csw_actions n) (transfer_actions large size read address value (given_number (in_order t (csw_actions n)).outcome)) x y (cons_nil _ _) is good (next ∙ ap (λ (k : ℕ). in_order x.next (transfer_actions large size read address value k)) csw)
 
 -- ---- the calls
 
 -- a call that forgives nothing, from what its actions come to
 plain : Bool → ℕ → Attempt → List ℕ → List Action → CallDone
-plain small n x large actions = ended (is_fault x.outcome) false small n x.next large actions
+plain small n x large actions = ended_call (is_fault x.outcome) false small n x.next large actions
 
-plain_end : (b : Bool) (n : ℕ) (next : TargetState) (large : List ℕ) (actions : List Action) → IsDone (ended b false false n next large actions) (cond b Faulted (Answered n)) next large
+plain_end : (b : Bool) (n : ℕ) (next : TargetState) (large : List ℕ) (actions : List Action) → IsDone (ended_call b false false n next large actions) (cond b Faulted (Answered n)) next large
 plain_end true n next large actions = record { end_is = refl; next_is = refl; large_is = refl }
 plain_end false n next large actions = record { end_is = refl; next_is = refl; large_is = refl }
 
@@ -74,7 +75,7 @@ module _ (t : TargetState) (large : List ℕ) (size : ℕ) (read : Bool) (n addr
   shape : Bool → Bool → List Action → CallDone
   shape w h actions =
       let x : Attempt = in_order t actions in
-      ended (is_fault x.outcome) false (w && not h) (result_of (Access (unit.Memory size read n address value)) (given x.outcome)) x.next (cond (w && h) (large ++ n ∷ []) large) (issued t actions)
+      ended_call (is_fault x.outcome) false (w && not h) (result_of (Access (unit.Memory size read n address value)) (given_number x.outcome)) x.next (cond (w && h) (large ++ n ∷ []) large) (issued_actions t actions)
 
   actions_of : Bool → Bool → List Action
   actions_of w h = cond w (cfg_actions n ++ cond h (memory_actions (in_order t (cfg_actions n)).next true size read n address value) []) (memory_actions t (contains large n) size read n address value)
@@ -88,7 +89,7 @@ module _ (t : TargetState) (large : List ℕ) (size : ℕ) (read : Bool) (n addr
   value_of false k = refl
 
   end_one : (b : Bool) (k : ℕ) (next : TargetState) (l : List ℕ) (actions : List Action)
-      → IsDone (ended b false false (result_of (Access (unit.Memory size read n address value)) k) next l actions) (cond b Faulted (Answered (cond read (from_lanes size address k) k))) next l
+      → IsDone (ended_call b false false (result_of (Access (unit.Memory size read n address value)) k) next l actions) (cond b Faulted (Answered (cond read (from_lanes size address k) k))) next l
   end_one true k next l actions = record { end_is = refl; next_is = refl; large_is = refl }
   end_one false k next l actions = record { end_is = ap Answered (value_of read k); next_is = refl; large_is = refl }
 
@@ -117,7 +118,7 @@ module _ (t : TargetState) (large : List ℕ) (size : ℕ) (read : Bool) (n addr
         (subst (λ (z : Attempt). IsDone (shape true true (actions_of true true)) (memory_end_by size read address z.outcome) z.next (large ++ n ∷ [])) (sym same)
         (end_one (is_fault (in_order t (actions_of true true)).outcome) _ _ (large ++ n ∷ []) _))
 
-    short_end : (b : Bool) (k : ℕ) (next : TargetState) (actions : List Action) → IsDone (ended b false true k next large actions) (cond b Faulted Small) next large
+    short_end : (b : Bool) (k : ℕ) (next : TargetState) (actions : List Action) → IsDone (ended_call b false true k next large actions) (cond b Faulted Small) next large
     short_end true k next actions = record { end_is = refl; next_is = refl; large_is = refl }
     short_end false k next actions = record { end_is = refl; next_is = refl; large_is = refl }
 
@@ -145,11 +146,11 @@ dp_made t read addr value a o u e ha is he large =
     subst (λ (k : CallEnd). IsDone (call_done t large false (Access (unit.Dp read addr value))) k u large) (sym he)
     (dp_done t large read addr value (record { outcome = o; next = u }) (is ∙ ap (λ (x : RegAccess). attempt t x) ha))
 
-pub poll_made : (t : TargetState) (mask value turns : ℕ) (o : Outcome) (u : TargetState) (e : CallEnd) → o ≡ (polled turns mask value t).outcome → u ≡ (polled turns mask value t).next → e ≡ end_by o
+pub poll_made : (t : TargetState) (mask value turns : ℕ) (o : Outcome) (u : TargetState) (e : CallEnd) → o ≡ (poll_result turns mask value t).outcome → u ≡ (poll_result turns mask value t).next → e ≡ end_by o
     → (large : List ℕ) → IsDone (call_done t large false (Access (unit.Poll mask value turns))) e u large
 poll_made t mask value turns o u e ho hu he large =
     subst (λ (k : CallEnd). IsDone (call_done t large false (Access (unit.Poll mask value turns))) k u large) (sym he)
-    (poll_done t large mask value turns (record { outcome = o; next = u }) (ap (λ (x : Outcome). attempt_at x u) ho ∙ ap (λ (x : TargetState). attempt_at (polled turns mask value t).outcome x) hu))
+    (poll_done t large mask value turns (record { outcome = o; next = u }) (ap (λ (x : Outcome). attempt_at x u) ho ∙ ap (λ (x : TargetState). attempt_at (poll_result turns mask value t).outcome x) hu))
   where
     attempt_at : Outcome → TargetState → Attempt
     attempt_at x y = record { outcome = x; next = y }
@@ -168,7 +169,7 @@ module _ (t : TargetState) (large : List ℕ) (size : ℕ) (read : Bool) (n addr
       (subst (λ (k : List ℕ). IsDone (call_done t large false (Access (unit.Memory size read n address value))) (memory_end_by size read address o) u k) (sym hl)
       (wide_done t large size read n address value wide (in_order t (cfg_actions n)) (record { outcome = o; next = u }) h refl good (is ∙ ap (λ (w : TargetState). in_order w (memory_actions w true size read n address value)) hv)))
 
-  none_given : (o : Outcome) → is_fault o ≡ true → has_bit (given o) cfg_la ≡ false
+  none_given : (o : Outcome) → is_fault o ≡ true → has_bit (given_number o) cfg_la ≡ false
   none_given (outcome.Value k) h = absurd cc
   none_given outcome.Done h = absurd cc
   none_given outcome.Fault h = refl
@@ -205,11 +206,8 @@ module _ (t : TargetState) (large : List ℕ) (size : ℕ) (read : Bool) (n addr
 -- ---- faults that are forgiven
 
 -- a fault is not forgiven
-kept_one : (b fm s : Bool) (k : ℕ) (u : TargetState) (l : List ℕ) (acts : List Action) (e : CallEnd) (v : TargetState) (r : List ℕ) → (is_faulted e && fm) ≡ false → IsDone (ended b false s k u l acts) e v r → IsDone (ended b fm s k u l acts) e v r
-kept_one true true s k u l acts e v r h d = absurd (no' (subst (λ (x : CallEnd). (is_faulted x && true) ≡ false) (sym d.end_is) h))
-  where
-    no' : true ≡ false → ⊥
-    no' x = absurd cc
+kept_one : (b fm s : Bool) (k : ℕ) (u : TargetState) (l : List ℕ) (acts : List Action) (e : CallEnd) (v : TargetState) (r : List ℕ) → (is_faulted e && fm) ≡ false → IsDone (ended_call b false s k u l acts) e v r → IsDone (ended_call b fm s k u l acts) e v r
+kept_one true true s k u l acts e v r h d = absurd (true≢false (subst (λ (x : CallEnd). (is_faulted x && true) ≡ false) (sym d.end_is) h))
 kept_one true false s k u l acts e v r h d = d
 kept_one false true true k u l acts e v r h d = d
 kept_one false true false k u l acts e v r h d = d
@@ -220,26 +218,20 @@ pub kept_end : (t : TargetState) (large : List ℕ) (f : Bool) (call : Call) (e 
 unfolding call_done
 kept_end t large f call e v r h d = kept_one _ (f && may_forgive call) _ _ _ _ _ e v r h d
 
-skipped_one : (b s : Bool) (k : ℕ) (u : TargetState) (l : List ℕ) (acts : List Action) (e : CallEnd) (v : TargetState) (r : List ℕ) → is_faulted e ≡ true → IsDone (ended b false s k u l acts) e v r → IsDone (ended b true s k u l acts) Skipped (commanded v forgives).next r
-skipped_one true s k u l acts e v r h d = record { end_is = refl; next_is = ap (λ (x : TargetState). (commanded x forgives).next) d.next_is; large_is = d.large_is }
-skipped_one false true k u l acts e v r h d = absurd (no' (subst (λ (x : CallEnd). is_faulted x ≡ true) (sym d.end_is) h))
-  where
-    no' : false ≡ true → ⊥
-    no' x = absurd cc
-skipped_one false false k u l acts e v r h d = absurd (no' (subst (λ (x : CallEnd). is_faulted x ≡ true) (sym d.end_is) h))
-  where
-    no' : false ≡ true → ⊥
-    no' x = absurd cc
+skipped_one : (b s : Bool) (k : ℕ) (u : TargetState) (l : List ℕ) (acts : List Action) (e : CallEnd) (v : TargetState) (r : List ℕ) → is_faulted e ≡ true → IsDone (ended_call b false s k u l acts) e v r → IsDone (ended_call b true s k u l acts) Skipped (command_attempt v forgives).next r
+skipped_one true s k u l acts e v r h d = record { end_is = refl; next_is = ap (λ (x : TargetState). (command_attempt x forgives).next) d.next_is; large_is = d.large_is }
+skipped_one false true k u l acts e v r h d = absurd (false≢true (subst (λ (x : CallEnd). is_faulted x ≡ true) (sym d.end_is) h))
+skipped_one false false k u l acts e v r h d = absurd (false≢true (subst (λ (x : CallEnd). is_faulted x ≡ true) (sym d.end_is) h))
 
-skipped_two : (b fm s : Bool) (k : ℕ) (u : TargetState) (l : List ℕ) (acts : List Action) (e : CallEnd) (v : TargetState) (r : List ℕ) → (is_faulted e && fm) ≡ true → IsDone (ended b false s k u l acts) e v r → IsDone (ended b fm s k u l acts) Skipped (commanded v forgives).next r
+skipped_two : (b fm s : Bool) (k : ℕ) (u : TargetState) (l : List ℕ) (acts : List Action) (e : CallEnd) (v : TargetState) (r : List ℕ) → (is_faulted e && fm) ≡ true → IsDone (ended_call b false s k u l acts) e v r → IsDone (ended_call b fm s k u l acts) Skipped (command_attempt v forgives).next r
 skipped_two b fm s k u l acts e v r h d = by fm (is_faulted e) refl h
   where
-    by : (g p : Bool) → is_faulted e ≡ p → (p && g) ≡ true → IsDone (ended b g s k u l acts) Skipped (commanded v forgives).next r
+    by : (g p : Bool) → is_faulted e ≡ p → (p && g) ≡ true → IsDone (ended_call b g s k u l acts) Skipped (command_attempt v forgives).next r
     by true true same q = skipped_one b s k u l acts e v r same d
     by false true same q = absurd cc
     by g false same q = absurd cc
 
-pub skipped_end : (t : TargetState) (large : List ℕ) (f : Bool) (call : Call) (e : CallEnd) (v w : TargetState) (r : List ℕ) → (is_faulted e && (f && may_forgive call)) ≡ true → w ≡ (commanded v forgives).next → IsDone (call_done t large false call) e v r
+pub skipped_end : (t : TargetState) (large : List ℕ) (f : Bool) (call : Call) (e : CallEnd) (v w : TargetState) (r : List ℕ) → (is_faulted e && (f && may_forgive call)) ≡ true → w ≡ (command_attempt v forgives).next → IsDone (call_done t large false call) e v r
     → IsDone (call_done t large f call) Skipped w r
 unfolding call_done
 skipped_end t large f call e v w r h hw d =
@@ -247,13 +239,13 @@ skipped_end t large f call e v w r h hw d =
 
 -- ---- commands of the probe
 
-probe_by : (b : Bool) (k : ℕ) (next : TargetState) (large : List ℕ) (actions : List Action) → b ≡ false → IsDone (ended b false false k next large actions) (Answered k) next large
+probe_by : (b : Bool) (k : ℕ) (next : TargetState) (large : List ℕ) (actions : List Action) → b ≡ false → IsDone (ended_call b false false k next large actions) (Answered k) next large
 probe_by true k next large actions h = absurd cc
 probe_by false k next large actions h = record { end_is = refl; next_is = refl; large_is = refl }
 
-command_done : (t : TargetState) (large : List ℕ) (c : ProbeCall) → is_fault (commanded t c).outcome ≡ false → IsDone (call_done t large false (Probe c)) (Answered (given (commanded t c).outcome)) (commanded t c).next large
+command_done : (t : TargetState) (large : List ℕ) (c : ProbeCall) → is_fault (command_attempt t c).outcome ≡ false → IsDone (call_done t large false (Probe c)) (Answered (given_number (command_attempt t c).outcome)) (command_attempt t c).next large
 unfolding call_done
-command_done t large c passes = probe_by (is_fault (commanded t c).outcome) _ _ large _ passes
+command_done t large c passes = probe_by (is_fault (command_attempt t c).outcome) _ _ large _ passes
 
-pub command_made : (t : TargetState) (c : ProbeCall) (n : ℕ) (u : TargetState) → is_fault (commanded t c).outcome ≡ false → n ≡ given (commanded t c).outcome → u ≡ (commanded t c).next → (large : List ℕ) → IsDone (call_done t large false (Probe c)) (Answered n) u large
+pub command_made : (t : TargetState) (c : ProbeCall) (n : ℕ) (u : TargetState) → is_fault (command_attempt t c).outcome ≡ false → n ≡ given_number (command_attempt t c).outcome → u ≡ (command_attempt t c).next → (large : List ℕ) → IsDone (call_done t large false (Probe c)) (Answered n) u large
 command_made t c n u passes hn hu large = (let d = command_done t large c passes in record { end_is = d.end_is ∙ ap Answered (sym hn); next_is = d.next_is ∙ sym hu; large_is = d.large_is })

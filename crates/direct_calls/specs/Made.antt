@@ -1,7 +1,7 @@
 -- How the code of a call at once is the call.
 use Rattle.std.specs.Prelude.{◌≡◌, ℕ, Bool, true, false, List, Result, Ok, Err, if◌then◌else◌, ⊤}
 use Rattle.dap_base.specs.declared.text.OutOfMemory.{OutOfMemory}
-use Rattle.target_machine.specs.Plain.{CallDone, CallEnd, Answered, Skipped, Faulted, Small, from_lanes, given, is_fault, needs_cfg}
+use Rattle.target_machine.specs.Plain.{CallDone, CallEnd, Answered, Skipped, Faulted, Small, from_lanes, given_number, is_fault, needs_cfg}
 use Rattle.target_machine.specs.declared.unit.Call.{Call}
 use Rattle.target_machine.specs.declared.unit.Call.TheVariants.{Access}
 use Rattle.target_machine.specs.declared.unit.Unit.TheVariants as unit
@@ -41,9 +41,9 @@ pub record IsRefused (takes : Bool) (old new : TargetState) (listed large : List
 
 -- how an access that is no memory access ends by what its last register access answered
 abbrev pub end_by : Outcome → CallEnd
-end_by o = if is_fault o then Faulted else Answered (given o)
+end_by o = if is_fault o then Faulted else Answered (given_number o)
 
 -- how a memory access ends by what DRW answered: a read with the value in its lanes
 abbrev pub memory_end_by : ℕ → Bool → ℕ → Outcome → CallEnd
 memory_end_by size read address o =
-    if is_fault o then Faulted else Answered (if read then from_lanes size address (given o) else given o)
+    if is_fault o then Faulted else Answered (if read then from_lanes size address (given_number o) else given_number o)

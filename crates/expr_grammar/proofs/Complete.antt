@@ -9,7 +9,7 @@ use Rattle.expr_grammar.specs.Tree as t
 use Rattle.expr_grammar.specs.Tree.{Tree, ArgTree, ArgTrees}
 use Rattle.expr_grammar.specs.Lexeme.{Lexeme}
 use Rattle.expr_grammar.specs.Grammar.{level, binary_text, unary_text, IsMark, IsName, Reads}
-use Rattle.expr_grammar.specs.Reading.{Read, Whole, Choice, Climb, is_mark, operator_of, binary_of, name_of, expect, grouped, named, asked, assigned, read, whole, choice, at_level, operand}
+use Rattle.expr_grammar.specs.Reading.{Read, Whole, Choice, Climb, is_mark, operator_of, binary_of, name_of, expect, grouped_expression, name_or_call, choice_after, assignment_after, read, whole, choice, at_level, operand}
 use Rattle.dap_base.specs.Outcome.{◌>>=◌}
 use Rattle.expr_grammar.proofs.Fix.{whole_is, choice_is, operand_is}
 use Rattle.expr_grammar.proofs.Turns.{climbs}
@@ -89,20 +89,20 @@ name_is n k h =
     one ∙ two
 
 -- nothing is called
-pub named_stops : (n : Name) (rest : List Lexeme) → NoOpen rest → named read n rest ≡ Ok (t.Named n, rest)
+pub named_stops : (n : Name) (rest : List Lexeme) → NoOpen rest → name_or_call read n rest ≡ Ok (t.Named n, rest)
 named_stops n [] h = refl
 named_stops n (k ∷ ts) h = rw h refl
 
-pub name_operand : (n : Name) (k : Lexeme) (ts : List Lexeme) → IsName n k → operand read (k ∷ ts) ≡ named read n ts
+pub name_operand : (n : Name) (k : Lexeme) (ts : List Lexeme) → IsName n k → operand read (k ∷ ts) ≡ name_or_call read n ts
 unfolding operand
-name_operand n k ts h = rw h.kind (ap (λ (m : Name). named read m ts) (name_is n k h))
+name_operand n k ts h = rw h.kind (ap (λ (m : Name). name_or_call read m ts) (name_is n k h))
 
 pub named_complete : (n : Name) (front rest : List Lexeme) → Reads 12 front (t.Named n) → NoOpen rest → operand read (front ++ rest) ≡ Ok (t.Named n, rest)
 named_complete n front rest r shut =
     let s = r.1 in
     ap (λ (f : List Lexeme). operand read (f ++ rest)) s.parts ∙ name_operand n s.only rest s.is ∙ named_stops n rest shut
 
-pub open_operand : (k : Lexeme) (ts : List Lexeme) → IsMark (codes "(") k → operand read (k ∷ ts) ≡ grouped read ts
+pub open_operand : (k : Lexeme) (ts : List Lexeme) → IsMark (codes "(") k → operand read (k ∷ ts) ≡ grouped_expression read ts
 unfolding operand
 open_operand k ts m = rw (m.kind, m.text_is) refl
 
@@ -174,14 +174,14 @@ binary_complete op x y hx hy =
     }
 
 pub asks : (c x y : Tree) (k : Lexeme) (ts : List Lexeme) (k2 : Lexeme) (us rest : List Lexeme) → IsMark (codes "?") k → read Whole ts ≡ Ok (x, k2 ∷ us) → IsMark (codes ":") k2 → read Choice us ≡ Ok (y, rest)
-    → asked read c (k ∷ ts) ≡ Ok (t.Cond c x y, rest)
-unfolding asked
+    → choice_after read c (k ∷ ts) ≡ Ok (t.Cond c x y, rest)
+unfolding choice_after
 asks c x y k ts k2 us rest m first m2 last =
     let here : is_mark (codes "?") k ≡ true = mark_is (codes "?") (codes "?") k m in
     let colon : expect (codes ":") (k2 ∷ us) ≡ Ok (tt, us) = expect_is (codes ":") k2 us (mark_is (codes ":") (codes ":") k2 m2) in
     rw (here, first, colon, last) refl
 
-pub choice_steps : (c : Tree) (ts rest : List Lexeme) → at_level read 2 ts ≡ Ok (c, rest) → choice read ts ≡ asked read c rest
+pub choice_steps : (c : Tree) (ts rest : List Lexeme) → at_level read 2 ts ≡ Ok (c, rest) → choice read ts ≡ choice_after read c rest
 unfolding choice
 choice_steps c ts rest h = rw h refl
 
@@ -207,12 +207,12 @@ cond_complete c x y hc hx hy = record {
   wholes = λ front rest r shut none ask sets. whole_from (t.Cond c x y) (front ++ rest) rest (cond_choice c x y hc hx hy 0 front rest r shut none ask) sets;
 }
 
-pub whole_steps : (e : Tree) (ts rest : List Lexeme) → choice read ts ≡ Ok (e, rest) → whole read ts ≡ assigned read e rest
+pub whole_steps : (e : Tree) (ts rest : List Lexeme) → choice read ts ≡ Ok (e, rest) → whole read ts ≡ assignment_after read e rest
 unfolding whole
 whole_steps e ts rest h = rw h refl
 
-pub sets_to : (n : Name) (a : Tree) (k : Lexeme) (ts rest : List Lexeme) → IsMark (codes "=") k → read Whole ts ≡ Ok (a, rest) → assigned read (t.Named n) (k ∷ ts) ≡ Ok (t.Assign n a, rest)
-unfolding assigned
+pub sets_to : (n : Name) (a : Tree) (k : Lexeme) (ts rest : List Lexeme) → IsMark (codes "=") k → read Whole ts ≡ Ok (a, rest) → assignment_after read (t.Named n) (k ∷ ts) ≡ Ok (t.Assign n a, rest)
+unfolding assignment_after
 sets_to n a k ts rest m h =
     let here : is_mark (codes "=") k ≡ true = mark_is (codes "=") (codes "=") k m in
     rw (here, h) refl

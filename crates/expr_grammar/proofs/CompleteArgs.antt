@@ -1,5 +1,6 @@
 -- Arguments and calls that are in the grammar are read, and so is each tree.
 use Rattle.std.proofs.Common.{◌≡◌, ℕ, suc, Bool, true, false, List, [], ◌∷◌, ◌++◌, length, Some, None, Ok, Err, refl, sym, ap, subst, ◌∙◌, append_assoc, arith}
+use Rattle.dap_base.proofs.Basics.{same_Ok}
 use Rattle.std.specs.Prelude.{codes}
 use Rattle.std.specs.Str.{bytes_eq}
 use Rattle.std.proofs.lemmas.List.{append-nil}
@@ -12,8 +13,7 @@ use Rattle.expr_grammar.specs.declared.code.TextArg as string
 use Rattle.dap_base.specs.declared.text.Place.{Place}
 use Rattle.expr_grammar.specs.Lexeme.{Lexeme}
 use Rattle.expr_grammar.specs.Grammar.{IsMark, IsName, IsString, Reads, ReadsArg, ReadsArgs, ReadsMore}
-use Rattle.expr_grammar.specs.Reading.{Read, Arguments, Further, is_mark, is_text_kind, unary_of, between_quotes, expect, called, argument, arguments, further, read, whole, choice, at_level, operand}
-use Rattle.expr_grammar.proofs.Shrinks.{ok_is}
+use Rattle.expr_grammar.specs.Reading.{Read, Arguments, Further, is_mark, is_text_kind, unary_of, between_quotes, expect, call_after_name, argument, arguments, further, read, whole, choice, at_level, operand}
 use Rattle.expr_grammar.proofs.Fix.{arguments_is, further_is}
 use Rattle.expr_grammar.proofs.Quotes.{between_is}
 use Rattle.expr_grammar.proofs.Found.{mark_from}
@@ -127,7 +127,7 @@ text_arg_complete s = record {
 pub record CompleteArgs (args : ArgTrees) : Type 0 where
   pub more : (front : List Lexeme) (k : Lexeme) (rest : List Lexeme) → ReadsMore front args → IsMark (codes ")") k → further read (front ++ k ∷ rest) ≡ Ok (args, rest)
   pub ends : (front : List Lexeme) (k : Lexeme) (rest : List Lexeme) → ReadsMore front args → IsMark (codes ")") k → After (front ++ k ∷ rest)
-  pub call : (n : Name) (front : List Lexeme) (k : Lexeme) (rest : List Lexeme) → ReadsArgs front args → IsMark (codes ")") k → called read n (front ++ k ∷ rest) ≡ Ok (t.Call n args, rest)
+  pub call : (n : Name) (front : List Lexeme) (k : Lexeme) (rest : List Lexeme) → ReadsArgs front args → IsMark (codes ")") k → call_after_name read n (front ++ k ∷ rest) ≡ Ok (t.Call n args, rest)
 
 pub one_argument : (ts us rest : List Lexeme) (a : ArgTree) (more : ArgTrees) → argument read ts ≡ Ok (a, us) → further read us ≡ Ok (more, rest) → arguments read ts ≡ Ok (t.MoreArgs a more, rest)
 unfolding arguments
@@ -146,17 +146,17 @@ pub comma_further : (k : Lexeme) (ts : List Lexeme) → IsMark (codes ",") k →
 unfolding further
 comma_further k ts m = let is : is_mark (codes ",") k ≡ true = mark_is (codes ",") (codes ",") k m in rw is refl
 
-pub called_none : (n : Name) (k : Lexeme) (rest : List Lexeme) → IsMark (codes ")") k → called read n (k ∷ rest) ≡ Ok (t.Call n t.NoArgs, rest)
+pub called_none : (n : Name) (k : Lexeme) (rest : List Lexeme) → IsMark (codes ")") k → call_after_name read n (k ∷ rest) ≡ Ok (t.Call n t.NoArgs, rest)
 called_none n k rest m = let is : is_mark (codes ")") k ≡ true = mark_is (codes ")") (codes ")") k m in rw is refl
 
-pub called_some : (n : Name) (k : Lexeme) (ts rest : List Lexeme) (args : ArgTrees) → is_mark (codes ")") k ≡ false → arguments read (k ∷ ts) ≡ Ok (args, rest) → called read n (k ∷ ts) ≡ Ok (t.Call n args, rest)
+pub called_some : (n : Name) (k : Lexeme) (ts rest : List Lexeme) (args : ArgTrees) → is_mark (codes ")") k ≡ false → arguments read (k ∷ ts) ≡ Ok (args, rest) → call_after_name read n (k ∷ ts) ≡ Ok (t.Call n args, rest)
 called_some n k ts rest args other got = let next : read Arguments (k ∷ ts) ≡ Ok (args, rest) = arguments_is (k ∷ ts) ∙ got in rw (other, next) refl
 
 pub none_complete : CompleteArgs t.NoArgs
 none_complete = record {
   more = λ front k rest r m. ap (λ (f : List Lexeme). further read (f ++ k ∷ rest)) r ∙ nothing_further k rest m;
   ends = λ front k rest r m. subst (λ (f : List Lexeme). After (f ++ k ∷ rest)) (sym r) (after_mark (codes ")") close_closes k rest m);
-  call = λ n front k rest r m. ap (λ (f : List Lexeme). called read n (f ++ k ∷ rest)) r ∙ called_none n k rest m;
+  call = λ n front k rest r m. ap (λ (f : List Lexeme). call_after_name read n (f ++ k ∷ rest)) r ∙ called_none n k rest m;
 }
 
 -- one argument and those after it, from the front
@@ -167,7 +167,7 @@ args_read a more ha hm front k rest r m =
     ap (arguments read) whole_list ∙ one_argument (r.left ++ (r.right ++ k ∷ rest)) (r.right ++ k ∷ rest) rest a more (ha.argument r.left (r.right ++ k ∷ rest) r.first (hm.ends r.right k rest r.second m)) (hm.more r.right k rest r.second m)
 
 pub call_by : (n : Name) (a : ArgTree) (more : ArgTrees) → CompleteArg a → CompleteArgs more → (left right : List Lexeme) (k : Lexeme) (rest : List Lexeme) → ReadsArg left a → ReadsMore right more → IsMark (codes ")") k
-    → called read n ((left ++ right) ++ k ∷ rest) ≡ Ok (t.Call n (t.MoreArgs a more), rest)
+    → call_after_name read n ((left ++ right) ++ k ∷ rest) ≡ Ok (t.Call n (t.MoreArgs a more), rest)
 call_by n a more ha hm [] right k rest ra rm m = absurd (ha.some ra)
 call_by n a more ha hm (j ∷ left) right k rest ra rm m =
     called_some n j ((left ++ right) ++ k ∷ rest) rest (t.MoreArgs a more) (ha.starts j left (right ++ k ∷ rest) ra (hm.ends right k rest rm m))
@@ -179,10 +179,10 @@ more_complete a more ha hm = record {
       let p = r.inner in
       ap (λ (f : List Lexeme). further read (f ++ k ∷ rest)) r.parts ∙ comma_further r.mark (r.rest ++ k ∷ rest) r.is_mark ∙ args_read a more ha hm r.rest k rest p m;
   ends = λ front k rest r m. subst (λ (f : List Lexeme). After (f ++ k ∷ rest)) (sym r.parts) (after_mark (codes ",") comma_closes r.mark (r.rest ++ k ∷ rest) r.is_mark);
-  call = λ n front k rest r m. ap (λ (f : List Lexeme). called read n (f ++ k ∷ rest)) r.parts ∙ call_by n a more ha hm r.left r.right k rest r.first r.second m;
+  call = λ n front k rest r m. ap (λ (f : List Lexeme). call_after_name read n (f ++ k ∷ rest)) r.parts ∙ call_by n a more ha hm r.left r.right k rest r.first r.second m;
 }
 
-pub call_operand : (n : Name) (k mark : Lexeme) (ts : List Lexeme) → IsName n k → IsMark (codes "(") mark → operand read (k ∷ mark ∷ ts) ≡ called read n ts
+pub call_operand : (n : Name) (k mark : Lexeme) (ts : List Lexeme) → IsName n k → IsMark (codes "(") mark → operand read (k ∷ mark ∷ ts) ≡ call_after_name read n ts
 call_operand n k mark ts is m =
     let opens : is_mark (codes "(") mark ≡ true = mark_is (codes "(") (codes "(") mark m in
     name_operand n k (mark ∷ ts) is ∙ rw opens refl
@@ -227,7 +227,7 @@ abbrev pub done : Tree → Read
 done e = Ok (e, [])
 
 pub same_done : (x y : Tree) → done x ≡ done y → x ≡ y
-same_done x y e = ap (λ (p : Tree × List Lexeme). p.0) (ok_is (x, []) (y, []) e)
+same_done x y e = ap (λ (p : Tree × List Lexeme). p.0) (same_Ok (x, []) (y, []) e)
 
 pub one_tree : (ts : List Lexeme) (x y : Tree) → Reads 0 ts x → Reads 0 ts y → x ≡ y
 one_tree ts x y rx ry = same_done x y (sym (reads_whole ts x rx) ∙ reads_whole ts y ry)

@@ -1,5 +1,6 @@
 -- Statements that are in the grammar are read.
 use Rattle.std.proofs.Common.{◌≡◌, ℕ, suc, Bool, true, false, List, [], ◌∷◌, ◌++◌, length, Ok, Err, refl, sym, ap, ◌∙◌, append_assoc}
+use Rattle.dap_base.proofs.Basics.{same_Ok}
 use Rattle.std.specs.Prelude.{codes}
 use Rattle.dap_base.specs.declared.text.Place.{Place}
 use Rattle.expr_grammar.specs.declared.code.Name.{Name}
@@ -7,8 +8,7 @@ use Rattle.expr_grammar.specs.Lexeme.{Lexeme}
 use Rattle.expr_grammar.specs.Tree as t
 use Rattle.expr_grammar.specs.Tree.{Tree, StmtTree}
 use Rattle.expr_grammar.specs.Grammar.{IsMark, IsName, BeginsAt, Reads, ReadsStmt, ReadsCode}
-use Rattle.expr_grammar.specs.Reading.{Front, Statements, is_mark, name_first, expect, declared, plain, statement, statements, read, whole, operand}
-use Rattle.expr_grammar.proofs.Shrinks.{ok_is}
+use Rattle.expr_grammar.specs.Reading.{Front, Statements, is_mark, name_first, expect, declaration_after, plain, statement, statements, read, whole, operand}
 use Rattle.expr_grammar.proofs.Fix.{whole_is, statements_is}
 use Rattle.expr_grammar.proofs.Found.{mark_from}
 use Rattle.expr_grammar.proofs.Levels.{mark_is, expect_is}
@@ -35,15 +35,15 @@ unfolding name_first
 name_read n k rest is = rw is.kind (ap (λ (m : Name). Ok (m, rest)) (name_is n k is))
 
 declared_read : (n : Name) (e : Tree) (k equals : Lexeme) (ts us rest : List Lexeme) (semi : Lexeme) → IsName n k → IsMark (codes "=") equals → whole read us ≡ Ok (e, semi ∷ rest) → IsMark (codes ";") semi → ts ≡ k ∷ equals ∷ us
-    → declared read ts ≡ Ok (t.Declare n e, rest)
-unfolding declared
+    → declaration_after read ts ≡ Ok (t.Declare n e, rest)
+unfolding declaration_after
 declared_read n e k equals ts us rest semi is q value m parts =
     let one : name_first (k ∷ equals ∷ us) ≡ Ok (n, equals ∷ us) = name_read n k (equals ∷ us) is in
     let two : expect (codes "=") (equals ∷ us) ≡ Ok (tt, us) = expect_is (codes "=") equals us (mark_is (codes "=") (codes "=") equals q) in
     let last : expect (codes ";") (semi ∷ rest) ≡ Ok (tt, rest) = semicolon_is semi rest m in
-    ap (declared read) parts ∙ rw (one, two, value, last) refl
+    ap (declaration_after read) parts ∙ rw (one, two, value, last) refl
 
-var_statement : (k : Lexeme) (ts : List Lexeme) → IsMark (codes "__var") k → statement read (k ∷ ts) ≡ declared read ts
+var_statement : (k : Lexeme) (ts : List Lexeme) → IsMark (codes "__var") k → statement read (k ∷ ts) ≡ declaration_after read ts
 unfolding statement
 var_statement k ts m =
     let non : is_mark (codes ";") k ≡ false = mark_is (codes "__var") (codes ";") k m in
@@ -116,7 +116,7 @@ abbrev done : List StmtTree → Front (List StmtTree)
 done code = Ok (code, [])
 
 same_done : (x y : List StmtTree) → done x ≡ done y → x ≡ y
-same_done x y e = ap (λ (p : List StmtTree × List Lexeme). p.0) (ok_is (x, []) (y, []) e)
+same_done x y e = ap (λ (p : List StmtTree × List Lexeme). p.0) (same_Ok (x, []) (y, []) e)
 
 pub one_code : (ts : List Lexeme) (x y : List StmtTree) → ReadsCode ts x → ReadsCode ts y → x ≡ y
 one_code ts x y rx ry = same_done x y (sym (code_complete ts x rx) ∙ code_complete ts y ry)

@@ -12,28 +12,28 @@ use Rattle.expr_grammar.specs.Tree as t
 use Rattle.expr_grammar.specs.Tree.{Tree, ArgTree, ArgTrees, StmtTree}
 use Rattle.expr_grammar.specs.Lexeme.{Lexeme}
 use Rattle.expr_grammar.specs.Grammar.{level}
-use Rattle.expr_grammar.specs.Reading.{Front, Made, name_of, Aim, Whole, Choice, Level, Climb, Operand, Arguments, Further, Statements, is_mark, is_text_kind, unary_of, binary_of, between_quotes, expect, name_first, quoted, grouped, marked, called, named, operand_by, climb_by, asked, set_to, assigned, argument, arguments, closed, further, declared, plain, statement, statements, step, read, read_within, whole, choice, at_level, climb, operand}
+use Rattle.expr_grammar.specs.Reading.{Front, Made, name_of, Aim, Whole, Choice, Level, Climb, Operand, Arguments, Further, Statements, is_mark, is_text_kind, unary_of, binary_of, between_quotes, expect, name_first, quoted_string, grouped_expression, marked_operand, call_after_name, name_or_call, operand_by, climb_by, choice_after, set_to, assignment_after, argument, arguments, closing_parenthesis, further, declaration_after, plain, statement, statements, step, read, read_within, whole, choice, at_level, climb, operand}
 use Rattle.dap_base.specs.Outcome.{◌>>=◌}
 use Rattle.expr_grammar.proofs.Shrinks.{bind_over, bind_same, cond_same, cond_same_else, Short, Shrinks, expect_shrinks, operand_shrinks, level_shrinks, choice_shrinks, argument_shrinks, name_shrinks, statement_shrinks, step_shrinks}
 
 module _ (n : ℕ) (p : (aim : Aim) → List Lexeme → Front (Made aim)) (h : Shrinks n p) where
   -- ---- two readers that agree on shorter lists agree
   module _ (q : (aim : Aim) → List Lexeme → Front (Made aim)) (same : (aim : Aim) (ts : List Lexeme) → length ts < n → p aim ts ≡ q aim ts) where
-    grouped_same : (ts : List Lexeme) → length ts < n → grouped p ts ≡ grouped q ts
+    grouped_same : (ts : List Lexeme) → length ts < n → grouped_expression p ts ≡ grouped_expression q ts
     grouped_same ts lt = bind_same (p Whole ts) (q Whole ts) _ _ (same Whole ts lt) (λ x e. refl)
 
-    marked_same : (o : Option UnaryOp) (k : Lexeme) (ts : List Lexeme) → length ts < n → marked p o k ts ≡ marked q o k ts
+    marked_same : (o : Option UnaryOp) (k : Lexeme) (ts : List Lexeme) → length ts < n → marked_operand p o k ts ≡ marked_operand q o k ts
     marked_same (Some op) k ts lt = bind_same (p Operand ts) (q Operand ts) _ _ (same Operand ts lt) (λ x e. refl)
-    marked_same None k ts lt = cond_same (bytes_eq k.text (codes "(")) (grouped p ts) (grouped q ts) (Err (suc (length ts))) (λ _. grouped_same ts lt)
+    marked_same None k ts lt = cond_same (bytes_eq k.text (codes "(")) (grouped_expression p ts) (grouped_expression q ts) (Err (suc (length ts))) (λ _. grouped_same ts lt)
 
-    called_same : (m : Name) (ts : List Lexeme) → length ts < n → called p m ts ≡ called q m ts
+    called_same : (m : Name) (ts : List Lexeme) → length ts < n → call_after_name p m ts ≡ call_after_name q m ts
     called_same m [] lt = refl
     called_same m (k ∷ ts) lt =
         cond_same_else (is_mark (codes ")") k) (Ok (t.Call m t.NoArgs, ts)) _ _ (λ _. bind_same (p Arguments (k ∷ ts)) (q Arguments (k ∷ ts)) (λ y. Ok (t.Call m y.0, y.1)) (λ y. Ok (t.Call m y.0, y.1)) (same Arguments (k ∷ ts) lt) (λ y e. refl))
 
-    named_same : (m : Name) (ts : List Lexeme) → length ts < n → named p m ts ≡ named q m ts
+    named_same : (m : Name) (ts : List Lexeme) → length ts < n → name_or_call p m ts ≡ name_or_call q m ts
     named_same m [] lt = refl
-    named_same m (k ∷ ts) lt = cond_same (is_mark (codes "(") k) (called p m ts) (called q m ts) (Ok (t.Named m, k ∷ ts)) (λ _. called_same m ts (omega (arith, lt)))
+    named_same m (k ∷ ts) lt = cond_same (is_mark (codes "(") k) (call_after_name p m ts) (call_after_name q m ts) (Ok (t.Named m, k ∷ ts)) (λ _. called_same m ts (omega (arith, lt)))
 
     operand_by_same : (kind : TokenKind) (k : Lexeme) (ts : List Lexeme) → length ts < n → operand_by p kind k ts ≡ operand_by q kind k ts
     operand_by_same kinds.Number k ts lt = refl
@@ -64,8 +64,8 @@ module _ (n : ℕ) (p : (aim : Aim) → List Lexeme → Front (Made aim)) (h : S
         bind_same (operand p ts) (operand q ts) (λ y. p (Climb l y.0) y.1) (λ y. q (Climb l y.0) y.1) (operand_same ts le)
         (λ y is. same (Climb l y.0) y.1 (omega (arith, operand_shrinks n p h ts y le is)))
 
-    asked_same : (e : Tree) (ts : List Lexeme) → length ts ≤ n → asked p e ts ≡ asked q e ts
-    unfolding asked
+    asked_same : (e : Tree) (ts : List Lexeme) → length ts ≤ n → choice_after p e ts ≡ choice_after q e ts
+    unfolding choice_after
     asked_same e [] le = refl
     asked_same e (k ∷ ts) le =
         cond_same (is_mark (codes "?") k) _ _ (Ok (e, k ∷ ts)) (λ _.
@@ -78,7 +78,7 @@ module _ (n : ℕ) (p : (aim : Aim) → List Lexeme → Front (Made aim)) (h : S
     choice_same : (ts : List Lexeme) → length ts ≤ n → choice p ts ≡ choice q ts
     unfolding choice
     choice_same ts le =
-        bind_same (at_level p 2 ts) (at_level q 2 ts) (λ y. asked p y.0 y.1) (λ y. asked q y.0 y.1) (level_same 2 ts le)
+        bind_same (at_level p 2 ts) (at_level q 2 ts) (λ y. choice_after p y.0 y.1) (λ y. choice_after q y.0 y.1) (level_same 2 ts le)
         (λ y is. asked_same y.0 y.1 (omega (arith, level_shrinks n p h 2 ts y le is)))
 
     set_same : (m : Name) (ts : List Lexeme) → length ts ≤ n → set_to p m ts ≡ set_to q m ts
@@ -87,22 +87,22 @@ module _ (n : ℕ) (p : (aim : Aim) → List Lexeme → Front (Made aim)) (h : S
         cond_same (is_mark (codes "=") k) _ _ (Ok (t.Named m, k ∷ ts)) (λ _.
         bind_same (p Whole ts) (q Whole ts) (λ y. Ok (t.Assign m y.0, y.1)) (λ y. Ok (t.Assign m y.0, y.1)) (same Whole ts (omega arith)) (λ y _. refl))
 
-    assigned_same : (e : Tree) (ts : List Lexeme) → length ts ≤ n → assigned p e ts ≡ assigned q e ts
-    unfolding assigned
+    assigned_same : (e : Tree) (ts : List Lexeme) → length ts ≤ n → assignment_after p e ts ≡ assignment_after q e ts
+    unfolding assignment_after
     assigned_same (t.Named m) ts le = set_same m ts le
     assigned_same e ts le = refl
 
     whole_same : (ts : List Lexeme) → length ts ≤ n → whole p ts ≡ whole q ts
     unfolding whole
     whole_same ts le =
-        bind_same (choice p ts) (choice q ts) (λ y. assigned p y.0 y.1) (λ y. assigned q y.0 y.1) (choice_same ts le)
+        bind_same (choice p ts) (choice q ts) (λ y. assignment_after p y.0 y.1) (λ y. assignment_after q y.0 y.1) (choice_same ts le)
         (λ y is. assigned_same y.0 y.1 (omega (arith, choice_shrinks n p h ts y le is)))
 
     argument_same : (ts : List Lexeme) → length ts ≤ n → argument p ts ≡ argument q ts
     unfolding argument
     argument_same [] le = refl
     argument_same (k ∷ ts) le =
-        cond_same_else (is_text_kind k.kind) (quoted (between_quotes k.text) k.at ts) _ _ (λ _. bind_same (whole p (k ∷ ts)) (whole q (k ∷ ts)) (λ y. Ok (t.ExprArg k.at y.0, y.1)) (λ y. Ok (t.ExprArg k.at y.0, y.1)) (whole_same (k ∷ ts) le) (λ y e. refl))
+        cond_same_else (is_text_kind k.kind) (quoted_string (between_quotes k.text) k.at ts) _ _ (λ _. bind_same (whole p (k ∷ ts)) (whole q (k ∷ ts)) (λ y. Ok (t.ExprArg k.at y.0, y.1)) (λ y. Ok (t.ExprArg k.at y.0, y.1)) (whole_same (k ∷ ts) le) (λ y e. refl))
 
     arguments_same : (ts : List Lexeme) → length ts ≤ n → arguments p ts ≡ arguments q ts
     unfolding arguments
@@ -113,10 +113,10 @@ module _ (n : ℕ) (p : (aim : Aim) → List Lexeme → Front (Made aim)) (h : S
     further_same : (ts : List Lexeme) → length ts ≤ n → further p ts ≡ further q ts
     unfolding further
     further_same [] le = refl
-    further_same (k ∷ ts) le = cond_same (is_mark (codes ",") k) (arguments p ts) (arguments q ts) (closed p (k ∷ ts)) (λ _. arguments_same ts (omega (arith, le)))
+    further_same (k ∷ ts) le = cond_same (is_mark (codes ",") k) (arguments p ts) (arguments q ts) (closing_parenthesis p (k ∷ ts)) (λ _. arguments_same ts (omega (arith, le)))
 
-    declared_same : (ts : List Lexeme) → length ts ≤ n → declared p ts ≡ declared q ts
-    unfolding declared
+    declared_same : (ts : List Lexeme) → length ts ≤ n → declaration_after p ts ≡ declaration_after q ts
+    unfolding declaration_after
     declared_same ts le =
         bind_over (name_first ts) (λ y. expect (codes "=") y.1 >>= λ equals. whole p equals.1 >>= λ z. expect (codes ";") z.1 >>= λ rest. Ok (t.Declare y.0 z.0, rest.1)) (λ y. expect (codes "=") y.1 >>= λ equals. whole q equals.1 >>= λ z. expect (codes ";") z.1 >>= λ rest. Ok (t.Declare y.0 z.0, rest.1)) (λ y first.
         bind_over (expect (codes "=") y.1) (λ equals. whole p equals.1 >>= λ z. expect (codes ";") z.1 >>= λ rest. Ok (t.Declare y.0 z.0, rest.1)) (λ equals. whole q equals.1 >>= λ z. expect (codes ";") z.1 >>= λ rest. Ok (t.Declare y.0 z.0, rest.1)) (λ equals second.
@@ -133,8 +133,8 @@ module _ (n : ℕ) (p : (aim : Aim) → List Lexeme → Front (Made aim)) (h : S
     statement_same [] le = refl
     statement_same (k ∷ ts) le =
         cond_same_else (is_mark (codes ";") k) (Ok (t.Empty k.at, ts)) _ _ (λ _.
-        cond_same (is_mark (codes "__var") k) (declared p ts) (declared q ts) (plain p k.at (k ∷ ts)) (λ _. declared_same ts (omega (arith, le)))
-        ∙ cond_same_else (is_mark (codes "__var") k) (declared q ts) (plain p k.at (k ∷ ts)) (plain q k.at (k ∷ ts)) (λ _. plain_same k.at (k ∷ ts) le))
+        cond_same (is_mark (codes "__var") k) (declaration_after p ts) (declaration_after q ts) (plain p k.at (k ∷ ts)) (λ _. declared_same ts (omega (arith, le)))
+        ∙ cond_same_else (is_mark (codes "__var") k) (declaration_after q ts) (plain p k.at (k ∷ ts)) (plain q k.at (k ∷ ts)) (λ _. plain_same k.at (k ∷ ts) le))
 
     statements_same : (ts : List Lexeme) → length ts ≤ n → statements p ts ≡ statements q ts
     unfolding statements

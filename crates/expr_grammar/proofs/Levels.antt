@@ -12,7 +12,7 @@ use Rattle.expr_grammar.specs.Tree as t
 use Rattle.expr_grammar.specs.Tree.{Tree, ArgTree, ArgTrees}
 use Rattle.expr_grammar.specs.Lexeme.{Lexeme}
 use Rattle.expr_grammar.specs.Grammar.{level, binary_text, unary_text, IsMark}
-use Rattle.expr_grammar.specs.Reading.{Climb, is_mark, unary_of, operator_of, binary_of, expect, climb_by, asked, set_to, assigned, read, climb}
+use Rattle.expr_grammar.specs.Reading.{Climb, is_mark, unary_of, operator_of, binary_of, expect, climb_by, choice_after, set_to, assignment_after, read, climb}
 use Rattle.expr_grammar.proofs.Fix.{climb_is}
 
 -- ---- how tightly the next token binds, and what else it goes on with
@@ -141,8 +141,8 @@ unfolding climb
 climb_stops l e [] lt = climb_is l e []
 climb_stops l e (k ∷ ts) lt = climb_is l e (k ∷ ts) ∙ climb_over l e (binary_of k) k ts lt
 
-pub asked_stops : (e : Tree) (rest : List Lexeme) → begins (codes "?") rest ≡ false → asked read e rest ≡ Ok (e, rest)
-unfolding asked
+pub asked_stops : (e : Tree) (rest : List Lexeme) → begins (codes "?") rest ≡ false → choice_after read e rest ≡ Ok (e, rest)
+unfolding choice_after
 asked_stops e [] h = refl
 asked_stops e (k ∷ ts) h = rw h refl
 
@@ -150,8 +150,8 @@ pub set_stops : (n : Name) (rest : List Lexeme) → begins (codes "=") rest ≡ 
 set_stops n [] h = refl
 set_stops n (k ∷ ts) h = rw h refl
 
-pub assigned_stops : (e : Tree) (rest : List Lexeme) → begins (codes "=") rest ≡ false → assigned read e rest ≡ Ok (e, rest)
-unfolding assigned
+pub assigned_stops : (e : Tree) (rest : List Lexeme) → begins (codes "=") rest ≡ false → assignment_after read e rest ≡ Ok (e, rest)
+unfolding assignment_after
 assigned_stops (t.Named n) rest h = set_stops n rest h
 assigned_stops e rest h = refl
 

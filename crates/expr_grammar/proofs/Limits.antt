@@ -1,5 +1,6 @@
 -- The first token that is too deep.
 use Rattle.std.proofs.Common.{◌≡◌, ℕ, zero, suc, ◌+◌, ◌-◌, ◌<◌, ◌≤◌, inl, inr, Bool, true, false, cond, eqb, List, [], ◌∷◌, ◌++◌, length, take, drop, get_or, refl, sym, ap, subst, ◌∙◌, arith, zero-add}
+use Rattle.std.proofs.Math.Bool.{or-true}
 use Rattle.std.specs.Prelude.{◌&&◌, ◌||◌, codes}
 use Rattle.std.specs.List.{count_by}
 use Rattle.std.proofs.lemmas.Bool.{eqb-true, eq-eqb, and_parts, or_cases, both_ways, cases_lt}
@@ -12,7 +13,7 @@ use Rattle.expr_grammar.specs.declared.limit.Span.TheVariants.{Text, Statement}
 use Rattle.expr_grammar.specs.Lexeme.{Lexeme, lexeme, lexemes}
 use Rattle.expr_grammar.specs.Reading.{is_mark}
 use Rattle.expr_grammar.specs.Refusal.{counted_with_next, open_after, IsOneTooMany, token, parenthesis, IsDeep, NoneDeepBefore}
-use Rattle.expr_grammar.specs.Counting.{IsCountOf, is_full, ends, counted, nothing_counted, with_token}
+use Rattle.expr_grammar.specs.Counting.{IsCountOf, is_full, ends, count_with, nothing_counted, with_token}
 use Rattle.expr_grammar.proofs.Found.{mark_from}
 use Rattle.expr_grammar.proofs.Levels.{mark_is}
 use Rattle.expr_grammar.proofs.Fits.{after_by}
@@ -29,7 +30,7 @@ counted_push Statement ts k = after_by (is_mark (codes ";")) ts k (is_mark (code
 nothing_is : IsCountOf nothing_counted []
 nothing_is = record { tokens = refl; opened = refl; closed = refl }
 
-with_by : (count : Count) (own : List Lexeme) (k : Lexeme) (v : Bool) → IsCountOf count own → IsCountOf (cond v nothing_counted (counted count k)) (cond v [] (own ++ k ∷ []))
+with_by : (count : Count) (own : List Lexeme) (k : Lexeme) (v : Bool) → IsCountOf count own → IsCountOf (cond v nothing_counted (count_with count k)) (cond v [] (own ++ k ∷ []))
 with_by count own k true c = nothing_is
 with_by count own k false c = record {
   tokens = omega (arith, c.tokens, length-append own (k ∷ []));
@@ -59,10 +60,7 @@ full_if count own k c (token all) = let e : eqb count.tokens 512 ≡ true = eq-e
 full_if count own k c (parenthesis m nested) =
     let opens : is_mark (codes "(") k ≡ true = mark_is (codes "(") (codes "(") k m in
     let e : eqb (count.opened - count.closed) 64 ≡ true = eq-eqb (count.opened - count.closed) 64 (open_is count own c ∙ nested) in
-    rw (opens, e) (or_true (eqb count.tokens 512)) where
-      or_true : (v : Bool) → (v || true) ≡ true
-      or_true true = refl
-      or_true false = refl
+    rw (opens, e) (or-true (eqb count.tokens 512))
 
 -- ---- at an index
 
@@ -128,7 +126,7 @@ found span ts i count d c lt full =
     let here = lexeme_at ts i d (lexeme d) lt in
     deep_at span (lexemes ts) i (lexeme d) (omega (arith, lexemes_length ts, lt)) (subst (IsOneTooMany (counted_with_next span (take i (lexemes ts)))) (sym here) (too_many count (counted_with_next span (take i (lexemes ts))) (lexeme (get_or ts i d)) c.is full))
 
-tokens_by : (count : Count) (k : Lexeme) (v : Bool) → count.tokens < 512 → (cond v nothing_counted (counted count k)).tokens ≤ 512
+tokens_by : (count : Count) (k : Lexeme) (v : Bool) → count.tokens < 512 → (cond v nothing_counted (count_with count k)).tokens ≤ 512
 tokens_by count k true lt = omega arith
 tokens_by count k false lt = omega (arith, lt)
 

@@ -1,5 +1,6 @@
 -- What is left after what was read is shorter.
 use Rattle.std.proofs.Common.{◌≡◌, ℕ, suc, ◌+◌, ◌<◌, ◌≤◌, Bool, true, false, cond, List, [], ◌∷◌, length, Option, Some, None, Result, Ok, Err, refl, ap, ◌∙◌, arith}
+use Rattle.dap_base.proofs.Basics.{same_Ok}
 use Rattle.std.specs.Prelude.{codes, nat_lt}
 use Rattle.std.specs.Str.{bytes_eq}
 use Rattle.expr_grammar.specs.declared.code.Name.{Name}
@@ -13,7 +14,7 @@ use Rattle.expr_grammar.specs.Tree.{Tree, ArgTree, ArgTrees, StmtTree}
 use Rattle.dap_base.specs.Number.{number_value}
 use Rattle.expr_grammar.specs.Lexeme.{Lexeme}
 use Rattle.expr_grammar.specs.Grammar.{level}
-use Rattle.expr_grammar.specs.Reading.{Front, Made, name_of, Aim, Whole, Choice, Level, Climb, Operand, Arguments, Further, Statements, is_mark, is_text_kind, is_name_kind, unary_of, binary_of, between_quotes, expect, name_first, number_read, quoted, grouped, marked, called, named, operand_by, climb_by, asked, set_to, assigned, argument, arguments, closed, further, declared, plain, statement, statements, step, whole, choice, at_level, climb, operand}
+use Rattle.expr_grammar.specs.Reading.{Front, Made, name_of, Aim, Whole, Choice, Level, Climb, Operand, Arguments, Further, Statements, is_mark, is_text_kind, is_name_kind, unary_of, binary_of, between_quotes, expect, name_first, number_read, quoted_string, grouped_expression, marked_operand, call_after_name, name_or_call, operand_by, climb_by, choice_after, set_to, assignment_after, argument, arguments, closing_parenthesis, further, declaration_after, plain, statement, statements, step, whole, choice, at_level, climb, operand}
 use Rattle.dap_base.specs.Outcome.{◌>>=◌}
 
 pub bind_ok : {A B : Type 0} (r : Result A ℕ) (f : A → Result B ℕ) (y : B) → (r >>= f) ≡ Ok y → (x : A) × (r ≡ Ok x) × (f x ≡ Ok y)
@@ -38,11 +39,8 @@ pub cond_same_else : {A : Type 0} (b : Bool) (x y y' : A) → (b ≡ false → y
 cond_same_else true x y y' h = refl
 cond_same_else false x y y' h = h refl
 
-pub ok_is : {A : Type 0} (x y : A) → ok x ≡ ok y → x ≡ y
-ok_is x y e = cc
-
 pub ap_rest : {A : Type 0} (e : A) (ts : List Lexeme) (x : A × List Lexeme) → ok (e, ts) ≡ ok x → ts ≡ x.1
-ap_rest {A} e ts x h = ap (λ (y : A × List Lexeme). y.1) (ok_is (e, ts) x h)
+ap_rest {A} e ts x h = ap (λ (y : A × List Lexeme). y.1) (same_Ok (e, ts) x h)
 
 pub rest_length : {A : Type 0} (e : A) (ts : List Lexeme) (x : A × List Lexeme) → ok (e, ts) ≡ ok x → length ts ≡ length x.1
 rest_length e ts x h = ap length (ap_rest e ts x h)
@@ -58,7 +56,7 @@ abbrev pub Shrinks : ℕ → ((aim : Aim) → List Lexeme → Front (Made aim)) 
 Shrinks n p = (aim : Aim) (ts : List Lexeme) (x : Made aim × List Lexeme) → length ts < n → p aim ts ≡ Ok x → Short aim (length ts) (length x.1)
 
 pub cond_ok : (b : Bool) (ts : List Lexeme) (k : ℕ) (rest : Unit {0} × List Lexeme) (n : ℕ) → cond b (Ok (tt, ts)) (Err k) ≡ Ok rest → length ts ≡ n → length rest.1 < suc n
-cond_ok true ts k rest n e h = let same : ts ≡ rest.1 = ap (λ (y : Unit {0} × List Lexeme). y.1) (ok_is (tt, ts) rest e) in omega (arith, ap length same)
+cond_ok true ts k rest n e h = let same : ts ≡ rest.1 = ap (λ (y : Unit {0} × List Lexeme). y.1) (same_Ok (tt, ts) rest e) in omega (arith, ap length same)
 cond_ok false ts k rest n e h = absurd cc
 
 pub expect_shrinks : (text : List ℕ) (ts : List Lexeme) (rest : Unit {0} × List Lexeme) → expect text ts ≡ Ok rest → length rest.1 < length ts
@@ -71,7 +69,7 @@ cond_shrinks true r k x e = e
 cond_shrinks false r k x e = absurd cc
 
 module _ (n : ℕ) (p : (aim : Aim) → List Lexeme → Front (Made aim)) (h : Shrinks n p) where
-  pub grouped_shrinks : (ts : List Lexeme) (x : Tree × List Lexeme) → length ts < n → grouped p ts ≡ Ok x → length x.1 < length ts
+  pub grouped_shrinks : (ts : List Lexeme) (x : Tree × List Lexeme) → length ts < n → grouped_expression p ts ≡ Ok x → length x.1 < length ts
   grouped_shrinks ts x lt e =
       let a = bind_ok (p Whole ts) (λ y. expect (codes ")") y.1 >>= λ rest. Ok (t.Group y.0, rest.1)) x e in
       let b = bind_ok (expect (codes ")") a.0.1) (λ rest. Ok (t.Group a.0.0, rest.1)) x a.2 in
@@ -86,9 +84,9 @@ module _ (n : ℕ) (p : (aim : Aim) → List Lexeme → Front (Made aim)) (h : S
       let first = h Operand ts a.0 lt a.1 in
       omega (arith, first, ap length (ap_rest (t.Unary op a.0.0) a.0.1 x a.2))
 
-  pub marked_shrinks : (o : Option UnaryOp) (k : Lexeme) (ts : List Lexeme) (x : Tree × List Lexeme) → length ts < n → marked p o k ts ≡ Ok x → length x.1 < suc (length ts)
+  pub marked_shrinks : (o : Option UnaryOp) (k : Lexeme) (ts : List Lexeme) (x : Tree × List Lexeme) → length ts < n → marked_operand p o k ts ≡ Ok x → length x.1 < suc (length ts)
   marked_shrinks (Some op) k ts x lt e = omega (arith, unary_shrinks op ts x lt e)
-  marked_shrinks None k ts x lt e = omega (arith, grouped_shrinks ts x lt (cond_shrinks (bytes_eq k.text (codes "(")) (grouped p ts) (suc (length ts)) x e))
+  marked_shrinks None k ts x lt e = omega (arith, grouped_shrinks ts x lt (cond_shrinks (bytes_eq k.text (codes "(")) (grouped_expression p ts) (suc (length ts)) x e))
 
   pub numbered_shrinks : (o : Option ℕ) (ts : List Lexeme) (x : Tree × List Lexeme) → number_read o ts ≡ Ok x → length x.1 < suc (length ts)
   numbered_shrinks None ts x e = absurd cc
@@ -105,15 +103,15 @@ module _ (n : ℕ) (p : (aim : Aim) → List Lexeme → Front (Made aim)) (h : S
   called_by_shrinks true m k ts x lt e = omega (arith, ap length (ap_rest (t.Call m t.NoArgs) ts x e))
   called_by_shrinks false m k ts x lt e = called_more_shrinks m k ts x lt e
 
-  pub called_shrinks : (m : Name) (ts : List Lexeme) (x : Tree × List Lexeme) → length ts < n → called p m ts ≡ Ok x → length x.1 < length ts
+  pub called_shrinks : (m : Name) (ts : List Lexeme) (x : Tree × List Lexeme) → length ts < n → call_after_name p m ts ≡ Ok x → length x.1 < length ts
   called_shrinks m [] x lt e = absurd cc
   called_shrinks m (k ∷ ts) x lt e = called_by_shrinks (is_mark (codes ")") k) m k ts x lt e
 
-  pub named_by_shrinks : (b : Bool) (m : Name) (k : Lexeme) (ts : List Lexeme) (x : Tree × List Lexeme) → length ts < n → cond b (called p m ts) (Ok (t.Named m, k ∷ ts)) ≡ Ok x → length x.1 ≤ suc (length ts)
+  pub named_by_shrinks : (b : Bool) (m : Name) (k : Lexeme) (ts : List Lexeme) (x : Tree × List Lexeme) → length ts < n → cond b (call_after_name p m ts) (Ok (t.Named m, k ∷ ts)) ≡ Ok x → length x.1 ≤ suc (length ts)
   named_by_shrinks true m k ts x lt e = omega (arith, called_shrinks m ts x lt e)
   named_by_shrinks false m k ts x lt e = omega (arith, ap length (ap_rest (t.Named m) (k ∷ ts) x e))
 
-  pub named_shrinks : (m : Name) (ts : List Lexeme) (x : Tree × List Lexeme) → length ts < n → named p m ts ≡ Ok x → length x.1 ≤ length ts
+  pub named_shrinks : (m : Name) (ts : List Lexeme) (x : Tree × List Lexeme) → length ts < n → name_or_call p m ts ≡ Ok x → length x.1 ≤ length ts
   named_shrinks m [] x lt e = omega (arith, ap length (ap_rest (t.Named m) [] x e))
   named_shrinks m (k ∷ ts) x lt e = named_by_shrinks (is_mark (codes "(") k) m k ts x (omega (arith, lt)) e
 
@@ -169,15 +167,15 @@ module _ (n : ℕ) (p : (aim : Aim) → List Lexeme → Front (Made aim)) (h : S
   asked_by_shrinks true e k ts x lt eq = omega (arith, cond_part_shrinks e ts x lt eq)
   asked_by_shrinks false e k ts x lt eq = omega (arith, ap length (ap_rest e (k ∷ ts) x eq))
 
-  pub asked_shrinks : (e : Tree) (ts : List Lexeme) (x : Tree × List Lexeme) → length ts ≤ n → asked p e ts ≡ Ok x → length x.1 ≤ length ts
-  unfolding asked
+  pub asked_shrinks : (e : Tree) (ts : List Lexeme) (x : Tree × List Lexeme) → length ts ≤ n → choice_after p e ts ≡ Ok x → length x.1 ≤ length ts
+  unfolding choice_after
   asked_shrinks e [] x le eq = omega (arith, ap length (ap_rest e [] x eq))
   asked_shrinks e (k ∷ ts) x le eq = asked_by_shrinks (is_mark (codes "?") k) e k ts x (omega arith) eq
 
   pub choice_shrinks : (ts : List Lexeme) (x : Tree × List Lexeme) → length ts ≤ n → choice p ts ≡ Ok x → length x.1 < length ts
   unfolding choice
   choice_shrinks ts x le e =
-      let a = bind_ok (at_level p 2 ts) (λ y. asked p y.0 y.1) x e in
+      let a = bind_ok (at_level p 2 ts) (λ y. choice_after p y.0 y.1) x e in
       let first = level_shrinks 2 ts a.0 le a.1 in
       omega (arith, first, asked_shrinks a.0.0 a.0.1 x (omega (arith, first)) a.2)
 
@@ -192,24 +190,24 @@ module _ (n : ℕ) (p : (aim : Aim) → List Lexeme → Front (Made aim)) (h : S
   set_shrinks m [] x le eq = omega (arith, ap length (ap_rest (t.Named m) [] x eq))
   set_shrinks m (k ∷ ts) x le eq = set_by_shrinks (is_mark (codes "=") k) m k ts x (omega arith) eq
 
-  pub assigned_shrinks : (e : Tree) (ts : List Lexeme) (x : Tree × List Lexeme) → length ts ≤ n → assigned p e ts ≡ Ok x → length x.1 ≤ length ts
-  unfolding assigned
+  pub assigned_shrinks : (e : Tree) (ts : List Lexeme) (x : Tree × List Lexeme) → length ts ≤ n → assignment_after p e ts ≡ Ok x → length x.1 ≤ length ts
+  unfolding assignment_after
   assigned_shrinks (t.Named m) ts x le eq = set_shrinks m ts x le eq
   assigned_shrinks e ts x le eq = omega (arith, ap length (ap_rest e ts x eq))
 
   pub whole_shrinks : (ts : List Lexeme) (x : Tree × List Lexeme) → length ts ≤ n → whole p ts ≡ Ok x → length x.1 < length ts
   unfolding whole
   whole_shrinks ts x le e =
-      let a = bind_ok (choice p ts) (λ y. assigned p y.0 y.1) x e in
+      let a = bind_ok (choice p ts) (λ y. assignment_after p y.0 y.1) x e in
       let first = choice_shrinks ts a.0 le a.1 in
       omega (arith, first, assigned_shrinks a.0.0 a.0.1 x (omega (arith, first)) a.2)
 
-  pub quoted_shrinks : (o : Option (List ℕ)) (at : Place) (ts : List Lexeme) (x : ArgTree × List Lexeme) → quoted o at ts ≡ Ok x → length x.1 < suc (length ts)
+  pub quoted_shrinks : (o : Option (List ℕ)) (at : Place) (ts : List Lexeme) (x : ArgTree × List Lexeme) → quoted_string o at ts ≡ Ok x → length x.1 < suc (length ts)
   quoted_shrinks None at ts x e = absurd cc
   quoted_shrinks (Some text) at ts x e = omega (arith, ap length (ap_rest (t.TextArg (record { text = text; at = at })) ts x e))
 
   pub argument_by_shrinks : (b : Bool) (k : Lexeme) (ts : List Lexeme) (x : ArgTree × List Lexeme) → length ts < n
-      → cond b (quoted (between_quotes k.text) k.at ts) (whole p (k ∷ ts) >>= λ y. Ok (t.ExprArg k.at y.0, y.1)) ≡ Ok x → length x.1 < suc (length ts)
+      → cond b (quoted_string (between_quotes k.text) k.at ts) (whole p (k ∷ ts) >>= λ y. Ok (t.ExprArg k.at y.0, y.1)) ≡ Ok x → length x.1 < suc (length ts)
   argument_by_shrinks true k ts x lt e = quoted_shrinks (between_quotes k.text) k.at ts x e
   argument_by_shrinks false k ts x lt e =
       let a = bind_ok (whole p (k ∷ ts)) (λ y. Ok (t.ExprArg k.at y.0, y.1)) x e in
@@ -229,12 +227,12 @@ module _ (n : ℕ) (p : (aim : Aim) → List Lexeme → Front (Made aim)) (h : S
       let second = h Further a.0.1 b.0 (omega (arith, first, le)) b.1 in
       omega (arith, first, second, ap length (ap_rest (t.MoreArgs a.0.0 b.0.0) b.0.1 x b.2))
 
-  pub closed_shrinks : (ts : List Lexeme) (x : ArgTrees × List Lexeme) → closed p ts ≡ Ok x → length x.1 < length ts
+  pub closed_shrinks : (ts : List Lexeme) (x : ArgTrees × List Lexeme) → closing_parenthesis p ts ≡ Ok x → length x.1 < length ts
   closed_shrinks ts x e =
       let a = bind_ok (expect (codes ")") ts) (λ rest. Ok (t.NoArgs, rest.1)) x e in
       omega (arith, expect_shrinks (codes ")") ts a.0 a.1, ap length (ap_rest t.NoArgs a.0.1 x a.2))
 
-  pub further_by_shrinks : (b : Bool) (k : Lexeme) (ts : List Lexeme) (x : ArgTrees × List Lexeme) → length ts < n → cond b (arguments p ts) (closed p (k ∷ ts)) ≡ Ok x → length x.1 < suc (length ts)
+  pub further_by_shrinks : (b : Bool) (k : Lexeme) (ts : List Lexeme) (x : ArgTrees × List Lexeme) → length ts < n → cond b (arguments p ts) (closing_parenthesis p (k ∷ ts)) ≡ Ok x → length x.1 < suc (length ts)
   further_by_shrinks true k ts x lt e = omega (arith, arguments_shrinks ts x (omega (arith, lt)) e)
   further_by_shrinks false k ts x lt e = closed_shrinks (k ∷ ts) x e
 
@@ -252,8 +250,8 @@ module _ (n : ℕ) (p : (aim : Aim) → List Lexeme → Front (Made aim)) (h : S
   name_shrinks [] x e = absurd cc
   name_shrinks (k ∷ ts) x e = name_by (is_name_kind k.kind) k ts (length ts) x refl e
 
-  pub declared_shrinks : (ts : List Lexeme) (x : StmtTree × List Lexeme) → length ts ≤ n → declared p ts ≡ Ok x → length x.1 < length ts
-  unfolding declared
+  pub declared_shrinks : (ts : List Lexeme) (x : StmtTree × List Lexeme) → length ts ≤ n → declaration_after p ts ≡ Ok x → length x.1 < length ts
+  unfolding declaration_after
   declared_shrinks ts x le e =
       let a = bind_ok (name_first ts) (λ y. expect (codes "=") y.1 >>= λ equals. whole p equals.1 >>= λ z. expect (codes ";") z.1 >>= λ rest. Ok (t.Declare y.0 z.0, rest.1)) x e in
       let b = bind_ok (expect (codes "=") a.0.1) (λ equals. whole p equals.1 >>= λ z. expect (codes ";") z.1 >>= λ rest. Ok (t.Declare a.0.0 z.0, rest.1)) x a.2 in
@@ -275,7 +273,7 @@ module _ (n : ℕ) (p : (aim : Aim) → List Lexeme → Front (Made aim)) (h : S
       omega (arith, third, fourth, ap length (ap_rest (t.Plain at c.0.0) d.0.1 x d.2))
 
   pub statement_by_shrinks : (b c : Bool) (k : Lexeme) (ts : List Lexeme) (x : StmtTree × List Lexeme) → length ts < n
-      → cond b (Ok (t.Empty k.at, ts)) (cond c (declared p ts) (plain p k.at (k ∷ ts))) ≡ Ok x → length x.1 < suc (length ts)
+      → cond b (Ok (t.Empty k.at, ts)) (cond c (declaration_after p ts) (plain p k.at (k ∷ ts))) ≡ Ok x → length x.1 < suc (length ts)
   statement_by_shrinks true c k ts x lt e = omega (arith, ap length (ap_rest (t.Empty k.at) ts x e))
   statement_by_shrinks false true k ts x lt e = omega (arith, declared_shrinks ts x (omega (arith, lt)) e)
   statement_by_shrinks false false k ts x lt e = plain_shrinks k.at (k ∷ ts) x lt e

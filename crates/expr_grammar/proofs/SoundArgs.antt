@@ -8,7 +8,7 @@ use Rattle.expr_grammar.specs.Lexeme.{Lexeme}
 use Rattle.expr_grammar.specs.Tree as t
 use Rattle.expr_grammar.specs.Tree.{Tree, ArgTree, ArgTrees, StmtTree}
 use Rattle.expr_grammar.specs.Grammar.{IsMark, Single, BeginsAt, Reads, ReadsArg}
-use Rattle.expr_grammar.specs.Reading.{Front, Read, Aim, Further, is_mark, is_text_kind, between_quotes, quoted, expect, argument, arguments, closed, further, read, whole, choice, at_level, operand}
+use Rattle.expr_grammar.specs.Reading.{Front, Read, Aim, Further, is_mark, is_text_kind, between_quotes, quoted_string, expect, argument, arguments, closing_parenthesis, further, read, whole, choice, at_level, operand}
 use Rattle.dap_base.specs.Outcome.{◌>>=◌}
 use Rattle.expr_grammar.specs.Refusal.{Begins}
 use Rattle.expr_grammar.proofs.Found.{mark_from}
@@ -54,7 +54,7 @@ module _ (n : ℕ) (H : (aim : Aim) (ts : List Lexeme) → length ts < n → Law
   abbrev pub Args : List Lexeme → Front ArgTree → Type 0
   Args ts r = Outcome ReadsArg (Begins ReadsArg) (argument read) ts r
 
-  pub quoted_law : (k : Lexeme) (ts : List Lexeme) → is_text_kind k.kind ≡ true → (o : Option (List ℕ)) → between_quotes k.text ≡ o → Args (k ∷ ts) (quoted o k.at ts)
+  pub quoted_law : (k : Lexeme) (ts : List Lexeme) → is_text_kind k.kind ≡ true → (o : Option (List ℕ)) → between_quotes k.text ≡ o → Args (k ∷ ts) (quoted_string o k.at ts)
   unfolding argument
   quoted_law k ts is None o_is = refused ReadsArg (Begins ReadsArg) (argument read) (k ∷ ts) arg_nothing (by_head (λ us. argument read us ≡ Err (length us)) k ts (λ us. rw (is, o_is) refl))
   quoted_law k ts is (Some text) o_is =
@@ -62,7 +62,7 @@ module _ (n : ℕ) (H : (aim : Aim) (ts : List Lexeme) → length ts < n → Law
       (nothing_taken (λ back x. ReadsArg (k ∷ back) x) (λ back. Begins ReadsArg (k ∷ back)) (λ us. Ok (t.TextArg (record { text = text; at = k.at }), us)) ts (t.TextArg (record { text = text; at = k.at }))
       (string_arg k (text_kind k.kind is) text o_is) (λ us same. refl))
 
-  pub argument_by_law : (k : Lexeme) (ts : List Lexeme) → length ts < n → (v : Bool) → is_text_kind k.kind ≡ v → Args (k ∷ ts) (cond v (quoted (between_quotes k.text) k.at ts) (whole read (k ∷ ts) >>= λ x. Ok (t.ExprArg k.at x.0, x.1)))
+  pub argument_by_law : (k : Lexeme) (ts : List Lexeme) → length ts < n → (v : Bool) → is_text_kind k.kind ≡ v → Args (k ∷ ts) (cond v (quoted_string (between_quotes k.text) k.at ts) (whole read (k ∷ ts) >>= λ x. Ok (t.ExprArg k.at x.0, x.1)))
   unfolding argument
   argument_by_law k ts lt true is = quoted_law k ts is (between_quotes k.text) refl
   argument_by_law k ts lt false is =
@@ -122,7 +122,7 @@ module _ (n : ℕ) (H : (aim : Aim) (ts : List Lexeme) → length ts < n → Law
       nothing_taken (λ last z. SomeArgs (front ++ (back ++ last)) z) (λ last. Begins SomeArgs (front ++ (back ++ last))) (λ us. Ok (t.MoreArgs x.0 y.0, us)) y.1 (t.MoreArgs x.0 y.0)
       (subst (λ (l : List Lexeme). SomeArgs (front ++ l) (t.MoreArgs x.0 y.0)) (sym (append-nil back)) (joined_args front x.0 r back y.0 m)) (λ us same. refl)))
 
-  pub closed_law : (ts : List Lexeme) → Outcome MoreArgs (Begins MoreArgs) (closed read) ts (closed read ts)
+  pub closed_law : (ts : List Lexeme) → Outcome MoreArgs (Begins MoreArgs) (closing_parenthesis read) ts (closing_parenthesis read ts)
   closed_law ts =
       seq MoreArgs (Begins MoreArgs) (expect (codes ")")) (λ _ us. Ok (t.NoArgs, us)) ts (λ front x. Single (IsMark (codes ")")) front) (λ front. front ≡ []) (expect_law (codes ")") ts)
       (λ front nil. subst (Begins MoreArgs) (sym nil) (record { more = mark (codes ")") ∷ []; made = t.NoArgs; is = no_more (mark (codes ")")) (mark_marks (codes ")")) }))
@@ -140,14 +140,14 @@ module _ (n : ℕ) (H : (aim : Aim) (ts : List Lexeme) → length ts < n → Law
     inner = record { mark = k; rest = s.front; parts = refl; is_mark = m; inner = s.inner };
   }
 
-  pub further_by_law : (k : Lexeme) (ts : List Lexeme) → length ts ≤ n → (v : Bool) → is_mark (codes ",") k ≡ v → Outcome MoreArgs (Begins MoreArgs) (further read) (k ∷ ts) (cond v (arguments read ts) (closed read (k ∷ ts)))
+  pub further_by_law : (k : Lexeme) (ts : List Lexeme) → length ts ≤ n → (v : Bool) → is_mark (codes ",") k ≡ v → Outcome MoreArgs (Begins MoreArgs) (further read) (k ∷ ts) (cond v (arguments read ts) (closing_parenthesis read (k ∷ ts)))
   unfolding further
   further_by_law k ts le true is =
       let m = mark_from (codes ",") k is in
       after MoreArgs (Begins MoreArgs) (further read) (arguments read) k ts (arguments read ts) (λ us. rw is refl)
       (loosen SomeArgs (λ back x. MoreArgs (k ∷ back) x) (Begins SomeArgs) (λ back. Begins MoreArgs (k ∷ back)) (arguments read) (arguments read) ts (arguments read ts) (λ us. refl)
       (λ front x s. after_comma k m front x s) (λ front v. record { more = v.more; made = v.made; is = after_comma k m (front ++ v.more) v.made v.is }) (arguments_law ts le))
-  further_by_law k ts le false is = headed MoreArgs (Begins MoreArgs) (further read) (closed read) k ts (closed read (k ∷ ts)) (λ us. rw is refl) (closed_law (k ∷ ts))
+  further_by_law k ts le false is = headed MoreArgs (Begins MoreArgs) (further read) (closing_parenthesis read) k ts (closing_parenthesis read (k ∷ ts)) (λ us. rw is refl) (closed_law (k ∷ ts))
 
   pub further_nothing : Outcome MoreArgs (Begins MoreArgs) (further read) [] (further read [])
   unfolding further expect

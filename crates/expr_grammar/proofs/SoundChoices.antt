@@ -7,7 +7,7 @@ use Rattle.expr_grammar.specs.Lexeme.{Lexeme}
 use Rattle.expr_grammar.specs.Tree as t
 use Rattle.expr_grammar.specs.Tree.{Tree, ArgTree, ArgTrees, StmtTree}
 use Rattle.expr_grammar.specs.Grammar.{IsMark, IsName, Single, Reads}
-use Rattle.expr_grammar.specs.Reading.{Read, Aim, Whole, Choice, Level, is_mark, expect, asked, set_to, assigned, read, whole, choice, at_level}
+use Rattle.expr_grammar.specs.Reading.{Read, Aim, Whole, Choice, Level, is_mark, expect, choice_after, set_to, assignment_after, read, whole, choice, at_level}
 use Rattle.dap_base.specs.Outcome.{◌>>=◌}
 use Rattle.expr_grammar.proofs.Found.{mark_from}
 use Rattle.expr_grammar.proofs.Fix.{shrinks, choice_is, level_is}
@@ -82,14 +82,14 @@ module _ (n : ℕ) (H : (aim : Aim) (ts : List Lexeme) → length ts < n → Law
     no_choice : Reads 1 (before ++ []) c
     no_choice = subst (λ (z : List Lexeme). Reads 1 z c) (sym (append-nil before)) (relevel c 2 1 before r (omega (arith, below_top c 2 before r)))
 
-    asked_by_law : (k : Lexeme) (ts : List Lexeme) → length ts < n → (v : Bool) → is_mark (codes "?") k ≡ v → Outcome Asks AsksOn (asked read c) (k ∷ ts) (cond v (asking ts) (Ok (c, k ∷ ts)))
-    unfolding asked
-    asked_by_law k ts lt true is = after Asks AsksOn (asked read c) asking k ts (asking ts) (λ us. rw is refl) (asking_law k ts lt (mark_from (codes "?") k is))
-    asked_by_law k ts lt false is = nothing_taken Asks AsksOn (asked read c) (k ∷ ts) c no_choice (by_head (λ us. asked read c us ≡ Ok (c, us)) k ts (λ us. rw is refl))
+    asked_by_law : (k : Lexeme) (ts : List Lexeme) → length ts < n → (v : Bool) → is_mark (codes "?") k ≡ v → Outcome Asks AsksOn (choice_after read c) (k ∷ ts) (cond v (asking ts) (Ok (c, k ∷ ts)))
+    unfolding choice_after
+    asked_by_law k ts lt true is = after Asks AsksOn (choice_after read c) asking k ts (asking ts) (λ us. rw is refl) (asking_law k ts lt (mark_from (codes "?") k is))
+    asked_by_law k ts lt false is = nothing_taken Asks AsksOn (choice_after read c) (k ∷ ts) c no_choice (by_head (λ us. choice_after read c us ≡ Ok (c, us)) k ts (λ us. rw is refl))
 
-    asked_law : (ts : List Lexeme) → length ts ≤ n → Outcome Asks AsksOn (asked read c) ts (asked read c ts)
-    unfolding asked
-    asked_law [] le = nothing_taken Asks AsksOn (asked read c) [] c no_choice (at_end (λ us. asked read c us ≡ Ok (c, us)) refl)
+    asked_law : (ts : List Lexeme) → length ts ≤ n → Outcome Asks AsksOn (choice_after read c) ts (choice_after read c ts)
+    unfolding choice_after
+    asked_law [] le = nothing_taken Asks AsksOn (choice_after read c) [] c no_choice (at_end (λ us. choice_after read c us ≡ Ok (c, us)) refl)
     asked_law (k ∷ ts) le = asked_by_law k ts (omega arith) (is_mark (codes "?") k) refl
 
   pub level_short : (l : ℕ) (ts : List Lexeme) (x : Tree × List Lexeme) → at_level read l ts ≡ Ok x → length x.1 < length ts
@@ -98,7 +98,7 @@ module _ (n : ℕ) (H : (aim : Aim) (ts : List Lexeme) → length ts < n → Law
   pub choice_law : (ts : List Lexeme) → length ts ≤ n → Outcome (Reads 1) (Viable 1) (choice read) ts (choice read ts)
   unfolding choice
   choice_law ts le =
-      seq (Reads 1) (Viable 1) (at_level read 2) (λ c us. asked read c us) ts (Reads 2) (Viable 2) (level_law n H 2 ts le (omega arith) (omega arith))
+      seq (Reads 1) (Viable 1) (at_level read 2) (λ c us. choice_after read c us) ts (Reads 2) (Viable 2) (level_law n H 2 ts le (omega arith) (omega arith))
       (λ front v. record { more = v.more; made = v.made; is = relevel v.made 2 1 (front ++ v.more) v.is (omega (arith, below_top v.made 2 (front ++ v.more) v.is)) })
       (λ front x is parts r. asked_law x.0 front r x.1 (omega (arith, level_short 2 ts x is)))
 
@@ -134,15 +134,15 @@ module _ (n : ℕ) (H : (aim : Aim) (ts : List Lexeme) → length ts < n → Law
     set_law (k ∷ ts) le = set_by_law k ts (omega arith) (is_mark (codes "=") k) refl
 
   -- a tree that is no name
-  pub kept : (e : Tree) (before : List Lexeme) → Reads 1 before e → (ts : List Lexeme) → ((us : List Lexeme) → assigned read e us ≡ Ok (e, us))
-      → Outcome (λ front x. Reads 0 (before ++ front) x) (λ front. Viable 0 (before ++ front)) (assigned read e) ts (Ok (e, ts))
+  pub kept : (e : Tree) (before : List Lexeme) → Reads 1 before e → (ts : List Lexeme) → ((us : List Lexeme) → assignment_after read e us ≡ Ok (e, us))
+      → Outcome (λ front x. Reads 0 (before ++ front) x) (λ front. Viable 0 (before ++ front)) (assignment_after read e) ts (Ok (e, ts))
   kept e before r ts h =
-      nothing_taken (λ front x. Reads 0 (before ++ front) x) (λ front. Viable 0 (before ++ front)) (assigned read e) ts e
+      nothing_taken (λ front x. Reads 0 (before ++ front) x) (λ front. Viable 0 (before ++ front)) (assignment_after read e) ts e
       (subst (λ (z : List Lexeme). Reads 0 z e) (sym (append-nil before)) (relevel e 1 0 before r (omega arith))) (λ us same. h us)
 
   pub assigned_law : (e : Tree) (before : List Lexeme) → Reads 1 before e → (ts : List Lexeme) → length ts ≤ n
-      → Outcome (λ front x. Reads 0 (before ++ front) x) (λ front. Viable 0 (before ++ front)) (assigned read e) ts (assigned read e ts)
-  unfolding assigned
+      → Outcome (λ front x. Reads 0 (before ++ front) x) (λ front. Viable 0 (before ++ front)) (assignment_after read e) ts (assignment_after read e ts)
+  unfolding assignment_after
   assigned_law (t.Named m) before r ts le = set_law m before r.1 ts le
   assigned_law (t.Number v) before r ts le = kept (t.Number v) before r ts (λ us. refl)
   assigned_law (t.Group a) before r ts le = kept (t.Group a) before r ts (λ us. refl)
@@ -158,6 +158,6 @@ module _ (n : ℕ) (H : (aim : Aim) (ts : List Lexeme) → length ts < n → Law
   pub whole_law : (ts : List Lexeme) → length ts ≤ n → Outcome (Reads 0) (Viable 0) (whole read) ts (whole read ts)
   unfolding whole
   whole_law ts le =
-      seq (Reads 0) (Viable 0) (choice read) (λ e us. assigned read e us) ts (Reads 1) (Viable 1) (choice_law ts le)
+      seq (Reads 0) (Viable 0) (choice read) (λ e us. assignment_after read e us) ts (Reads 1) (Viable 1) (choice_law ts le)
       (λ front v. record { more = v.more; made = v.made; is = relevel v.made 1 0 (front ++ v.more) v.is (omega arith) })
       (λ front x is parts r. assigned_law x.0 front r x.1 (omega (arith, choice_short ts x is)))

@@ -12,7 +12,7 @@ use Rattle.expr_grammar.specs.Lexeme.{Lexeme}
 use Rattle.expr_grammar.specs.Tree as t
 use Rattle.expr_grammar.specs.Tree.{Tree, ArgTree, ArgTrees, StmtTree}
 use Rattle.expr_grammar.specs.Grammar.{unary_text, IsMark, Single, Ended, Reads, ReadsArgs}
-use Rattle.expr_grammar.specs.Reading.{Read, Aim, Whole, Operand, Arguments, is_mark, unary_of, name_of, expect, number_read, grouped, marked, called, named, operand_by, read, operand}
+use Rattle.expr_grammar.specs.Reading.{Read, Aim, Whole, Operand, Arguments, is_mark, unary_of, name_of, expect, number_read, grouped_expression, marked_operand, call_after_name, name_or_call, operand_by, read, operand}
 use Rattle.dap_base.specs.Outcome.{◌>>=◌}
 use Rattle.expr_grammar.specs.Refusal.{Begins}
 use Rattle.expr_grammar.proofs.Found.{mark_from, unary_found}
@@ -21,7 +21,7 @@ use Rattle.expr_grammar.proofs.Complete.{open_operand}
 use Rattle.expr_grammar.proofs.Viable.{mark, mark_marks, Viable, viable_nothing, expect_law, SomeArgs, Law}
 
 module _ (n : ℕ) (H : (aim : Aim) (ts : List Lexeme) → length ts < n → Law aim ts) where
-  pub grouped_law : (k : Lexeme) (ts : List Lexeme) → IsMark (codes "(") k → length ts < n → Outcome (λ front x. Reads 12 (k ∷ front) x) (λ front. Viable 12 (k ∷ front)) (grouped read) ts (grouped read ts)
+  pub grouped_law : (k : Lexeme) (ts : List Lexeme) → IsMark (codes "(") k → length ts < n → Outcome (λ front x. Reads 12 (k ∷ front) x) (λ front. Viable 12 (k ∷ front)) (grouped_expression read) ts (grouped_expression read ts)
   grouped_law k ts m lt =
       let P = λ (front : List Lexeme) (x : Tree). Reads 12 (k ∷ front) x in
       let V = λ (front : List Lexeme). Viable 12 (k ∷ front) in
@@ -91,17 +91,17 @@ module _ (n : ℕ) (H : (aim : Aim) (ts : List Lexeme) → length ts < n → Law
         nothing_taken (λ back y. Calls (front ++ back) y) (λ back. CallsOn (front ++ back)) (λ us. Ok (t.Call (name_of j) x.0, us)) x.1 (t.Call (name_of j) x.0)
         (called_args j k is opens (front ++ []) x.0 (subst (λ (l : List Lexeme). Ended (λ inner. ReadsArgs inner x.0) (codes ")") l) (sym (append-nil front)) (some_args front x.0 r))) (λ us same. refl))
 
-    called_by_law : (m : Lexeme) (ts : List Lexeme) → suc (length ts) < n → (v : Bool) → is_mark (codes ")") m ≡ v → Outcome Calls CallsOn (called read (name_of j)) (m ∷ ts) (cond v (Ok (t.Call (name_of j) t.NoArgs, ts)) (with_args (m ∷ ts)))
+    called_by_law : (m : Lexeme) (ts : List Lexeme) → suc (length ts) < n → (v : Bool) → is_mark (codes ")") m ≡ v → Outcome Calls CallsOn (call_after_name read (name_of j)) (m ∷ ts) (cond v (Ok (t.Call (name_of j) t.NoArgs, ts)) (with_args (m ∷ ts)))
     called_by_law m ts lt true v_is =
-        after Calls CallsOn (called read (name_of j)) (λ us. Ok (t.Call (name_of j) t.NoArgs, us)) m ts (Ok (t.Call (name_of j) t.NoArgs, ts)) (λ us. rw v_is refl)
+        after Calls CallsOn (call_after_name read (name_of j)) (λ us. Ok (t.Call (name_of j) t.NoArgs, us)) m ts (Ok (t.Call (name_of j) t.NoArgs, ts)) (λ us. rw v_is refl)
         (nothing_taken (λ back x. Calls (m ∷ back) x) (λ back. CallsOn (m ∷ back)) (λ us. Ok (t.Call (name_of j) t.NoArgs, us)) ts (t.Call (name_of j) t.NoArgs) (called_args j k is opens (m ∷ []) t.NoArgs (no_args m (mark_from (codes ")") m v_is))) (λ us same. refl))
     called_by_law m ts lt false v_is =
-        headed Calls CallsOn (called read (name_of j)) with_args m ts (with_args (m ∷ ts)) (λ us. rw v_is refl) (args_law (m ∷ ts) lt)
+        headed Calls CallsOn (call_after_name read (name_of j)) with_args m ts (with_args (m ∷ ts)) (λ us. rw v_is refl) (args_law (m ∷ ts) lt)
 
-    called_law : (ts : List Lexeme) → length ts < n → Outcome Calls CallsOn (called read (name_of j)) ts (called read (name_of j) ts)
+    called_law : (ts : List Lexeme) → length ts < n → Outcome Calls CallsOn (call_after_name read (name_of j)) ts (call_after_name read (name_of j) ts)
     called_law [] lt =
-        refused Calls CallsOn (called read (name_of j)) [] (record { more = mark (codes ")") ∷ []; made = t.Call (name_of j) t.NoArgs; is = called_args j k is opens (mark (codes ")") ∷ []) t.NoArgs (no_args (mark (codes ")")) (mark_marks (codes ")"))) })
-        (at_end (λ us. called read (name_of j) us ≡ Err (length us)) refl)
+        refused Calls CallsOn (call_after_name read (name_of j)) [] (record { more = mark (codes ")") ∷ []; made = t.Call (name_of j) t.NoArgs; is = called_args j k is opens (mark (codes ")") ∷ []) t.NoArgs (no_args (mark (codes ")")) (mark_marks (codes ")"))) })
+        (at_end (λ us. call_after_name read (name_of j) us ≡ Err (length us)) refl)
     called_law (m ∷ ts) lt = called_by_law m ts lt (is_mark (codes ")") m) refl
 
   module _ (j : Lexeme) (is : j.kind ≡ kinds.Name) where
@@ -114,27 +114,27 @@ module _ (n : ℕ) (H : (aim : Aim) (ts : List Lexeme) → length ts < n → Law
     name_alone : Reads 12 (j ∷ []) (t.Named (name_of j))
     name_alone = (omega arith, record { only = j; parts = refl; is = record { kind = is; text_is = refl; at_is = refl } })
 
-    named_by_law : (k : Lexeme) (ts : List Lexeme) → length ts < n → (v : Bool) → is_mark (codes "(") k ≡ v → Outcome Names NamesOn (named read (name_of j)) (k ∷ ts) (cond v (called read (name_of j) ts) (Ok (t.Named (name_of j), k ∷ ts)))
+    named_by_law : (k : Lexeme) (ts : List Lexeme) → length ts < n → (v : Bool) → is_mark (codes "(") k ≡ v → Outcome Names NamesOn (name_or_call read (name_of j)) (k ∷ ts) (cond v (call_after_name read (name_of j) ts) (Ok (t.Named (name_of j), k ∷ ts)))
     named_by_law k ts lt true v_is =
-        after Names NamesOn (named read (name_of j)) (called read (name_of j)) k ts (called read (name_of j) ts) (λ us. rw v_is refl) (called_law j k is (mark_from (codes "(") k v_is) ts lt)
-    named_by_law k ts lt false v_is = nothing_taken Names NamesOn (named read (name_of j)) (k ∷ ts) (t.Named (name_of j)) name_alone (by_head (λ us. named read (name_of j) us ≡ Ok (t.Named (name_of j), us)) k ts (λ us. rw v_is refl))
+        after Names NamesOn (name_or_call read (name_of j)) (call_after_name read (name_of j)) k ts (call_after_name read (name_of j) ts) (λ us. rw v_is refl) (called_law j k is (mark_from (codes "(") k v_is) ts lt)
+    named_by_law k ts lt false v_is = nothing_taken Names NamesOn (name_or_call read (name_of j)) (k ∷ ts) (t.Named (name_of j)) name_alone (by_head (λ us. name_or_call read (name_of j) us ≡ Ok (t.Named (name_of j), us)) k ts (λ us. rw v_is refl))
 
-    named_law : (ts : List Lexeme) → length ts < n → Outcome Names NamesOn (named read (name_of j)) ts (named read (name_of j) ts)
-    named_law [] lt = nothing_taken Names NamesOn (named read (name_of j)) [] (t.Named (name_of j)) name_alone (at_end (λ us. named read (name_of j) us ≡ Ok (t.Named (name_of j), us)) refl)
+    named_law : (ts : List Lexeme) → length ts < n → Outcome Names NamesOn (name_or_call read (name_of j)) ts (name_or_call read (name_of j) ts)
+    named_law [] lt = nothing_taken Names NamesOn (name_or_call read (name_of j)) [] (t.Named (name_of j)) name_alone (at_end (λ us. name_or_call read (name_of j) us ≡ Ok (t.Named (name_of j), us)) refl)
     named_law (k ∷ ts) lt = named_by_law k ts (omega (arith, lt)) (is_mark (codes "(") k) refl
 
-  pub name_law : (k : Lexeme) (ts : List Lexeme) → length ts < n → k.kind ≡ kinds.Name → Operands (k ∷ ts) (named read (name_of k) ts)
+  pub name_law : (k : Lexeme) (ts : List Lexeme) → length ts < n → k.kind ≡ kinds.Name → Operands (k ∷ ts) (name_or_call read (name_of k) ts)
   unfolding operand
-  name_law k ts lt is = after (Reads 12) (Viable 12) (operand read) (named read (name_of k)) k ts (named read (name_of k) ts) (λ us. rw is refl) (named_law k is ts lt)
+  name_law k ts lt is = after (Reads 12) (Viable 12) (operand read) (name_or_call read (name_of k)) k ts (name_or_call read (name_of k) ts) (λ us. rw is refl) (named_law k is ts lt)
 
-  pub open_law : (k : Lexeme) (ts : List Lexeme) → length ts < n → k.kind ≡ kinds.Mark → unary_of k.text ≡ None → (v : Bool) → bytes_eq k.text (codes "(") ≡ v → Operands (k ∷ ts) (cond v (grouped read ts) (Err (suc (length ts))))
+  pub open_law : (k : Lexeme) (ts : List Lexeme) → length ts < n → k.kind ≡ kinds.Mark → unary_of k.text ≡ None → (v : Bool) → bytes_eq k.text (codes "(") ≡ v → Operands (k ∷ ts) (cond v (grouped_expression read ts) (Err (suc (length ts))))
   unfolding operand
   open_law k ts lt is none true v_is =
       let m : IsMark (codes "(") k = record { kind = is; text_is = same_text k.text (codes "(") (sym v_is) } in
-      after (Reads 12) (Viable 12) (operand read) (grouped read) k ts (grouped read ts) (λ us. open_operand k us m) (grouped_law k ts m lt)
+      after (Reads 12) (Viable 12) (operand read) (grouped_expression read) k ts (grouped_expression read ts) (λ us. open_operand k us m) (grouped_law k ts m lt)
   open_law k ts lt is none false v_is = operand_refused k ts (λ us. rw (is, none, v_is) refl)
 
-  pub marked_law : (k : Lexeme) (ts : List Lexeme) → length ts < n → k.kind ≡ kinds.Mark → (o : Option UnaryOp) → unary_of k.text ≡ o → Operands (k ∷ ts) (marked read o k ts)
+  pub marked_law : (k : Lexeme) (ts : List Lexeme) → length ts < n → k.kind ≡ kinds.Mark → (o : Option UnaryOp) → unary_of k.text ≡ o → Operands (k ∷ ts) (marked_operand read o k ts)
   unfolding operand
   marked_law k ts lt is (Some op) o_is =
       let m : IsMark (unary_text op) k = record { kind = is; text_is = unary_found k.text op o_is } in

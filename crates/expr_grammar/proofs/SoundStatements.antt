@@ -8,7 +8,7 @@ use Rattle.expr_grammar.specs.Lexeme.{Lexeme}
 use Rattle.expr_grammar.specs.Tree as t
 use Rattle.expr_grammar.specs.Tree.{Tree, ArgTree, ArgTrees, StmtTree}
 use Rattle.expr_grammar.specs.Grammar.{IsMark, IsName, Single, Ended, BeginsAt, Reads, ReadsStmt, ReadsCode}
-use Rattle.expr_grammar.specs.Reading.{Front, Aim, Statements, is_mark, is_name_kind, name_of, expect, name_first, declared, plain, statement, statements, read, whole}
+use Rattle.expr_grammar.specs.Reading.{Front, Aim, Statements, is_mark, is_name_kind, name_of, expect, name_first, declaration_after, plain, statement, statements, read, whole}
 use Rattle.dap_base.specs.Outcome.{◌>>=◌}
 use Rattle.expr_grammar.specs.Refusal.{Begins}
 use Rattle.expr_grammar.proofs.Found.{mark_from}
@@ -82,8 +82,8 @@ module _ (n : ℕ) (H : (aim : Aim) (ts : List Lexeme) → length ts < n → Law
     turned : (left back rest : List Lexeme) (only : Lexeme) → back ≡ only ∷ [] → left ++ only ∷ rest ≡ left ++ (back ++ rest)
     turned left back rest only e = ap (λ (l : List Lexeme). left ++ (l ++ rest)) (sym e)
 
-    declared_law : (ts : List Lexeme) → length ts ≤ n → Outcome Declares DeclaresOn (declared read) ts (declared read ts)
-    unfolding declared
+    declared_law : (ts : List Lexeme) → length ts ≤ n → Outcome Declares DeclaresOn (declaration_after read) ts (declaration_after read ts)
+    unfolding declaration_after
     declared_law ts le =
         seq Declares DeclaresOn name_first (λ m us. expect (codes "=") us >>= λ equals. whole read equals.1 >>= λ x. expect (codes ";") x.1 >>= λ rest. Ok (t.Declare m x.0, rest.1)) ts (λ front m. Single (IsName m) front) (λ front. front ≡ []) (name_first_law ts)
         (λ front nil. subst DeclaresOn (sym nil) no_name)
@@ -137,13 +137,13 @@ module _ (n : ℕ) (H : (aim : Aim) (ts : List Lexeme) → length ts < n → Law
   pub empty_by : (k : Lexeme) → IsMark (codes ";") k → ReadsStmt (k ∷ []) (t.Empty k.at)
   empty_by k m = record { only = k; parts = refl; is = (m, refl) }
 
-  pub statement_by_law : (k : Lexeme) (ts : List Lexeme) → length ts < n → (v w : Bool) → is_mark (codes ";") k ≡ v → is_mark (codes "__var") k ≡ w → Stmts (k ∷ ts) (cond v (Ok (t.Empty k.at, ts)) (cond w (declared read ts) (plain read k.at (k ∷ ts))))
+  pub statement_by_law : (k : Lexeme) (ts : List Lexeme) → length ts < n → (v w : Bool) → is_mark (codes ";") k ≡ v → is_mark (codes "__var") k ≡ w → Stmts (k ∷ ts) (cond v (Ok (t.Empty k.at, ts)) (cond w (declaration_after read ts) (plain read k.at (k ∷ ts))))
   unfolding statement
   statement_by_law k ts lt true w is is2 =
       after ReadsStmt (Begins ReadsStmt) (statement read) (λ us. Ok (t.Empty k.at, us)) k ts (Ok (t.Empty k.at, ts)) (λ us. rw is refl)
       (nothing_taken (λ back s. ReadsStmt (k ∷ back) s) (λ back. Begins ReadsStmt (k ∷ back)) (λ us. Ok (t.Empty k.at, us)) ts (t.Empty k.at) (empty_by k (mark_from (codes ";") k is)) (λ us same. refl))
   statement_by_law k ts lt false true is is2 =
-      after ReadsStmt (Begins ReadsStmt) (statement read) (declared read) k ts (declared read ts) (λ us. rw (is, is2) refl) (declared_law k (mark_from (codes "__var") k is2) ts (omega (arith, lt)))
+      after ReadsStmt (Begins ReadsStmt) (statement read) (declaration_after read) k ts (declaration_after read ts) (λ us. rw (is, is2) refl) (declared_law k (mark_from (codes "__var") k is2) ts (omega (arith, lt)))
   statement_by_law k ts lt false false is is2 =
       headed ReadsStmt (Begins ReadsStmt) (statement read) (plain read k.at) k ts (plain read k.at (k ∷ ts)) (λ us. rw (is, is2) refl) (plain_law k ts lt)
 

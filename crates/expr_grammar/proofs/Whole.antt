@@ -1,5 +1,6 @@
 -- All of the tokens: what is read, where nothing is, and the answer that follows.
 use Rattle.std.proofs.Common.{◌≡◌, ℕ, zero, suc, ◌+◌, ◌-◌, ◌<◌, ◌≤◌, ◌⊎◌, inl, inr, Bool, true, false, cond, eqb, ltb, List, [], ◌∷◌, ◌++◌, length, take, drop, Result, Ok, Err, refl, sym, ap, subst, ◌∙◌, append_assoc, arith}
+use Rattle.dap_base.proofs.Basics.{same_Ok}
 use Rattle.std.specs.Prelude.{◌&&◌}
 use Rattle.std.proofs.lemmas.Bool.{eqb-true, eqb-false, ltb-true, ltb-false, and_parts, and_cases, cases_lt}
 use Rattle.std.proofs.lemmas.List.{append-nil, length-append, take_at, take_all, length-take-le, take-append-drop, take-take}
@@ -14,7 +15,6 @@ use Rattle.expr_grammar.specs.Reading.{Front, GivesReading, all_of}
 use Rattle.dap_base.specs.Outcome.{◌>>=◌}
 use Rattle.expr_grammar.specs.Refusal.{Begins, IsUnexpected, IsDeep, NoneDeepBefore, place_of, IsAccepted, IsUnexpectedFirst, IsDeepFirst, AnswersParse, Accepts, Refuses}
 use Rattle.expr_grammar.specs.Counting.{limited_answer}
-use Rattle.expr_grammar.proofs.Shrinks.{ok_is}
 use Rattle.expr_grammar.proofs.Outcome.{SameHead, Outcome}
 
 -- ---- fronts of a list
@@ -45,10 +45,10 @@ module _ {X : Type 0} (R : List Lexeme → X → Type 0) (f : List Lexeme → Fr
   res x ts = Ok (x, ts)
 
   rest_same : (x y : X) (ts us : List Lexeme) → res x ts ≡ res y us → ts ≡ us
-  rest_same x y ts us e = ap (λ (p : X × List Lexeme). p.1) (ok_is (x, ts) (y, us) e)
+  rest_same x y ts us e = ap (λ (p : X × List Lexeme). p.1) (same_Ok (x, ts) (y, us) e)
 
   value_same : (x y : X) (ts us : List Lexeme) → res x ts ≡ res y us → x ≡ y
-  value_same x y ts us e = ap (λ (p : X × List Lexeme). p.0) (ok_is (x, ts) (y, us) e)
+  value_same x y ts us e = ap (λ (p : X × List Lexeme). p.0) (same_Ok (x, ts) (y, us) e)
 
   pub one : (ts : List Lexeme) (x y : X) → R ts x → R ts y → x ≡ y
   one ts x y rx ry = value_same x y [] [] (sym (complete ts x rx) ∙ complete ts y ry)

@@ -28,8 +28,8 @@ ends Text k = false
 ends Statement k = is_mark (codes ";") k
 
 -- what is counted with this token more
-abbrev pub counted : Count → Lexeme → Count
-counted count k = record {
+abbrev pub count_with : Count → Lexeme → Count
+count_with count k = record {
   tokens = count.tokens + 1;
   opened = count.opened + (if is_mark (codes "(") k then 1 else 0);
   closed = count.closed + (if is_mark (codes ")") k then 1 else 0);
@@ -41,7 +41,7 @@ nothing_counted = record { tokens = 0; opened = 0; closed = 0 }
 
 -- what is counted after this token
 abbrev pub with_token : Span → Count → Lexeme → Count
-with_token span count k = if ends span k then nothing_counted else counted count k
+with_token span count k = if ends span k then nothing_counted else count_with count k
 
 -- the answer, from what was read of the tokens before the limit
 abbrev pub limited_answer : {V : Type 0} → Result V Fault → List Lexeme → ℕ → Result V ParseError

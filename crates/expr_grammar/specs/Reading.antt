@@ -161,15 +161,15 @@ number_read None ts = Err (suc (length ts))
 number_read (Some n) ts = Ok (Number n, ts)
 
 -- a string, if the text has quotes
-abbrev pub quoted : Option (List ℕ) → Place → List Lexeme → Front ArgTree
-quoted None at ts = Err (suc (length ts))
-quoted (Some text) at ts = Ok (TextArg (record { text = text; at = at }), ts)
+abbrev pub quoted_string : Option (List ℕ) → Place → List Lexeme → Front ArgTree
+quoted_string None at ts = Err (suc (length ts))
+quoted_string (Some text) at ts = Ok (TextArg (record { text = text; at = at }), ts)
 
 -- how each part is read, by p on shorter lists
 module _ (p : (aim : Aim) → List Lexeme → Front (Made aim)) where
   -- an expression in parentheses, after the opening one
-  abbrev pub grouped : List Lexeme → Read
-  grouped ts = do
+  abbrev pub grouped_expression : List Lexeme → Read
+  grouped_expression ts = do
     x ← p Whole ts
     rest ← expect (codes ")") x.1
     Ok (Group x.0, rest.1)
@@ -181,30 +181,30 @@ module _ (p : (aim : Aim) → List Lexeme → Front (Made aim)) where
     Ok (Unary op x.0, x.1)
 
   -- an operator before its operand, or an expression in parentheses
-  abbrev pub marked : Option UnaryOp → Lexeme → List Lexeme → Read
-  marked (Some op) k ts = signed op ts
-  marked None k ts = if bytes_eq k.text (codes "(") then grouped ts else Err (suc (length ts))
+  abbrev pub marked_operand : Option UnaryOp → Lexeme → List Lexeme → Read
+  marked_operand (Some op) k ts = signed op ts
+  marked_operand None k ts = if bytes_eq k.text (codes "(") then grouped_expression ts else Err (suc (length ts))
 
   -- a call, after the opening parenthesis
-  abbrev pub called : Name → List Lexeme → Read
-  called n [] = Err 0
-  called n (k ∷ ts) =
+  abbrev pub call_after_name : Name → List Lexeme → Read
+  call_after_name n [] = Err 0
+  call_after_name n (k ∷ ts) =
       if is_mark (codes ")") k then Ok (Call n NoArgs, ts)
       else (do
         x ← p Arguments (k ∷ ts)
         Ok (Call n x.0, x.1))
 
   -- a call, where `(` comes after the name, else the name
-  abbrev pub named : Name → List Lexeme → Read
-  named n [] = Ok (Named n, [])
-  named n (k ∷ ts) = if is_mark (codes "(") k then called n ts else Ok (Named n, k ∷ ts)
+  abbrev pub name_or_call : Name → List Lexeme → Read
+  name_or_call n [] = Ok (Named n, [])
+  name_or_call n (k ∷ ts) = if is_mark (codes "(") k then call_after_name n ts else Ok (Named n, k ∷ ts)
 
   -- an operand, by the kind of its first token
   abbrev pub operand_by : TokenKind → Lexeme → List Lexeme → Read
   operand_by kinds.Number k ts = number_read (number_value k.text) ts
-  operand_by kinds.Name k ts = named (name_of k) ts
+  operand_by kinds.Name k ts = name_or_call (name_of k) ts
   operand_by kinds.Text k ts = Err (suc (length ts))
-  operand_by kinds.Mark k ts = marked (unary_of k.text) k ts
+  operand_by kinds.Mark k ts = marked_operand (unary_of k.text) k ts
 
   -- an operand: a number, a name, a call, an expression in parentheses, or an operator before an operand
   unfoldable pub operand : List Lexeme → Read
@@ -232,23 +232,23 @@ module _ (p : (aim : Aim) → List Lexeme → Front (Made aim)) where
     p (Climb l x.0) x.1
 
   -- the two values of a choice
-  abbrev pub chosen : Tree → List Lexeme → Read
-  chosen e ts = do
+  abbrev pub choice_values : Tree → List Lexeme → Read
+  choice_values e ts = do
     x ← p Whole ts
     rest ← expect (codes ":") x.1
     y ← p Choice rest.1
     Ok (Cond e x.0 y.0, y.1)
 
   -- a choice, where `?` comes after the condition, else the condition
-  unfoldable pub asked : Tree → List Lexeme → Read
-  asked e [] = Ok (e, [])
-  asked e (k ∷ ts) = if is_mark (codes "?") k then chosen e ts else Ok (e, k ∷ ts)
+  unfoldable pub choice_after : Tree → List Lexeme → Read
+  choice_after e [] = Ok (e, [])
+  choice_after e (k ∷ ts) = if is_mark (codes "?") k then choice_values e ts else Ok (e, k ∷ ts)
 
   -- a choice `? :`, or an expression of tighter operators
   unfoldable pub choice : List Lexeme → Read
   choice ts = do
     c ← at_level 2 ts
-    asked c.0 c.1
+    choice_after c.0 c.1
 
   -- an assignment to the name, where `=` comes next, else the name
   abbrev pub set_to : Name → List Lexeme → Read
@@ -260,21 +260,21 @@ module _ (p : (aim : Aim) → List Lexeme → Front (Made aim)) where
       else Ok (Named n, k ∷ ts)
 
   -- an assignment, where the expression is a name and `=` comes next, else the expression
-  unfoldable pub assigned : Tree → List Lexeme → Read
-  assigned (Named n) ts = set_to n ts
-  assigned e ts = Ok (e, ts)
+  unfoldable pub assignment_after : Tree → List Lexeme → Read
+  assignment_after (Named n) ts = set_to n ts
+  assignment_after e ts = Ok (e, ts)
 
   -- an expression of any level
   unfoldable pub whole : List Lexeme → Read
   whole ts = do
     e ← choice ts
-    assigned e.0 e.1
+    assignment_after e.0 e.1
 
   -- an argument: a string, or an expression with its place
   unfoldable pub argument : List Lexeme → Front ArgTree
   argument [] = Err 0
   argument (k ∷ ts) =
-      if is_text_kind k.kind then quoted (between_quotes k.text) k.at ts
+      if is_text_kind k.kind then quoted_string (between_quotes k.text) k.at ts
       else (do
         x ← whole (k ∷ ts)
         Ok (ExprArg k.at x.0, x.1))
@@ -287,19 +287,19 @@ module _ (p : (aim : Aim) → List Lexeme → Front (Made aim)) where
     Ok (MoreArgs a.0 more.0, more.1)
 
   -- the closing parenthesis
-  abbrev pub closed : List Lexeme → Front ArgTrees
-  closed ts = do
+  abbrev pub closing_parenthesis : List Lexeme → Front ArgTrees
+  closing_parenthesis ts = do
     rest ← expect (codes ")") ts
     Ok (NoArgs, rest.1)
 
   -- further arguments, each after a comma, and the closing parenthesis
   unfoldable pub further : List Lexeme → Front ArgTrees
-  further [] = closed []
-  further (k ∷ ts) = if is_mark (codes ",") k then arguments ts else closed (k ∷ ts)
+  further [] = closing_parenthesis []
+  further (k ∷ ts) = if is_mark (codes ",") k then arguments ts else closing_parenthesis (k ∷ ts)
 
   -- a declaration, after `__var`
-  unfoldable pub declared : List Lexeme → Front StmtTree
-  declared ts = do
+  unfoldable pub declaration_after : List Lexeme → Front StmtTree
+  declaration_after ts = do
     n ← name_first ts
     equals ← expect (codes "=") n.1
     x ← whole equals.1
@@ -318,7 +318,7 @@ module _ (p : (aim : Aim) → List Lexeme → Front (Made aim)) where
   statement [] = Err 0
   statement (k ∷ ts) =
       if is_mark (codes ";") k then Ok (Empty k.at, ts)
-      else (if is_mark (codes "__var") k then declared ts else plain k.at (k ∷ ts))
+      else (if is_mark (codes "__var") k then declaration_after ts else plain k.at (k ∷ ts))
 
   -- statements, up to the end of the tokens
   unfoldable pub statements : List Lexeme → Front (List StmtTree)

@@ -17,7 +17,7 @@ use std::alloc::Global;
 
 /// An expression, and the tokens after it.
 #[cycle(parser)]
-#[tactic(auto, unfolding(crate::specs::Reading::whole, crate::specs::Reading::assigned), using(crate::proofs::Fix::fixes))]
+#[tactic(auto, unfolding(crate::specs::Reading::whole, crate::specs::Reading::assignment_after), using(crate::proofs::Fix::fixes))]
 pub fn read_expression<'t, 'a>(
     alloc: Global,
     tokens: &'t [Token<'a>],
@@ -55,7 +55,7 @@ fn assignment<'t, 'a>(
 
 // A choice between two values, or one value.
 #[cycle(parser)]
-#[tactic(auto, unfolding(crate::specs::Reading::choice, crate::specs::Reading::asked), using(crate::proofs::Fix::fixes))]
+#[tactic(auto, unfolding(crate::specs::Reading::choice, crate::specs::Reading::choice_after), using(crate::proofs::Fix::fixes))]
 fn choice<'t, 'a>(alloc: Global, tokens: &'t [Token<'a>]) -> Result<(Expr, &'t [Token<'a>]), Fault>
     ensures reads { GivesReading (λ x. (tree x.0, lexemes x.1.now)) result (reading.choice reading.read (lexemes tokens.now)) }
     ensures shorter { IfOk result (λ x. length x.1.now < length tokens.now) }
@@ -77,7 +77,7 @@ fn read_choice_values<'t, 'a>(
     test: Expr,
     tokens: &'t [Token<'a>],
 ) -> Result<(Expr, &'t [Token<'a>]), Fault>
-    ensures reads { GivesReading (λ x. (tree x.0, lexemes x.1.now)) result (reading.chosen reading.read (tree test) (lexemes tokens.now)) }
+    ensures reads { GivesReading (λ x. (tree x.0, lexemes x.1.now)) result (reading.choice_values reading.read (tree test) (lexemes tokens.now)) }
     ensures shorter { IfOk result (λ x. length x.1.now < length tokens.now) }
 {
     let (then, rest) = read_expression(alloc, tokens)?;
@@ -117,7 +117,7 @@ fn read_group<'t, 'a>(
     alloc: Global,
     tokens: &'t [Token<'a>],
 ) -> Result<(Expr, &'t [Token<'a>]), Fault>
-    ensures reads { GivesReading (λ x. (tree x.0, lexemes x.1.now)) result (reading.grouped reading.read (lexemes tokens.now)) }
+    ensures reads { GivesReading (λ x. (tree x.0, lexemes x.1.now)) result (reading.grouped_expression reading.read (lexemes tokens.now)) }
     ensures shorter { IfOk result (λ x. length x.1.now < length tokens.now) }
 {
     let (inner, rest) = read_expression(alloc, tokens)?;
@@ -179,7 +179,7 @@ fn read_name_or_call<'t, 'a>(
     name: Name,
     tokens: &'t [Token<'a>],
 ) -> Result<(Expr, &'t [Token<'a>]), Fault>
-    ensures reads { GivesReading (λ x. (tree x.0, lexemes x.1.now)) result (reading.named reading.read name (lexemes tokens.now)) }
+    ensures reads { GivesReading (λ x. (tree x.0, lexemes x.1.now)) result (reading.name_or_call reading.read name (lexemes tokens.now)) }
     ensures shorter { IfOk result (λ x. length x.1.now ≤ length tokens.now) }
 {
     match next(tokens) {
@@ -196,7 +196,7 @@ fn read_call<'t, 'a>(
     name: Name,
     tokens: &'t [Token<'a>],
 ) -> Result<(Expr, &'t [Token<'a>]), Fault>
-    ensures reads { GivesReading (λ x. (tree x.0, lexemes x.1.now)) result (reading.called reading.read name (lexemes tokens.now)) }
+    ensures reads { GivesReading (λ x. (tree x.0, lexemes x.1.now)) result (reading.call_after_name reading.read name (lexemes tokens.now)) }
     ensures shorter { IfOk result (λ x. length x.1.now < length tokens.now) }
 {
     let Some((mark, after)) = next(tokens) else {

@@ -18,12 +18,12 @@ use dap_base::Place;
 use std::alloc::Global;
 
 // A declaration, after `__var`.
-#[tactic(auto, unfolding(crate::specs::Reading::declared))]
+#[tactic(auto, unfolding(crate::specs::Reading::declaration_after))]
 fn declaration<'t, 'a>(
     alloc: Global,
     tokens: &'t [Token<'a>],
 ) -> Result<(Stmt, &'t [Token<'a>]), Fault>
-    ensures reads { GivesReading (λ x. (stmt_tree x.0, lexemes x.1.now)) result (reading.declared reading.read (lexemes tokens.now)) }
+    ensures reads { GivesReading (λ x. (stmt_tree x.0, lexemes x.1.now)) result (reading.declaration_after reading.read (lexemes tokens.now)) }
     ensures shorter { IfOk result (λ x. length x.1.now < length tokens.now) }
 {
     let (name, rest) = expect_name(alloc, tokens)?;

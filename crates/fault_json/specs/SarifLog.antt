@@ -8,7 +8,7 @@ use Rattle.code_check.specs.declared.fault.FaultKind.{FaultKind}
 use Rattle.code_check.specs.declared.fault.FaultKind.TheVariants as k
 use Rattle.sequence_trees.specs.declared.spot.Part.{Part}
 use Rattle.sequence_trees.specs.declared.spot.Spot.{Spot}
-use Rattle.text_lines.specs.Shown.{shown, dotted}
+use Rattle.text_lines.specs.Shown.{shown_text, dotted_numbers}
 use Rattle.check_lines.specs.Words.{kind_word, part_word}
 use Rattle.pack_faults.specs.declared.request.SetName.{SetName}
 use Rattle.pack_faults.specs.declared.answer.Found.{Found}
@@ -47,7 +47,7 @@ tool_data = one_member (codes "driver") (object (put (codes "rules") (list (map 
 -- the sequence, the step and its part, or the debug variables
 abbrev pub step_name : Option (List ℕ) → List ℕ → Part → List ℕ
 step_name None path part = codes "debugvars"
-step_name (Some name) path part = shown name ++ codes " " ++ dotted path ++ codes " " ++ part_word part
+step_name (Some name) path part = shown_text name ++ codes " " ++ dotted_numbers path ++ codes " " ++ part_word part
 
 -- a place in the pack, by its name: the sequence, the step and its part, or the debug variables
 abbrev pub logical_data : Spot → Data

@@ -3,7 +3,7 @@ use Rattle.std.specs.Prelude.{ℕ, List, [], ◌∷◌, ◌++◌, map, codes, Op
 use Rattle.serde_json.specs.Data.{Data, string, object, Members, no_members, put}
 use Rattle.serde_json.specs.Written.{compact_text}
 use Rattle.sequence_trees.specs.declared.spot.Spot.{Spot}
-use Rattle.text_lines.specs.Shown.{shown}
+use Rattle.text_lines.specs.Shown.{shown_text}
 use Rattle.set_warnings.specs.declared.warning.WarningKind.{WarningKind}
 use Rattle.set_warnings.specs.declared.warning.WarningKind.TheVariants as k
 use Rattle.pack_faults.specs.declared.request.SetName.{SetName}
@@ -37,7 +37,7 @@ warned_tool = one_member (codes "driver") (object (put (codes "rules") (list all
 -- a sequence itself
 abbrev pub sequence_name : Option (List ℕ) → List ℕ
 sequence_name None = []
-sequence_name (Some name) = shown name
+sequence_name (Some name) = shown_text name
 
 -- the sequence, the step and its part; of a sequence itself, which no path leads into, its name
 abbrev pub name_along : List ℕ → Spot → List ℕ

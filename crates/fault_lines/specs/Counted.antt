@@ -6,8 +6,8 @@ abbrev pub count_words : ℕ → List ℕ → List ℕ → List ℕ
 count_words n one many = decimal n ++ (if n == 1 then one else many)
 
 -- so many sets of which this was not checked; nothing where there is none
-abbrev pub unchecked : List ℕ → ℕ → List ℕ → List ℕ
-unchecked what n how = if n == 0 then [] else what ++ count_words n (codes " set") (codes " sets") ++ how
+abbrev pub unchecked_sets : List ℕ → ℕ → List ℕ → List ℕ
+unchecked_sets what n how = if n == 0 then [] else what ++ count_words n (codes " set") (codes " sets") ++ how
 
 -- the faults, the devices and the sets that were checked
 abbrev pub checked_words : ℕ → ℕ → ℕ → List ℕ
@@ -17,7 +17,8 @@ checked_words faults devices sets =
 
 -- the sets whose names were not checked, and those whose calls were not all checked
 abbrev pub unchecked_words : ℕ → ℕ → List ℕ
-unchecked_words unread unreached = unchecked (codes "; names of ") unread (codes " not checked") ++ unchecked (codes "; calls of ") unreached (codes " not all checked")
+unchecked_words unread unreached =
+    unchecked_sets (codes "; names of ") unread (codes " not checked") ++ unchecked_sets (codes "; calls of ") unreached (codes " not all checked")
 
 -- the last line
 abbrev pub counts_line : ℕ → ℕ → ℕ → ℕ → ℕ → List ℕ

@@ -3,7 +3,7 @@ use Rattle.std.specs.Prelude.{ℕ, List, [], ◌∷◌, ◌++◌, length, slice_
 use Rattle.std.specs.List.{flat_map}
 use Rattle.code_check.specs.declared.fault.FaultKind.{FaultKind}
 use Rattle.code_check.specs.declared.fault.FaultKind.TheVariants as k
-use Rattle.text_lines.specs.Shown.{shown}
+use Rattle.text_lines.specs.Shown.{shown_text}
 use Rattle.check_lines.specs.CheckLines.{fault_words}
 use Rattle.pack_faults.specs.declared.request.SetName.{SetName}
 use Rattle.pack_faults.specs.declared.answer.Found.{Found}
@@ -39,7 +39,7 @@ name_in_found found = name_if found.fault.kind found.line found.fault.spot.place
 -- a blank and the name, where there is one
 abbrev pub after_blank : Option (List ℕ) → List ℕ
 after_blank None = []
-after_blank (Some name) = codes " " ++ shown name
+after_blank (Some name) = codes " " ++ shown_text name
 
 -- what is wrong, where, and the name that it is about
 abbrev pub first_words : Found → List ℕ
@@ -58,7 +58,7 @@ caret_lines (Some line) column = place_lines line column
 
 -- a device, and the variant and the processor where there is one
 abbrev pub set_words : SetName → List ℕ
-set_words set = shown set.device ++ after_blank set.variant ++ after_blank set.pname
+set_words set = shown_text set.device ++ after_blank set.variant ++ after_blank set.pname
 
 -- the same, where there is such a set
 abbrev pub words_if : Option SetName → List ℕ

@@ -2,7 +2,7 @@
 use Rattle.std.specs.Prelude.{ℕ, List, [], ◌∷◌, ◌++◌, length, codes, Option, None, Some}
 use Rattle.std.specs.List.{flat_map}
 use Rattle.sequence_trees.specs.declared.spot.Spot.{Spot}
-use Rattle.text_lines.specs.Shown.{shown}
+use Rattle.text_lines.specs.Shown.{shown_text}
 use Rattle.check_lines.specs.CheckLines as check
 use Rattle.check_lines.specs.CheckLines.{where_words}
 use Rattle.set_warnings.specs.declared.warning.WarningKind.{WarningKind}
@@ -26,7 +26,7 @@ warning_kind_word k.LongWait = codes "LongWait"
 -- a sequence itself
 abbrev pub sequence_words : Option (List ℕ) → List ℕ
 sequence_words None = []
-sequence_words (Some name) = codes " " ++ shown name
+sequence_words (Some name) = codes " " ++ shown_text name
 
 -- the sequence, the step, its part and the place in it; of a sequence itself, which no path leads into, its name alone
 abbrev pub words_along : List ℕ → Spot → List ℕ

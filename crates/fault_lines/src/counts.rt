@@ -1,7 +1,7 @@
 //! The last line: how many faults there are, and what was checked.
 ghost use Rattle.std.specs.Prelude.{◌≡◌, ◌++◌, codes, IfOk};
 ghost use Rattle.fault_lines.specs.Counted as lines;
-ghost use Rattle.fault_lines.specs.Counted.{count_words, unchecked, checked_words, unchecked_words};
+ghost use Rattle.fault_lines.specs.Counted.{count_words, unchecked_sets, checked_words, unchecked_words};
 
 use dap_base::OutOfMemory;
 use std::alloc::Global;
@@ -17,7 +17,7 @@ fn with_counted(line: Line, number: u64, one: &str, many: &str) -> Result<Line, 
 
 // So many sets of which this was not checked, if there is one.
 fn with_unchecked(line: Line, what: &str, number: u64, how: &str) -> Result<Line, OutOfMemory>
-    ensures { IfOk result (λ l. l ≡ line ++ unchecked what.now number how.now) }
+    ensures { IfOk result (λ l. l ≡ line ++ unchecked_sets what.now number how.now) }
 {
     if number == 0 {
         return Ok(line);

@@ -5,7 +5,7 @@ use Rattle.json_form.specs.declared.fault.JobFault.{JobFault}
 use Rattle.json_form.specs.declared.fault.JobFault.TheVariants as faults
 use Rattle.dap_base.specs.Outcome.{◌>>=◌}
 use Rattle.json_form.specs.Form.{HasOnly, Has}
-use Rattle.json_form.specs.Reading.{only_keys, required}
+use Rattle.json_form.specs.Reading.{only_keys, required_value}
 use Rattle.device_tree.specs.declared.pack.Pack.{Pack}
 use Rattle.device_tree.specs.PackForm.{IsPack}
 use Rattle.device_tree.specs.PackReading.{pack_in}
@@ -30,7 +30,7 @@ DescribesPack bytes pack = (d : Data) × IsJsonText bytes d × HasPack d pack
 unfoldable pub pack_in_job : Data → Result Pack JobFault
 pack_in_job d = do
   known ← only_keys job_keys d
-  required (codes "pack") pack_in d
+  required_value (codes "pack") pack_in d
 
 -- the bytes are the text of no value, or this is its first fault
 abbrev pub NoPack : List ℕ → Refusal → Type 0

@@ -1,7 +1,7 @@
 -- A block of writes of DRW.
 use Rattle.std.proofs.Common.{◌≡◌, eqb, leb, ℕ, ◌+◌, ◌*◌, ◌&&◌, ◌||◌, not, Bool, true, false, cond, List, [], ◌∷◌, ◌++◌, length, take, refl, ap, sym, ◌∙◌, arith, suc, zero, subst, IsTrue}
 use Rattle.std.specs.Prelude.{bit_and}
-use Rattle.std.proofs.lemmas.Bool.{eq-eqb, eqb-true, and_parts}
+use Rattle.std.proofs.lemmas.Bool.{eq-eqb, eqb-true, and_parts, not-true}
 use Rattle.target_machine.specs.declared.access.RegAccess.{RegAccess}
 use Rattle.dap_messages.specs.declared.request.Request.{Request}
 use Rattle.dap_messages.specs.declared.request.Response.{Response}
@@ -9,10 +9,10 @@ use Rattle.dap_messages.specs.declared.request.Response.TheVariants.{Good, Wait,
 use Rattle.dap_messages.specs.Replies.{Answers, may_end_block}
 use Rattle.dap_messages.specs.Requests.{reads_in}
 use Rattle.dap_messages.specs.Responses.{code_of, response_of}
-use Rattle.dap_transfer.specs.Block.{blocked, writes_of}
+use Rattle.dap_transfer.specs.Block.{block_result, writes_of}
 use Rattle.dap_transfer.specs.CommandEnds.{Ends, EndsAt, in_doubt, may_be_free, writes_ap}
 use Rattle.dap_transfer.specs.State.{TransferState, Transferred}
-use Rattle.dap_transfer.specs.Transfer.{transferred}
+use Rattle.dap_transfer.specs.Transfer.{transfer_result}
 use Rattle.dap_transfer.proofs.BlockTransfers.{block_is_transfer}
 use Rattle.dap_transfer.proofs.CommandEnds.{command_ends}
 use Rattle.dap_transfer.proofs.Words.{reads_first}
@@ -30,15 +30,11 @@ use Rattle.dap_base.proofs.Basics.{no_items}
 drw_request : (a : RegAccess) → writes_drw a ≡ true → (a.ap ≡ true) × (request_of a ≡ record { byte = 0x0D; word = a.value })
 drw_request a e =
     let parts = three_parts a.ap (not a.read) (eqb (bit_and a.addr 12) 12) e in
-    let write : a.read ≡ false = not_true a.read parts.1 in
+    let write : a.read ≡ false = not-true a.read parts.1 in
     let addr : bit_and a.addr 12 ≡ 12 = eqb-true (bit_and a.addr 12) 12 parts.2 in (
       parts.0,
       (λ i. cond (write i) (record { byte = cond (parts.0 i) 1 0 + 2 + bit_and a.addr 12; word = 0 }) (record { byte = cond (parts.0 i) 1 0 + 0 + addr i; word = a.value })),
     )
-  where
-    not_true : (b : Bool) → not b ≡ true → b ≡ false
-    not_true true f = absurd (cc)
-    not_true false f = refl
 
 no_check : (w : Bool) (a : RegAccess) (rs : List Request) → a.ap ≡ true → check_when (w && may_be_free a) ++ rs ≡ rs
 no_check w a rs e = ap (λ b. check_when (w && (not b && cond a.read (eqb a.addr 0 || eqb a.addr 4) (eqb a.addr 0))) ++ rs) e ∙ by_write w
@@ -77,8 +73,8 @@ abbrev BlockBy : TransferState → List RegAccess → List ℕ → Transferred �
 BlockBy p accesses words d = DoesPart p d.next accesses (part_of (take d.executed (requests_for false accesses)) d.response words) × (d.next.mask ≡ p.mask)
 
 is_block : (p : TransferState) (a : RegAccess) (rest : List RegAccess) → all_write_drw (a ∷ rest) ≡ true →
-    transferred p (requests_for false (a ∷ rest)) ≡ blocked p 0x0D (words_of (a ∷ rest))
-is_block p a rest e = ap (transferred p) (drw_requests false (a ∷ rest) e) ∙ block_is_transfer p 0x0D a.value (words_of rest) refl
+    transfer_result p (requests_for false (a ∷ rest)) ≡ block_result p 0x0D (words_of (a ∷ rest))
+is_block p a rest e = ap (transfer_result p) (drw_requests false (a ∷ rest) e) ∙ block_is_transfer p 0x0D a.value (words_of rest) refl
 
 ends_as_transfer : (p : TransferState) (accesses : List RegAccess) → AreTaken accesses → p.line.target.sticky ≡ false → Ends p (requests_for false accesses)
 ends_as_transfer p accesses taken clear = command_ends p (requests_for false accesses) (are_normal false accesses) (all_guarded accesses taken) clear
@@ -87,7 +83,7 @@ some_block : (p : TransferState) (a : RegAccess) (rest : List RegAccess) → all
 some_block p a rest e clear =
     let accesses : List RegAccess = a ∷ rest in
     let rs : List Request = requests_for false accesses in
-    let d : Transferred = transferred p rs in
+    let d : Transferred = transfer_result p rs in
     let taken : AreTaken accesses = drw_taken accesses e in
     let ends : EndsAt p.line.target false false rs (length d.words) d.executed d.response (in_doubt d) = ends_as_transfer p accesses taken clear in
     let none : reads_in (take d.executed rs) ≡ 0 = ap (λ xs. reads_in (take d.executed xs)) (drw_requests false accesses e) ∙ no_reads d.executed (words_of accesses) in
@@ -114,19 +110,19 @@ block_may Fault n m whole never = refl
 block_may Mismatch n m whole never = absurd (never refl)
 
 some_answers : (p : TransferState) (a : RegAccess) (rest : List RegAccess) → all_write_drw (a ∷ rest) ≡ true → p.line.target.sticky ≡ false →
-    Answers (block_command (a ∷ rest)) (block_answer (blocked p 0x0D (words_of (a ∷ rest))))
+    Answers (block_command (a ∷ rest)) (block_answer (block_result p 0x0D (words_of (a ∷ rest))))
 some_answers p a rest e clear =
     let accesses : List RegAccess = a ∷ rest in
     let words : List ℕ = words_of accesses in
     let rs : List Request = requests_for false accesses in
-    let d : Transferred = transferred p rs in
+    let d : Transferred = transfer_result p rs in
     let ends : EndsAt p.line.target false false rs (length d.words) d.executed d.response (in_doubt d) = ends_as_transfer p accesses (drw_taken accesses e) clear in
     let count : length rs ≡ length words = ap length (drw_requests false accesses e) ∙ length_writes words in
     subst (λ (x : Transferred). Answers (block_command accesses) (block_answer x)) (is_block p a rest e)
     ((let m = ends.most in omega arith), block_may d.response d.executed (length words) (λ f. ends.whole f ∙ count) ends.never)
 
 pub block_answers : (p : TransferState) (size : ℕ) (accesses : List RegAccess) → fits_block size accesses ≡ true → p.line.target.sticky ≡ false →
-    Answers (block_command accesses) (block_answer (blocked p 0x0D (words_of accesses)))
+    Answers (block_command accesses) (block_answer (block_result p 0x0D (words_of accesses)))
 block_answers p size [] e clear = absurd (cc)
 block_answers p size (a ∷ rest) e clear =
     let all = three_parts (leb 2 (length (a ∷ rest))) (all_write_drw (a ∷ rest)) (leb (5 + 4 * length (a ∷ rest)) size) e in

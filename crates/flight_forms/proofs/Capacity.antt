@@ -8,7 +8,7 @@ use Rattle.dap_messages.specs.declared.request.Request.{Request}
 use Rattle.dap_messages.specs.Requests.{reads_in}
 use Rattle.flight_forms.specs.declared.form.Form.{Form}
 use Rattle.flight_forms.specs.declared.form.Form.TheVariants.{Block, Transfer, Chain}
-use Rattle.flight_forms.specs.Forms.{all_write_drw, bytes_in, capacity, filled, fits_block, fits_chain, fits_guarded, fits_transfer, form_of, parts_of}
+use Rattle.flight_forms.specs.Forms.{all_write_drw, bytes_in, capacity, filled_parts, fits_block, fits_chain, fits_guarded, fits_transfer, form_of, parts_of}
 use Rattle.flight_forms.specs.Packing.{requests_for}
 use Rattle.flight_forms.proofs.RequestSizes.{few_for, three_from, three_parts}
 
@@ -56,7 +56,7 @@ full_part size part a least small e =
 abbrev pub AreFull : ℕ → ℕ → List (List RegAccess) → Type 0
 AreFull size n parts = (1 ≤ length parts) × (per_part size * length parts < n + per_part size)
 
-pub full_parts : (size : ℕ) (part rest : List RegAccess) → 21 ≤ size → size ≤ 1024 → 1 ≤ length part → AreFull size (length part + length rest) (filled size part rest)
+pub full_parts : (size : ℕ) (part rest : List RegAccess) → 21 ≤ size → size ≤ 1024 → 1 ≤ length part → AreFull size (length part + length rest) (filled_parts size part rest)
 full_parts size part [] least small some = (omega arith, (let a = mul-suc (per_part size) 0 in omega arith))
 full_parts size part (a ∷ rest) least small some =
     let n = length-append part (a ∷ []) in
@@ -65,13 +65,13 @@ full_parts size part (a ∷ rest) least small some =
     m : ℕ
     m = per_part size
 
-    by_fit : (b : Bool) → fits_guarded size (part ++ a ∷ []) ≡ b → AreFull size (length (part ++ a ∷ []) + length rest) (filled size (part ++ a ∷ []) rest) →
-        AreFull size (1 + length rest) (filled size (a ∷ []) rest) →
-        AreFull size (length part + suc (length rest)) (cond b (filled size (part ++ a ∷ []) rest) (part ∷ filled size (a ∷ []) rest))
+    by_fit : (b : Bool) → fits_guarded size (part ++ a ∷ []) ≡ b → AreFull size (length (part ++ a ∷ []) + length rest) (filled_parts size (part ++ a ∷ []) rest) →
+        AreFull size (1 + length rest) (filled_parts size (a ∷ []) rest) →
+        AreFull size (length part + suc (length rest)) (cond b (filled_parts size (part ++ a ∷ []) rest) (part ∷ filled_parts size (a ∷ []) rest))
     by_fit true e longer shorter = (let n = length-append part (a ∷ []) in (longer.0, (let h = longer.1 in omega arith)))
     by_fit false e longer shorter =
         let full : per_part size ≤ length part = full_part size part a least small e in
-        let more = mul-suc (per_part size) (length (filled size (a ∷ []) rest)) in
+        let more = mul-suc (per_part size) (length (filled_parts size (a ∷ []) rest)) in
         (omega arith, (let h = shorter.1 in omega arith))
 
 parts_full : (size : ℕ) (accesses : List RegAccess) → 21 ≤ size → size ≤ 1024 → 1 ≤ length accesses → per_part size * length (parts_of size accesses) < length accesses + per_part size
@@ -151,15 +151,15 @@ guarded_most size accesses e =
     let some = few_for false accesses in
     (let s = some.some in omega arith)
 
-filled_most : (size : ℕ) (part rest : List RegAccess) → 64 ≤ size → size ≤ 1024 → length part ≤ 251 → length part + length rest ≤ 251 * length (filled size part rest)
+filled_most : (size : ℕ) (part rest : List RegAccess) → 64 ≤ size → size ≤ 1024 → length part ≤ 251 → length part + length rest ≤ 251 * length (filled_parts size part rest)
 filled_most size part [] least small few = omega arith
 filled_most size part (a ∷ rest) least small few =
     by_fit (fits_guarded size (part ++ a ∷ [])) refl (λ h. filled_most size (part ++ a ∷ []) rest least small h) (filled_most size (a ∷ []) rest least small (omega arith))
   where
     by_fit : (b : Bool) → fits_guarded size (part ++ a ∷ []) ≡ b →
-        (length (part ++ a ∷ []) ≤ 251 → length (part ++ a ∷ []) + length rest ≤ 251 * length (filled size (part ++ a ∷ []) rest)) →
-        1 + length rest ≤ 251 * length (filled size (a ∷ []) rest) →
-        length part + suc (length rest) ≤ 251 * length (cond b (filled size (part ++ a ∷ []) rest) (part ∷ filled size (a ∷ []) rest))
+        (length (part ++ a ∷ []) ≤ 251 → length (part ++ a ∷ []) + length rest ≤ 251 * length (filled_parts size (part ++ a ∷ []) rest)) →
+        1 + length rest ≤ 251 * length (filled_parts size (a ∷ []) rest) →
+        length part + suc (length rest) ≤ 251 * length (cond b (filled_parts size (part ++ a ∷ []) rest) (part ∷ filled_parts size (a ∷ []) rest))
     by_fit true e longer shorter =
         let n = length-append part (a ∷ []) in
         let more = longer (guarded_most size (part ++ a ∷ []) e) in

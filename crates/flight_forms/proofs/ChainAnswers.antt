@@ -12,14 +12,14 @@ use Rattle.dap_messages.specs.Replies.{Answers, AnswersTransfer}
 use Rattle.dap_messages.specs.Requests.{mask_request, reads_in, write_after}
 use Rattle.dap_messages.specs.Responses.{code_of}
 use Rattle.target_machine.specs.Counts.{one_if}
-use Rattle.dap_transfer.specs.CommandEnds.{EndsAt, counted_from, doubted, masked_by, posted_last}
+use Rattle.dap_transfer.specs.CommandEnds.{EndsAt, counted_from, is_doubted, masked_by, posted_last}
 use Rattle.dap_transfer.specs.Laws.{AreNormal}
 use Rattle.dap_transfer.specs.State.{TransferState, Transferred}
-use Rattle.dap_transfer.specs.Transfer.{transferred}
+use Rattle.dap_transfer.specs.Transfer.{transfer_result}
 use Rattle.dap_transfer.proofs.CommandEnds.{command_ends}
 use Rattle.flight_forms.specs.Chains.{AllTaken, IsGuardOpen, IsGuardShut, LeavesGuard, chain_replies, guarded_part}
 use Rattle.flight_forms.specs.Packets.{AnswerChain, guarded_command, transfer_answer}
-use Rattle.flight_forms.specs.Packing.{AreTaken, AreWords, guarded, guarded_requests, payload, write_at_end}
+use Rattle.flight_forms.specs.Packing.{AreTaken, AreWords, with_guards, guarded_requests, payload, write_at_end}
 use Rattle.flight_forms.proofs.AskedRequests.{are_guarded, payload_checked, payload_normal}
 use Rattle.flight_forms.proofs.Chains.{shut_now}
 use Rattle.flight_forms.proofs.Guarded.{DoesGuarded, does_guarded, guarded_is}
@@ -33,23 +33,23 @@ AnswersBy rs d = AnswersTransfer rs d.executed (code_of d.response) d.words
 by_response : (x y : Response) (rs : List Request) (n : ℕ) (words : List ℕ) → y ≡ x → AnswersTransfer rs n (code_of x) words → AnswersTransfer rs n (code_of y) words
 by_response x y rs n words e h = subst (λ z. AnswersTransfer rs n (code_of z) words) (sym e) h
 
-cut_counted : (t : TargetState) (rs : List Request) (d : Transferred) → AreNormal rs → (AnswersTransfer (guarded rs) (suc (suc d.executed)) (code_of d.response) d.words) →
-    AnswersBy (guarded rs) (counted_from 2 d)
-cut_counted t rs d normal h = let same : suc (suc d.executed) ≡ 2 + d.executed = omega arith in subst (λ n. AnswersTransfer (guarded rs) n (code_of d.response) d.words) same h
+cut_counted : (t : TargetState) (rs : List Request) (d : Transferred) → AreNormal rs → (AnswersTransfer (with_guards rs) (suc (suc d.executed)) (code_of d.response) d.words) →
+    AnswersBy (with_guards rs) (counted_from 2 d)
+cut_counted t rs d normal h = let same : suc (suc d.executed) ≡ 2 + d.executed = omega arith in subst (λ n. AnswersTransfer (with_guards rs) n (code_of d.response) d.words) same h
 
 -- with the guard counted, by how the requests after it ended
 answers_by : (x : Response) (t : TargetState) (rs : List Request) (d : Transferred) → d.response ≡ x → AreNormal rs → write_after false rs ≡ false →
-    AllByRecursion IsWord d.words → EndsAt t false false rs (length d.words) d.executed d.response (doubted d.response d.next.pending) →
-    AnswersBy (guarded rs) (counted_from 2 (masked_by x d 0))
+    AllByRecursion IsWord d.words → EndsAt t false false rs (length d.words) d.executed d.response (is_doubted d.response d.next.pending) →
+    AnswersBy (with_guards rs) (counted_from 2 (masked_by x d 0))
 answers_by Good t rs d e normal checked fits ends =
     let all : d.executed ≡ length rs = ends.whole e in
-    let sure : doubted d.response d.next.pending ≡ false = ap (λ y. doubted y d.next.pending) e in
-    let none : one_if (doubted d.response d.next.pending && posted_last false (take d.executed rs)) ≡ 0 = ap (λ b. one_if (b && posted_last false (take d.executed rs))) sure in
+    let sure : is_doubted d.response d.next.pending ≡ false = ap (λ y. is_doubted y d.next.pending) e in
+    let none : one_if (is_doubted d.response d.next.pending && posted_last false (take d.executed rs)) ≡ 0 = ap (λ b. one_if (b && posted_last false (take d.executed rs))) sure in
     let whole : reads_in (take d.executed rs) ≡ reads_in rs = ap (λ n. reads_in (take n rs)) all ∙ ap reads_in (take-length rs) in
     let count : length d.words ≡ reads_in rs = (let h = ends.words in omega arith) in
-    let size : length (guarded rs) ≡ 2 + (d.executed + 1) = (let a = length-append rs (mask_request 0 ∷ []) in omega arith) in
-    by_response Good d.response (guarded rs) (2 + (d.executed + 1)) d.words e
-    (subst (λ n. AnswersTransfer (guarded rs) n 1 d.words) size (answers_whole rs d.words fits count))
+    let size : length (with_guards rs) ≡ 2 + (d.executed + 1) = (let a = length-append rs (mask_request 0 ∷ []) in omega arith) in
+    by_response Good d.response (with_guards rs) (2 + (d.executed + 1)) d.words e
+    (subst (λ n. AnswersTransfer (with_guards rs) n 1 d.words) size (answers_whole rs d.words fits count))
 answers_by Wait t rs d e normal checked fits ends =
     cut_counted t rs d normal (answers_cut t rs d.executed d.response d.next.pending d.words normal checked fits ends (λ f. (let g = sym e ∙ f in cc)))
 answers_by Fault t rs d e normal checked fits ends =
@@ -58,21 +58,21 @@ answers_by Mismatch t rs d e normal checked fits ends = absurd (ends.never e)
 
 -- the reply to one guarded command
 pub guarded_answers : (p : TransferState) (accesses : List RegAccess) → AreTaken accesses → AreWords accesses → IsGuardOpen p → IsInRange p.line.target →
-    Answers (guarded_command accesses) (transfer_answer (transferred p (guarded_requests accesses)))
+    Answers (guarded_command accesses) (transfer_answer (transfer_result p (guarded_requests accesses)))
 guarded_answers p accesses taken ranges opened h =
     let rs : List Request = payload accesses in
     let q : TransferState = record p { mask = 1 } in
-    let d : Transferred = transferred q rs in
+    let d : Transferred = transfer_result q rs in
     let normal : AreNormal rs = payload_normal accesses in
     let ends = command_ends q rs normal (are_guarded false (write_at_end false accesses) accesses taken) opened.clear in
-    subst (AnswersBy (guarded rs)) (sym (guarded_is p accesses opened))
+    subst (AnswersBy (with_guards rs)) (sym (guarded_is p accesses opened))
     (answers_by d.response p.line.target rs d refl normal (payload_checked accesses) (words_in_range q rs normal h (payload_words accesses ranges)) ends)
 
 -- and to those that are not let in
 shut_answers : (q : TransferState) (parts : List (List RegAccess)) → IsGuardShut q → AnswerChain parts (chain_replies q parts)
 shut_answers q [] shut = tt
 shut_answers q (accesses ∷ parts) shut =
-    let d : Transferred = transferred q (guarded_requests accesses) in
+    let d : Transferred = transfer_result q (guarded_requests accesses) in
     let is = shut_now q accesses shut in
     let next : d.next ≡ q = ap (λ (x : Transferred). x.next) is in (
       subst (AnswersBy (guarded_requests accesses)) (sym is) (answers_shut (payload accesses)),
@@ -94,7 +94,7 @@ pub chain_answers : (p : TransferState) (parts : List (List RegAccess)) → AllT
     AnswerChain parts (chain_replies p parts)
 chain_answers p [] taken ranges opened h = tt
 chain_answers p (accesses ∷ parts) taken ranges opened h =
-    let d : Transferred = transferred p (guarded_requests accesses) in
+    let d : Transferred = transfer_result p (guarded_requests accesses) in
     let one : DoesGuarded p accesses = does_guarded p accesses taken.0 opened in
     let part = one.part in
     let made = part.made in

@@ -9,8 +9,8 @@ use Rattle.dap_messages.specs.declared.request.Response.TheVariants.{Good, Wait,
 use Rattle.dap_messages.specs.Requests.{mask_request}
 use Rattle.target_machine.specs.Counts.{one_if}
 use Rattle.dap_transfer.specs.Laws.{one_at_a_time}
-use Rattle.dap_transfer.specs.State.{Setting, TransferState, Transferred, grown, is_wait}
-use Rattle.dap_transfer.specs.Transfer.{transferred}
+use Rattle.dap_transfer.specs.State.{Setting, TransferState, Transferred, grown_work, is_wait}
+use Rattle.dap_transfer.specs.Transfer.{transfer_result}
 use Rattle.dap_transfer.proofs.Guards.{match_shuts}
 use Rattle.dap_transfer.proofs.Prefix.{good_or_not}
 use Rattle.flight_forms.specs.Packing.{guarded_requests, payload}
@@ -19,7 +19,7 @@ use Rattle.flight_forms.specs.Chains.{AllTaken, CutAs, DoesChain, IsCutOnce, IsG
 use Rattle.flight_forms.proofs.Guarded.{DoesGuarded, does_guarded, leaves_by}
 use Rattle.flight_forms.proofs.Rows.{clear-append, good_whole, one-append, slots-append, take_after, take_all, take_front}
 
-grown_twice : (w v a b : ℕ) → v ≡ grown w a → grown v b ≡ grown w (a + b)
+grown_twice : (w v a b : ℕ) → v ≡ grown_work w a → grown_work v b ≡ grown_work w (a + b)
 grown_twice w v a b e = omega arith
 
 no_wait_one : (x : Response) → x ≡ Good → one_if (is_wait x) ≡ 0
@@ -91,7 +91,7 @@ part_front p q xs ys a bad h =
       over = h.over;
     }
 
-pub shut_now : (q : TransferState) (accesses : List RegAccess) → IsGuardShut q → transferred q (guarded_requests accesses) ≡ record { executed = 0; response = Mismatch; words = []; next = q }
+pub shut_now : (q : TransferState) (accesses : List RegAccess) → IsGuardShut q → transfer_result q (guarded_requests accesses) ≡ record { executed = 0; response = Mismatch; words = []; next = q }
 shut_now q accesses shut =
     match_shuts q 0 (mask_request 1 ∷ payload accesses ++ mask_request 0 ∷ []) shut.matches (ap (λ m. eqb (bit_and q.line.target.dpidr m) 0) shut.mask ∙ shut.dpidr)
 
@@ -99,7 +99,7 @@ shut_now q accesses shut =
 pub all_shut : (q : TransferState) (parts : List (List RegAccess)) → IsGuardShut q → AllByRecursion IsShut (chain_replies q parts) × (chain_after q parts ≡ q)
 all_shut q [] shut = (tt, refl)
 all_shut q (accesses ∷ parts) shut =
-    let d : Transferred = transferred q (guarded_requests accesses) in
+    let d : Transferred = transfer_result q (guarded_requests accesses) in
     let is = shut_now q accesses shut in
     let next : d.next ≡ q = ap (λ (x : Transferred). x.next) is in
     let rest = all_shut q parts shut in (
@@ -151,7 +151,7 @@ ChainBy x p r accesses a b replies rest = DoesPart p r accesses (joined_as x a b
 pub does_chain : (p : TransferState) (parts : List (List RegAccess)) → AllTaken parts → IsGuardOpen p → DoesChain p parts
 does_chain p [] taken opened = record { part = none_done p opened.clear; guard = opened; cut = tt }
 does_chain p (accesses ∷ parts) taken opened =
-    let d : Transferred = transferred p (guarded_requests accesses) in
+    let d : Transferred = transfer_result p (guarded_requests accesses) in
     let one : DoesGuarded p accesses = does_guarded p accesses taken.0 opened in
     let a : Part = guarded_part accesses d in
     let replies : List Transferred = chain_replies d.next parts in

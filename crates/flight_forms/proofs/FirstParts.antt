@@ -4,7 +4,7 @@ use Rattle.std.proofs.lemmas.List.{length-take-le}
 use Rattle.target_machine.specs.declared.access.RegAccess.{RegAccess}
 use Rattle.dap_transfer.specs.CommandEnds.{may_be_free, writes_ap}
 use Rattle.flight_forms.specs.declared.size.Tally.{Tally}
-use Rattle.flight_forms.specs.Forms.{filled, fits_guarded, parts_of}
+use Rattle.flight_forms.specs.Forms.{filled_parts, fits_guarded, parts_of}
 use Rattle.flight_forms.specs.Packing.{requests_for}
 use Rattle.flight_forms.specs.Sizes.{Counts, ends_in_ap_write, no_tally, tally_fits_guarded, with_access}
 use Rattle.flight_forms.proofs.SizeLemmas.{alone_counted, counts_more, fits_by, write_more}
@@ -15,7 +15,7 @@ pub record IsFilling (size i : ℕ) (accesses : List RegAccess) (t : Tally) (aft
   pub within : i ≤ length accesses
   pub write : after_write ≡ ends_in_ap_write (take i accesses)
   pub counts : Counts (requests_for false (take i accesses)) t
-  pub parts : parts_of size accesses ≡ filled size (take i accesses) (drop i accesses)
+  pub parts : parts_of size accesses ≡ filled_parts size (take i accesses) (drop i accesses)
 
 -- the access at a place, between those before and those after it
 pub place_split : (accesses : List RegAccess) (i : ℕ) (d : RegAccess) → i < length accesses →
@@ -63,9 +63,9 @@ filling_goes_on size i accesses d t more w checked u few inside h is more_is fit
       write = u_is ∙ sym (write_more false (take i accesses) a) ∙ ap ends_in_ap_write (sym split.1);
       counts = subst (λ (xs : List RegAccess). Counts (requests_for false xs) more) (sym split.1) counts;
       parts =
-          h.parts ∙ ap (filled size (take i accesses)) split.0
-          ∙ ap (λ b. cond b (filled size (take i accesses ++ a ∷ []) (drop (i + 1) accesses)) (take i accesses ∷ filled size (a ∷ []) (drop (i + 1) accesses))) takes
-          ∙ ap (λ xs. filled size xs (drop (i + 1) accesses)) (sym split.1);
+          h.parts ∙ ap (filled_parts size (take i accesses)) split.0
+          ∙ ap (λ b. cond b (filled_parts size (take i accesses ++ a ∷ []) (drop (i + 1) accesses)) (take i accesses ∷ filled_parts size (a ∷ []) (drop (i + 1) accesses))) takes
+          ∙ ap (λ xs. filled_parts size xs (drop (i + 1) accesses)) (sym split.1);
     }
 
 pub filling_stops : (size i : ℕ) (accesses : List RegAccess) (d : RegAccess) (t more : Tally) (w checked : Bool) → length accesses < 65535 → i < length accesses → IsFilling size i accesses t w →
@@ -76,8 +76,8 @@ filling_stops size i accesses d t more w checked few inside h is more_is fits =
     let split = place_split accesses i d inside in
     let counts : Counts (requests_for false (take i accesses ++ a ∷ [])) more = more_counts size i accesses d t more w checked few inside h is more_is in
     let refuses : fits_guarded size (take i accesses ++ a ∷ []) ≡ false = sym (fits_by size (take i accesses ++ a ∷ []) more counts) ∙ fits in
-    h.parts ∙ ap (filled size (take i accesses)) split.0
-    ∙ ap (λ b. cond b (filled size (take i accesses ++ a ∷ []) (drop (i + 1) accesses)) (take i accesses ∷ filled size (a ∷ []) (drop (i + 1) accesses))) refuses
+    h.parts ∙ ap (filled_parts size (take i accesses)) split.0
+    ∙ ap (λ b. cond b (filled_parts size (take i accesses ++ a ∷ []) (drop (i + 1) accesses)) (take i accesses ∷ filled_parts size (a ∷ []) (drop (i + 1) accesses))) refuses
     ∙ ap (λ xs. take i accesses ∷ parts_of size xs) (sym split.0)
 
 past_end : (n : ℕ) (accesses : List RegAccess) → length accesses ≤ n → drop n accesses ≡ []
@@ -91,6 +91,6 @@ pub filling_ends : (size i : ℕ) (accesses : List RegAccess) (t : Tally) (w : B
 filling_ends size i accesses t w h all =
     let same : i ≡ length accesses = (let m = h.within in omega arith) in
     let none : drop i accesses ≡ [] = past_end i accesses all in
-    h.parts ∙ ap (filled size (take i accesses)) none
+    h.parts ∙ ap (filled_parts size (take i accesses)) none
     ∙ ap (λ n. take n accesses ∷ []) same
     ∙ ap (λ xs. take (length accesses) accesses ∷ parts_of size xs) (sym (past_end (length accesses) accesses (omega arith)))

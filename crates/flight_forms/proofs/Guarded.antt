@@ -8,9 +8,9 @@ use Rattle.dap_messages.specs.declared.request.Request.{Request}
 use Rattle.dap_messages.specs.declared.request.Response.{Response}
 use Rattle.dap_messages.specs.declared.request.Response.TheVariants.{Good, Wait, Fault, Mismatch}
 use Rattle.dap_messages.specs.Requests.{mask_request}
-use Rattle.dap_transfer.specs.CommandEnds.{EndsAt, counted_from, in_doubt, masked, masked_by}
+use Rattle.dap_transfer.specs.CommandEnds.{EndsAt, counted_from, in_doubt, masked_result, masked_by}
 use Rattle.dap_transfer.specs.State.{Setting, TransferState, Transferred}
-use Rattle.dap_transfer.specs.Transfer.{transferred}
+use Rattle.dap_transfer.specs.Transfer.{transfer_result}
 use Rattle.dap_transfer.specs.Laws.{AreNormal, accesses_in}
 use Rattle.dap_transfer.proofs.CommandEnds.{command_ends}
 use Rattle.dap_transfer.proofs.Guards.{match_opens}
@@ -25,9 +25,9 @@ use Rattle.flight_forms.proofs.Rows.{clear_end, dpidr_stays, good_whole, take_pa
 use Rattle.flight_forms.proofs.Transfers.{part_asked}
 
 pub record DoesGuarded (p : TransferState) (accesses : List RegAccess) : Type 0 where
-  pub part : (let d = transferred p (guarded_requests accesses) in DoesPart p d.next accesses (guarded_part accesses d))
-  pub guard : (let d = transferred p (guarded_requests accesses) in LeavesGuard d.response d.next)
-  pub never : (transferred p (guarded_requests accesses)).response ≡ Mismatch → ⊥
+  pub part : (let d = transfer_result p (guarded_requests accesses) in DoesPart p d.next accesses (guarded_part accesses d))
+  pub guard : (let d = transfer_result p (guarded_requests accesses) in LeavesGuard d.response d.next)
+  pub never : (transfer_result p (guarded_requests accesses)).response ≡ Mismatch → ⊥
 
 abbrev GuardedBy : TransferState → List RegAccess → List Request → Transferred → Type 0
 GuardedBy p accesses rs d = DoesPart p d.next accesses (part_of (take (d.executed - 2) rs) d.response d.words) × LeavesGuard d.response d.next × (d.response ≡ Mismatch → ⊥)
@@ -85,7 +85,7 @@ guarded_by Mismatch p accesses rs d e opened whole mask part = absurd (let m = p
 -- The guard in front and the mask at the end of a command: two requests more are executed in front, and where it came to its end
 -- one more.
 pub guarded_is : (p : TransferState) (accesses : List RegAccess) → IsGuardOpen p →
-    transferred p (guarded_requests accesses) ≡ counted_from 2 (masked (transferred (record p { mask = 1 }) (payload accesses)) 0)
+    transfer_result p (guarded_requests accesses) ≡ counted_from 2 (masked_result (transfer_result (record p { mask = 1 }) (payload accesses)) 0)
 guarded_is p accesses opened =
     let rs : List Request = payload accesses in
     let hit : eqb (bit_and p.line.target.dpidr p.mask) 0 ≡ true =
@@ -98,7 +98,7 @@ does_guarded p accesses taken opened =
     let rs : List Request = payload accesses in
     let last = write_at_end false accesses in
     let q : TransferState = record p { mask = 1 } in
-    let d : Transferred = transferred q rs in
+    let d : Transferred = transfer_result q rs in
     let normal : AreNormal rs = payload_normal accesses in
     let guard_kept = are_guarded false last accesses taken in
     let follow : ChecksFollow false rs = checks_follow false false last accesses taken (λ e. e) (λ e. e) in
@@ -108,5 +108,5 @@ does_guarded p accesses taken opened =
     part_asked q d.next accesses part taken (subst (λ (xs : List RegAccess). DoesPart q d.next xs part) (accesses_asked false last accesses taken) does) in
     let ends : EndsAt q.line.target false false rs (length d.words) d.executed d.response (in_doubt d) = command_ends q rs normal guard_kept opened.clear in
     let by = guarded_by d.response p accesses rs d refl opened ends.whole (mask_stays q rs normal) here in
-    let whole : GuardedBy p accesses rs (transferred p (guarded_requests accesses)) = subst (GuardedBy p accesses rs) (sym (guarded_is p accesses opened)) by in
+    let whole : GuardedBy p accesses rs (transfer_result p (guarded_requests accesses)) = subst (GuardedBy p accesses rs) (sym (guarded_is p accesses opened)) by in
     record { part = whole.0; guard = whole.1; never = whole.2 }

@@ -13,8 +13,8 @@ use Rattle.dap_messages.specs.Replies.{AnswersTransfer, kind_at, last_is_posted,
 use Rattle.dap_transfer.specs.Laws.{AreNormal}
 use Rattle.dap_transfer.specs.Private.{word_of}
 use Rattle.dap_transfer.proofs.Words.{reads_first}
-use Rattle.dap_transfer.specs.CommandEnds.{EndsAt, posted_last, doubted}
-use Rattle.flight_forms.specs.Packing.{guarded}
+use Rattle.dap_transfer.specs.CommandEnds.{EndsAt, posted_last, is_doubted}
+use Rattle.flight_forms.specs.Packing.{with_guards}
 use Rattle.dap_transfer.proofs.NormalAnswers.{count_missing, missing_posted, next_waits, or_first}
 
 pub reads_masked : (rs : List Request) (v : ℕ) → reads_in (rs ++ mask_request v ∷ []) ≡ reads_in rs
@@ -38,7 +38,7 @@ kind_in_front n [] v h = absurd (omega arith)
 kind_in_front zero (r ∷ rs) v h = refl
 kind_in_front (suc n) (r ∷ rs) v h = kind_in_front n rs v (omega arith)
 
-guarded_posted : (doubt : Bool) (n : ℕ) (rs : List Request) → n ≤ length rs → (doubt && posted_last false (take n rs)) ≡ true → IsTrue (last_is_posted (guarded rs) (suc (suc n)))
+guarded_posted : (doubt : Bool) (n : ℕ) (rs : List Request) → n ≤ length rs → (doubt && posted_last false (take n rs)) ≡ true → IsTrue (last_is_posted (with_guards rs) (suc (suc n)))
 guarded_posted true zero rs h e = absurd (cc)
 guarded_posted true (suc n) rs h e = ap (passes is_posted) (kind_in_front n rs 0 (omega arith)) ∙ missing_posted true (suc n) rs h e
 guarded_posted false n rs h e = absurd (cc)
@@ -55,32 +55,32 @@ only_posted true false false d e f = absurd (cc)
 only_posted false posted w d e f = absurd (cc)
 
 guarded_stops : (t : TargetState) (rs : List Request) (given n : ℕ) (x : Response) (doubt : Bool) → AreNormal rs → write_after false rs ≡ false → EndsAt t false false rs given n x doubt → (x ≡ Good → ⊥) →
-    may_stop (progress_at (guarded rs) (suc (suc n))) (doubt && posted_last false (take n rs)) ≡ true
+    may_stop (progress_at (with_guards rs) (suc (suc n))) (doubt && posted_last false (take n rs)) ≡ true
 guarded_stops t rs given n x doubt normal checked ends bad = by_end (ltb n (length rs)) refl
   where
     missing : Bool
     missing = doubt && posted_last false (take n rs)
 
     next : Bool
-    next = passes (λ k. not (is_mask k)) (kind_at (guarded rs) (suc (suc n)))
+    next = passes (λ k. not (is_mask k)) (kind_at (with_guards rs) (suc (suc n)))
 
     last : Bool
-    last = eqb (suc (suc n)) (length (guarded rs)) && ends_in_write (guarded rs)
+    last = eqb (suc (suc n)) (length (with_guards rs)) && ends_in_write (with_guards rs)
 
-    at_end : n ≡ length rs → may_stop (progress_at (guarded rs) (suc (suc n))) missing ≡ true
+    at_end : n ≡ length rs → may_stop (progress_at (with_guards rs) (suc (suc n))) missing ≡ true
     at_end e =
         let sure : doubt ≡ true = ends.at_end bad e in
         let all : take n rs ≡ rs = ap (λ k. take k rs) e ∙ take-length rs in
         or_second next missing last (only_posted doubt (posted_last false (take n rs)) (write_after false (take n rs)) sure (ends.unseen sure) (ap (write_after false) all ∙ checked))
 
-    by_end : (b : Bool) → ltb n (length rs) ≡ b → may_stop (progress_at (guarded rs) (suc (suc n))) missing ≡ true
+    by_end : (b : Bool) → ltb n (length rs) ≡ b → may_stop (progress_at (with_guards rs) (suc (suc n))) missing ≡ true
     by_end true e =
         let below : n < length rs = ltb-true n (length rs) e in
         or_first next missing last (ap (passes (λ k. not (is_mask k))) (kind_in_front n rs 0 below) ∙ next_waits n rs normal below)
     by_end false e = at_end (let h = ltb-false n (length rs) e in let k = ends.most in omega arith)
 
-guarded_ends : (x : Response) (t : TargetState) (rs : List Request) (given n : ℕ) (pending : Bool) → AreNormal rs → write_after false rs ≡ false → EndsAt t false false rs given n x (doubted x pending) →
-    (x ≡ Good → ⊥) → IsTrue (may_end_by (response_of (code_of x)) (progress_at (guarded rs) (suc (suc n))) (doubted x pending && posted_last false (take n rs)))
+guarded_ends : (x : Response) (t : TargetState) (rs : List Request) (given n : ℕ) (pending : Bool) → AreNormal rs → write_after false rs ≡ false → EndsAt t false false rs given n x (is_doubted x pending) →
+    (x ≡ Good → ⊥) → IsTrue (may_end_by (response_of (code_of x)) (progress_at (with_guards rs) (suc (suc n))) (is_doubted x pending && posted_last false (take n rs)))
 guarded_ends Good t rs given n pending normal checked ends bad = absurd (bad refl)
 guarded_ends Wait t rs given n pending normal checked ends bad = guarded_stops t rs given n Wait pending normal checked ends bad
 guarded_ends Fault t rs given n pending normal checked ends bad = guarded_stops t rs given n Fault true normal checked ends bad
@@ -88,15 +88,15 @@ guarded_ends Mismatch t rs given n pending normal checked ends bad = absurd (end
 
 -- a guarded command that was cut: the guard's two requests and n others were executed
 pub answers_cut : (t : TargetState) (rs : List Request) (n : ℕ) (x : Response) (pending : Bool) (words : List ℕ) → AreNormal rs → write_after false rs ≡ false →
-    AllByRecursion (λ word. word < 2 ^ 32) words → EndsAt t false false rs (length words) n x (doubted x pending) → (x ≡ Good → ⊥) → AnswersTransfer (guarded rs) (suc (suc n)) (code_of x) words
+    AllByRecursion (λ word. word < 2 ^ 32) words → EndsAt t false false rs (length words) n x (is_doubted x pending) → (x ≡ Good → ⊥) → AnswersTransfer (with_guards rs) (suc (suc n)) (code_of x) words
 answers_cut t rs n x pending words normal checked fits ends bad =
-    let missing : Bool = doubted x pending && posted_last false (take n rs) in
+    let missing : Bool = is_doubted x pending && posted_last false (take n rs) in
     let size : length (rs ++ mask_request 0 ∷ []) ≡ length rs + 1 = length-append rs (mask_request 0 ∷ []) in
     record {
       within = (let m = ends.most in omega arith);
       fits = fits;
       missing = missing;
-      posted = guarded_posted (doubted x pending) n rs ends.most;
+      posted = guarded_posted (is_doubted x pending) n rs ends.most;
       given =
           ap (λ k. length words + k) (sym (count_missing missing)) ∙ ends.words
           ∙ (let a = reads_guarded (take n (rs ++ mask_request 0 ∷ [])) in let b = ap reads_in (take_in_front n rs 0 ends.most) in omega arith);
@@ -104,7 +104,7 @@ answers_cut t rs n x pending words normal checked fits ends bad =
     }
 
 -- and one that came to its end
-pub answers_whole : (rs : List Request) (words : List ℕ) → AllByRecursion (λ word. word < 2 ^ 32) words → length words ≡ reads_in rs → AnswersTransfer (guarded rs) (length (guarded rs)) 1 words
+pub answers_whole : (rs : List Request) (words : List ℕ) → AllByRecursion (λ word. word < 2 ^ 32) words → length words ≡ reads_in rs → AnswersTransfer (with_guards rs) (length (with_guards rs)) 1 words
 answers_whole rs words fits count = record {
   within = omega arith;
   fits = fits;
@@ -113,11 +113,11 @@ answers_whole rs words fits count = record {
   given =
       (let a = reads_guarded (rs ++ mask_request 0 ∷ []) in
       let b = reads_masked rs 0 in
-      let c = ap reads_in (take-length (guarded rs)) in
+      let c = ap reads_in (take-length (with_guards rs)) in
       omega arith);
-  ends = ap (λ b. b && true) (eq-eqb (length (guarded rs)) (length (guarded rs)) refl);
+  ends = ap (λ b. b && true) (eq-eqb (length (with_guards rs)) (length (with_guards rs)) refl);
 }
 
 -- and one that was not let in
-pub answers_shut : (rs : List Request) → AnswersTransfer (guarded rs) 0 0x11 []
+pub answers_shut : (rs : List Request) → AnswersTransfer (with_guards rs) 0 0x11 []
 answers_shut rs = record { within = omega arith; fits = tt; missing = false; posted = λ e. absurd (cc); given = refl; ends = refl }

@@ -20,7 +20,7 @@ use Rattle.flight_forms.specs.Flights.{IsPartOf, Part, part_of}
 use Rattle.dap_messages.specs.Requests.{mask_request}
 use Rattle.flight_forms.specs.Chains.{joined_as}
 use Rattle.flight_forms.specs.Packets.{guarded_command}
-use Rattle.flight_forms.specs.Packing.{AreTaken, check_when, guarded, payload, requests_for, write_at_end}
+use Rattle.flight_forms.specs.Packing.{AreTaken, check_when, with_guards, payload, requests_for, write_at_end}
 use Rattle.flight_forms.proofs.GuardedAnswers.{kind_in_front, reads_guarded, reads_masked, take_in_front}
 use Rattle.flight_forms.proofs.RequestSizes.{few_for}
 use Rattle.flight_forms.proofs.AskedRequests.{accesses_asked, checks_follow, length_asked, payload_checked, payload_normal}
@@ -43,21 +43,21 @@ normal_or_mask n rs normal = by_end (ltb n (length rs)) refl
     by_end true e = ap (passes is_match) (kind_in_front n rs 0 (ltb-true n (length rs) e)) ∙ normal_kind n rs normal
     by_end false e = masked_kind is_match n rs (ltb-false n (length rs) e) refl
 
-guarded_stopped : (rs : List Request) (k : ℕ) (missing : Bool) → k ≤ length rs → may_stop (progress_at (guarded rs) (suc (suc k))) missing ≡ true → Stopped k rs missing
+guarded_stopped : (rs : List Request) (k : ℕ) (missing : Bool) → k ≤ length rs → may_stop (progress_at (with_guards rs) (suc (suc k))) missing ≡ true → Stopped k rs missing
 guarded_stopped rs k missing fits e =
-    by_reason (three_or (passes (λ j. not (is_mask j)) (kind_at (rs ++ mask_request 0 ∷ []) k)) missing (eqb (suc (suc k)) (length (guarded rs)) && ends_in_write (guarded rs)) e)
+    by_reason (three_or (passes (λ j. not (is_mask j)) (kind_at (rs ++ mask_request 0 ∷ []) k)) missing (eqb (suc (suc k)) (length (with_guards rs)) && ends_in_write (with_guards rs)) e)
   where
     by_end : (b : Bool) → ltb k (length rs) ≡ b → passes (λ j. not (is_mask j)) (kind_at (rs ++ mask_request 0 ∷ []) k) ≡ true → Stopped k rs missing
     by_end true f g = inl (ltb-true k (length rs) f)
     by_end false f g = absurd (clash g (masked_kind (λ j. not (is_mask j)) k rs (ltb-false k (length rs) f) refl))
 
-    by_reason : (passes (λ j. not (is_mask j)) (kind_at (rs ++ mask_request 0 ∷ []) k) ≡ true) ⊎ ((missing ≡ true) ⊎ ((eqb (suc (suc k)) (length (guarded rs)) && ends_in_write (guarded rs)) ≡ true)) →
+    by_reason : (passes (λ j. not (is_mask j)) (kind_at (rs ++ mask_request 0 ∷ []) k) ≡ true) ⊎ ((missing ≡ true) ⊎ ((eqb (suc (suc k)) (length (with_guards rs)) && ends_in_write (with_guards rs)) ≡ true)) →
         Stopped k rs missing
     by_reason (inl f) = by_end (ltb k (length rs)) refl f
     by_reason (inr (inl f)) = inr (inl f)
     by_reason (inr (inr f)) =
-        let two = and_parts (eqb (suc (suc k)) (length (guarded rs))) (ends_in_write (guarded rs)) f in
-        let whole = eqb-true (suc (suc k)) (length (guarded rs)) two.0 in
+        let two = and_parts (eqb (suc (suc k)) (length (with_guards rs))) (ends_in_write (with_guards rs)) f in
+        let whole = eqb-true (suc (suc k)) (length (with_guards rs)) two.0 in
         absurd (let n = length-append rs (mask_request 0 ∷ []) in omega arith)
 
 write_masked : (b : Bool) (rs : List Request) → write_after b (rs ++ mask_request 0 ∷ []) ≡ write_after b rs
@@ -69,73 +69,73 @@ abbrev EndedBy : Response → List Request → ℕ → Bool → Type 0
 EndedBy x rs n missing = IsTrue (may_end_by (response_of (code_of x)) (progress_at rs n) missing)
 
 -- with the guard alone, or nothing, executed
-none_ended : (x : Response) (rs : List Request) (missing : Bool) → EndedBy x (guarded rs) 0 missing → x ≡ Good → ⊥
-none_ended Good rs missing e f = (let two = and_parts (eqb 0 (length (guarded rs))) (not missing) e in let g = eqb-true 0 (length (guarded rs)) two.0 in absurd (cc))
+none_ended : (x : Response) (rs : List Request) (missing : Bool) → EndedBy x (with_guards rs) 0 missing → x ≡ Good → ⊥
+none_ended Good rs missing e f = (let two = and_parts (eqb 0 (length (with_guards rs))) (not missing) e in let g = eqb-true 0 (length (with_guards rs)) two.0 in absurd (cc))
 none_ended Wait rs missing e f = (let g = f in cc)
 none_ended Fault rs missing e f = (let g = f in cc)
 none_ended Mismatch rs missing e f = (let g = f in cc)
 
-after_match : (rs : List Request) (missing : Bool) → (missing ≡ true → ⊥) → may_stop (progress_at (guarded rs) 1) missing ≡ true → ⊥
+after_match : (rs : List Request) (missing : Bool) → (missing ≡ true → ⊥) → may_stop (progress_at (with_guards rs) 1) missing ≡ true → ⊥
 after_match rs missing held e =
-    elim (three_or false missing (eqb 1 (length (guarded rs)) && ends_in_write (guarded rs)) e) [
+    elim (three_or false missing (eqb 1 (length (with_guards rs)) && ends_in_write (with_guards rs)) e) [
       | inl f ↦ (let g = f in cc)
       | inr g ↦ elim g [
         | inl f ↦ held f
-        | inr f ↦ (let two = and_parts (eqb 1 (length (guarded rs))) (ends_in_write (guarded rs)) f in let h = eqb-true 1 (length (guarded rs)) two.0 in absurd (omega arith))
+        | inr f ↦ (let two = and_parts (eqb 1 (length (with_guards rs))) (ends_in_write (with_guards rs)) f in let h = eqb-true 1 (length (with_guards rs)) two.0 in absurd (omega arith))
       ]
     ]
 
-one_ended : (x : Response) (rs : List Request) (missing : Bool) → (missing ≡ true → ⊥) → EndedBy x (guarded rs) 1 missing → ⊥
-one_ended Good rs missing held e = (let two = and_parts (eqb 1 (length (guarded rs))) (not missing) e in let g = eqb-true 1 (length (guarded rs)) two.0 in absurd (omega arith))
+one_ended : (x : Response) (rs : List Request) (missing : Bool) → (missing ≡ true → ⊥) → EndedBy x (with_guards rs) 1 missing → ⊥
+one_ended Good rs missing held e = (let two = and_parts (eqb 1 (length (with_guards rs))) (not missing) e in let g = eqb-true 1 (length (with_guards rs)) two.0 in absurd (omega arith))
 one_ended Wait rs missing held e = after_match rs missing held e
 one_ended Fault rs missing held e = after_match rs missing held e
 one_ended Mismatch rs missing held e = (let f = e in cc)
 
 -- with some of the requests after it executed
-some_ended : (x : Response) (rs : List Request) (k : ℕ) (missing : Bool) → AreNormal rs → k ≤ length rs → EndedBy x (guarded rs) (suc (suc k)) missing →
+some_ended : (x : Response) (rs : List Request) (k : ℕ) (missing : Bool) → AreNormal rs → k ≤ length rs → EndedBy x (with_guards rs) (suc (suc k)) missing →
     (x ≡ Good → ⊥) × Stopped k rs missing
 some_ended Good rs k missing normal fits e =
-    let two = and_parts (eqb (suc (suc k)) (length (guarded rs))) (not missing) e in
-    let g = eqb-true (suc (suc k)) (length (guarded rs)) two.0 in
+    let two = and_parts (eqb (suc (suc k)) (length (with_guards rs))) (not missing) e in
+    let g = eqb-true (suc (suc k)) (length (with_guards rs)) two.0 in
     absurd (let n = length-append rs (mask_request 0 ∷ []) in omega arith)
 some_ended Wait rs k missing normal fits e = ((λ f. (let g = f in cc)), guarded_stopped rs k missing fits e)
 some_ended Fault rs k missing normal fits e = ((λ f. (let g = f in cc)), guarded_stopped rs k missing fits e)
 some_ended Mismatch rs k missing normal fits e = absurd (clash e (normal_or_mask k rs normal))
 
 -- with all of them executed, and the mask
-past_stopped : (rs : List Request) (k : ℕ) (missing : Bool) → write_after false rs ≡ false → length rs < k → (missing ≡ true → ⊥) → may_stop (progress_at (guarded rs) (suc (suc k))) missing ≡ true → ⊥
+past_stopped : (rs : List Request) (k : ℕ) (missing : Bool) → write_after false rs ≡ false → length rs < k → (missing ≡ true → ⊥) → may_stop (progress_at (with_guards rs) (suc (suc k))) missing ≡ true → ⊥
 past_stopped rs k missing checked past held e =
-    elim (three_or (passes (λ j. not (is_mask j)) (kind_at (rs ++ mask_request 0 ∷ []) k)) missing (eqb (suc (suc k)) (length (guarded rs)) && ends_in_write (guarded rs)) e) [
+    elim (three_or (passes (λ j. not (is_mask j)) (kind_at (rs ++ mask_request 0 ∷ []) k)) missing (eqb (suc (suc k)) (length (with_guards rs)) && ends_in_write (with_guards rs)) e) [
       | inl f ↦ clash f (masked_kind (λ j. not (is_mask j)) k rs (omega arith) refl)
       | inr g ↦ elim g [
         | inl f ↦ held f
-        | inr f ↦ (let two = and_parts (eqb (suc (suc k)) (length (guarded rs))) (ends_in_write (guarded rs)) f in clash two.1 (write_masked false rs ∙ checked))
+        | inr f ↦ (let two = and_parts (eqb (suc (suc k)) (length (with_guards rs))) (ends_in_write (with_guards rs)) f in clash two.1 (write_masked false rs ∙ checked))
       ]
     ]
 
-past_ended : (x : Response) (rs : List Request) (k : ℕ) (missing : Bool) → AreNormal rs → write_after false rs ≡ false → length rs < k → (missing ≡ true → ⊥) → EndedBy x (guarded rs) (suc (suc k)) missing → x ≡ Good
+past_ended : (x : Response) (rs : List Request) (k : ℕ) (missing : Bool) → AreNormal rs → write_after false rs ≡ false → length rs < k → (missing ≡ true → ⊥) → EndedBy x (with_guards rs) (suc (suc k)) missing → x ≡ Good
 past_ended Good rs k missing normal checked past held e = refl
 past_ended Wait rs k missing normal checked past held e = absurd (past_stopped rs k missing checked past held e)
 past_ended Fault rs k missing normal checked past held e = absurd (past_stopped rs k missing checked past held e)
 past_ended Mismatch rs k missing normal checked past held e = absurd (clash e (masked_kind is_match k rs (omega arith) refl))
 
-guarded_posted : (rs : List Request) (k : ℕ) → k ≤ length rs → IsTrue (last_is_posted (guarded rs) (suc (suc k))) → posted_last false (take k rs) ≡ true
+guarded_posted : (rs : List Request) (k : ℕ) → k ≤ length rs → IsTrue (last_is_posted (with_guards rs) (suc (suc k))) → posted_last false (take k rs) ≡ true
 guarded_posted rs zero fits e = absurd (let f = e in cc)
 guarded_posted rs (suc j) fits e = posted_is (suc j) rs fits (sym (ap (passes is_posted) (kind_in_front j rs 0 (omega arith))) ∙ e)
 
 -- a mask comes with no word
-past_missing : (rs : List Request) (k : ℕ) → length rs < k → IsTrue (last_is_posted (guarded rs) (suc (suc k))) → ⊥
+past_missing : (rs : List Request) (k : ℕ) → length rs < k → IsTrue (last_is_posted (with_guards rs) (suc (suc k))) → ⊥
 past_missing rs zero past e = absurd (omega arith)
 past_missing rs (suc j) past e = clash e (masked_kind is_posted j rs (omega arith) refl)
 
-guarded_reads : (rs : List Request) (k : ℕ) → k ≤ length rs → reads_in (take (suc (suc k)) (guarded rs)) ≡ reads_in (take k rs)
+guarded_reads : (rs : List Request) (k : ℕ) → k ≤ length rs → reads_in (take (suc (suc k)) (with_guards rs)) ≡ reads_in (take k rs)
 guarded_reads rs k fits = reads_guarded (take k (rs ++ mask_request 0 ∷ [])) ∙ ap reads_in (take_in_front k rs 0 fits)
 
 abbrev Shows : List Request → ℕ → Response → List ℕ → Type 0
 Shows rs k x words = IsPartOf (length (accesses_in rs)) (part_of (take k rs) x words)
 
 guarded_part_shows : (rs : List Request) (n : ℕ) (x : Response) (words : List ℕ) → AreNormal rs → ChecksFollow false rs → write_after false rs ≡ false → 1 ≤ length rs →
-    AnswersTransfer (guarded rs) n (code_of x) words → Shows rs (n - 2) x words
+    AnswersTransfer (with_guards rs) n (code_of x) words → Shows rs (n - 2) x words
 guarded_part_shows rs zero x words normal follow checked some may =
     let bad = none_ended x rs may.missing may.ends in
     let count = one_is may.missing in
@@ -174,9 +174,9 @@ guarded_part_shows rs (suc (suc k)) x words normal follow checked some may =
         let good : x ≡ Good = past_ended x rs k may.missing normal checked h not_missing may.ends in
         let same : take (length rs) rs ≡ take k rs = take-length rs ∙ sym (take_past rs k (omega arith)) in
         let none : may.missing ≡ false = is_false may.missing not_missing in
-        let all : suc (suc k) ≡ length (guarded rs) = (let m = may.within in omega arith) in
-        let reads : reads_in (take (suc (suc k)) (guarded rs)) ≡ reads_in (take (length rs) rs) =
-        ap (λ j. reads_in (take j (guarded rs))) all ∙ ap reads_in (take-length (guarded rs)) ∙ reads_guarded (rs ++ mask_request 0 ∷ []) ∙ reads_masked rs 0 ∙ ap reads_in (sym (take-length rs)) in
+        let all : suc (suc k) ≡ length (with_guards rs) = (let m = may.within in omega arith) in
+        let reads : reads_in (take (suc (suc k)) (with_guards rs)) ≡ reads_in (take (length rs) rs) =
+        ap (λ j. reads_in (take j (with_guards rs))) all ∙ ap reads_in (take-length (with_guards rs)) ∙ reads_guarded (rs ++ mask_request 0 ∷ []) ∙ reads_masked rs 0 ∙ ap reads_in (sym (take-length rs)) in
         subst (λ (xs : List Request). IsPartOf (length (accesses_in rs)) (part_of xs x words)) same
         (says_part rs (length rs) x words normal follow
         (record {

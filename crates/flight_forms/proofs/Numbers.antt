@@ -9,7 +9,7 @@ use Rattle.dap_messages.specs.declared.request.Response.{Response}
 use Rattle.dap_messages.specs.declared.request.Response.TheVariants.{Good, Wait, Fault, Mismatch}
 use Rattle.dap_messages.specs.Requests.{is_posted, kind, write_after, write_last}
 use Rattle.target_machine.specs.Counts.{one_if}
-use Rattle.dap_transfer.specs.CommandEnds.{EndsAt, IsNumbered, doubted, one_at_end, posted_in, posted_last}
+use Rattle.dap_transfer.specs.CommandEnds.{EndsAt, IsNumbered, is_doubted, one_at_end, posted_in, posted_last}
 use Rattle.dap_transfer.specs.Laws.{AreNormal, IsNormalKind, accesses_in}
 use Rattle.dap_transfer.specs.State.{is_wait}
 use Rattle.dap_transfer.specs.Wires.{access_of}
@@ -55,7 +55,7 @@ taken_length zero rs h = refl
 taken_length (suc n) [] h = absurd (omega arith)
 taken_length (suc n) (r ∷ rs) h = ap suc (taken_length n rs (omega arith))
 
-end_charged : (x : Response) (pending posted written : Bool) → (x ≡ Mismatch → ⊥) → (doubted x pending ≡ true → (posted || written) ≡ true) →
+end_charged : (x : Response) (pending posted written : Bool) → (x ≡ Mismatch → ⊥) → (is_doubted x pending ≡ true → (posted || written) ≡ true) →
     one_if (one_at_end x posted written) ≤ one_if written + one_if (is_wait x)
 end_charged Good pending posted written never unseen = omega arith
 end_charged Wait pending posted written never unseen = omega arith
@@ -64,7 +64,7 @@ end_charged Fault pending false written never unseen = (let e = ap one_if (unsee
 end_charged Mismatch pending posted written never unseen = absurd (never refl)
 
 pub number_kept : (t : TargetState) (rs : List Request) (before number given n : ℕ) (x : Response) (pending : Bool) → AreNormal rs → ChecksFollow false rs →
-    EndsAt t false false rs given n x (doubted x pending) → IsNumbered before false false n rs x number →
+    EndsAt t false false rs given n x (is_doubted x pending) → IsNumbered before false false n rs x number →
     number ≤ before + 2 * length (accesses_in (take n rs)) + one_if (is_wait x)
 number_kept t rs before number given n x pending normal follow ends numbered =
     let some : List Request = take n rs in

@@ -7,7 +7,7 @@ use Rattle.target_machine.specs.declared.access.RegAccess.{RegAccess}
 use Rattle.dap_messages.specs.declared.request.Request.{Request}
 use Rattle.dap_messages.specs.declared.request.RequestKind.{RequestKind}
 use Rattle.dap_messages.specs.declared.request.RequestKind.TheVariants.{Posted, Read, Match, Mask, Write}
-use Rattle.std.proofs.lemmas.Bool.{eqb-true, ltb-false, ltb-true}
+use Rattle.std.proofs.lemmas.Bool.{eqb-true, ltb-false, ltb-true, not-false}
 use Rattle.std.proofs.Math.Seq.{take-length}
 use Rattle.dap_messages.specs.declared.request.Response.{Response}
 use Rattle.dap_messages.specs.declared.request.Response.TheVariants.{Good, Fault}
@@ -15,7 +15,7 @@ use Rattle.dap_messages.specs.Requests.{is_posted, kind, write_after, write_last
 use Rattle.dap_transfer.specs.Wires.{access_of}
 use Rattle.dap_transfer.specs.Laws.{accesses_in, one_at_a_time, IsNormalKind, AreNormal}
 use Rattle.target_machine.specs.Counts.{one_if}
-use Rattle.dap_transfer.specs.CommandEnds.{posted_last, EndsAt, doubted, target_after}
+use Rattle.dap_transfer.specs.CommandEnds.{posted_last, EndsAt, is_doubted, target_after}
 use Rattle.dap_transfer.proofs.CommandEnds.{write_bits}
 use Rattle.dap_transfer.proofs.ReadWords.{posted_bits}
 use Rattle.flight_forms.specs.Flights.{AreClear, Performs, is_own}
@@ -25,11 +25,7 @@ use Rattle.flight_forms.specs.Flights.{AreClear, Performs, is_own}
 rdbuff_bits : (ap_is read_is : Bool) (addr : ℕ) → not (not ap_is && read_is && eqb addr 12) ≡ false → (ap_is ≡ false) × (read_is ≡ true) × (eqb addr 12 ≡ true)
 rdbuff_bits true read_is addr e = absurd (cc)
 rdbuff_bits false false addr e = absurd (cc)
-rdbuff_bits false true addr e = (refl, refl, by_bit (eqb addr 12) e)
-  where
-    by_bit : (b : Bool) → not b ≡ false → b ≡ true
-    by_bit true f = refl
-    by_bit false f = absurd (cc)
+rdbuff_bits false true addr e = (refl, refl, not-false (eqb addr 12) e)
 
 pub not_own : (t : TargetState) (a : RegAccess) → is_own a ≡ false → (attempt t a).next ≡ t
 not_own t a e = let bits = rdbuff_bits a.ap a.read a.addr e in rdbuff_read t a bits.0 bits.1 (eqb-true a.addr 12 bits.2)
@@ -166,18 +162,18 @@ next_or_write (suc n) w (r ∷ rs) follow h =
       | inr last ↦ inr last
     ]
 
-sure_good : (x : Response) (p : Bool) → x ≡ Good → doubted x p ≡ false
-sure_good x p e = ap (λ y. doubted y p) e
+sure_good : (x : Response) (p : Bool) → x ≡ Good → is_doubted x p ≡ false
+sure_good x p e = ap (λ y. is_doubted y p) e
 
-doubt_fault : (x : Response) (p : Bool) → x ≡ Fault → doubted x p ≡ true
-doubt_fault x p e = ap (λ y. doubted y p) e
+doubt_fault : (x : Response) (p : Bool) → x ≡ Fault → is_doubted x p ≡ true
+doubt_fault x p e = ap (λ y. is_doubted y p) e
 
 -- what a command does to its accesses
 pub performs_own : (t u : TargetState) (rs : List Request) (given n : ℕ) (x : Response) (pending : Bool) → AreNormal rs → ChecksFollow false rs →
-    EndsAt t false false rs given n x (doubted x pending) → u ≡ target_after t n rs →
-    Performs t u (accesses_in rs) (own_count n rs) (own_count (n - one_if (doubted x pending)) rs) x
+    EndsAt t false false rs given n x (is_doubted x pending) → u ≡ target_after t n rs →
+    Performs t u (accesses_in rs) (own_count n rs) (own_count (n - one_if (is_doubted x pending)) rs) x
 performs_own t u rs given n x pending normal follow ends target =
-    let doubt : Bool = doubted x pending in
+    let doubt : Bool = is_doubted x pending in
     let m : ℕ = n - one_if doubt in
     let near : own_count n rs ≡ own_count m rs + one_if doubt = doubted_count doubt n rs normal ends.most ends.unseen in
     let fits : m ≤ length (map access_of rs) = (let a = length_mapped rs in let b = ends.most in omega arith) in
@@ -199,23 +195,23 @@ performs_own t u rs given n x pending normal follow ends target =
       never = ends.never;
     }
   where
-    at_least : (n : ℕ) → doubted x pending ≡ true → (posted_last false (take n rs) || write_after false (take n rs)) ≡ true → 1 ≤ n
+    at_least : (n : ℕ) → is_doubted x pending ≡ true → (posted_last false (take n rs) || write_after false (take n rs)) ≡ true → 1 ≤ n
     at_least zero e h = absurd (cc)
     at_least (suc n) e h = omega arith
 
     -- fewer than all are confirmed: one was not performed, or the last is in doubt
     fewer : (x ≡ Good → ⊥) → (n < length rs → (own_count n rs < length (accesses_in rs)) ⊎ (write_after false (take n rs) ≡ true)) →
-        own_count n rs ≡ own_count (n - one_if (doubted x pending)) rs + one_if (doubted x pending) →
-        own_count (n - one_if (doubted x pending)) rs < length (accesses_in rs)
+        own_count n rs ≡ own_count (n - one_if (is_doubted x pending)) rs + one_if (is_doubted x pending) →
+        own_count (n - one_if (is_doubted x pending)) rs < length (accesses_in rs)
     fewer bad next near = by_end (ltb n (length rs)) refl
       where
         all : own_count n rs ≤ length (accesses_in rs)
         all = own_most n rs
 
-        in_doubt : doubted x pending ≡ true → own_count (n - one_if (doubted x pending)) rs < length (accesses_in rs)
+        in_doubt : is_doubted x pending ≡ true → own_count (n - one_if (is_doubted x pending)) rs < length (accesses_in rs)
         in_doubt e = (let one = ap one_if e in let most = all in let is = near in omega arith)
 
-        by_end : (b : Bool) → ltb n (length rs) ≡ b → own_count (n - one_if (doubted x pending)) rs < length (accesses_in rs)
+        by_end : (b : Bool) → ltb n (length rs) ≡ b → own_count (n - one_if (is_doubted x pending)) rs < length (accesses_in rs)
         by_end true e = elim (next (ltb-true n (length rs) e)) [ inl h ↦ (omega arith) | inr h ↦ in_doubt (ends.unproven h bad) ]
         by_end false e = in_doubt (ends.at_end bad (let h = ltb-false n (length rs) e in let k = ends.most in omega arith))
 

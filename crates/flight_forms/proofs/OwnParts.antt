@@ -13,14 +13,14 @@ use Rattle.dap_messages.specs.declared.request.Response.TheVariants.{Good, Wait,
 use Rattle.dap_messages.specs.Requests.{kind, reads_in, write_after}
 use Rattle.dap_transfer.specs.Wires.{access_of}
 use Rattle.dap_transfer.specs.State.{TransferState, Transferred}
-use Rattle.dap_transfer.specs.Transfer.{transferred}
+use Rattle.dap_transfer.specs.Transfer.{transfer_result}
 use Rattle.dap_transfer.specs.Private.{word_of}
 use Rattle.dap_transfer.specs.Laws.{accesses_in, value_now, read_values, reads_value, AreNormal}
 use Rattle.dap_transfer.proofs.Prefix.{makes_prefix}
 use Rattle.dap_transfer.proofs.ReadWords.{has_words}
 use Rattle.dap_transfer.proofs.Words.{reads_first}
 use Rattle.target_machine.specs.Counts.{one_if}
-use Rattle.dap_transfer.specs.CommandEnds.{AreGuarded, EndsAt, doubted, posted_last, target_after}
+use Rattle.dap_transfer.specs.CommandEnds.{AreGuarded, EndsAt, is_doubted, posted_last, target_after}
 use Rattle.flight_forms.specs.Flights.{DoesPart, Performs, doubts, part_of, seen_values, slot_values}
 use Rattle.dap_transfer.proofs.CommandEnds.{command_ends}
 use Rattle.dap_transfer.proofs.Work.{counts_accesses}
@@ -42,8 +42,8 @@ doubt_of false true true given reads words unseen unproven = lt-ltb given reads 
 doubt_of false false true given reads words unseen unproven = absurd (let e = unseen refl in cc)
 doubt_of false posted false given reads words unseen unproven = (let same : reads ≡ given = omega arith in ap (nat_lt given) same ∙ lt_self given)
 
-pub doubt_shows : (t : TargetState) (rs : List Request) (given n : ℕ) (x : Response) (pending : Bool) → EndsAt t false false rs given n x (doubted x pending) →
-    doubts x (take n rs) given ≡ doubted x pending
+pub doubt_shows : (t : TargetState) (rs : List Request) (given n : ℕ) (x : Response) (pending : Bool) → EndsAt t false false rs given n x (is_doubted x pending) →
+    doubts x (take n rs) given ≡ is_doubted x pending
 doubt_shows t rs given n Good pending ends = refl
 doubt_shows t rs given n Wait pending ends =
     doubt_of (write_after false (take n rs)) (posted_last false (take n rs)) pending given (reads_in (take n rs)) (ends.words ∙ omega arith) ends.unseen (λ e. ends.unproven e (λ f. cc))
@@ -110,7 +110,7 @@ own_values t rs n c words missing doubt normal short e count c_is near =
     ∙ ap (λ xs. slot_values t (take c xs)) (taken_own n rs)
     ∙ ap (slot_values t) (take_twice c (own_count n rs) (accesses_in rs) (omega arith))
 
-wait_count : (x : Response) (pending : Bool) (k m c : ℕ) → x ≡ Wait → k ≡ m + one_if (doubted x pending) → m ≡ c → k ≡ c + one_if pending
+wait_count : (x : Response) (pending : Bool) (k m c : ℕ) → x ≡ Wait → k ≡ m + one_if (is_doubted x pending) → m ≡ c → k ≡ c + one_if pending
 wait_count Good pending k m c e near is = absurd (cc)
 wait_count Wait pending k m c e near is = omega arith
 wait_count Fault pending k m c e near is = absurd (cc)
@@ -119,15 +119,15 @@ wait_count Mismatch pending k m c e near is = absurd (cc)
 -- ---- a command of these requests
 
 pub does_own : (p : TransferState) (rs : List Request) → AreNormal rs → AreGuarded false rs → ChecksFollow false rs → p.line.target.sticky ≡ false →
-    (let d = transferred p rs in DoesPart p d.next (accesses_in rs) (part_of (take d.executed rs) d.response d.words))
+    (let d = transfer_result p rs in DoesPart p d.next (accesses_in rs) (part_of (take d.executed rs) d.response d.words))
 does_own p rs normal guarded follow clear =
     let t : TargetState = p.line.target in
-    let d : Transferred = transferred p rs in
+    let d : Transferred = transfer_result p rs in
     let n : ℕ = d.executed in
     let x : Response = d.response in
-    let ends : EndsAt t false false rs (length d.words) n x (doubted x d.next.pending) = command_ends p rs normal guarded clear in
+    let ends : EndsAt t false false rs (length d.words) n x (is_doubted x d.next.pending) = command_ends p rs normal guarded clear in
     let target : d.next.line.target ≡ target_after t n rs = makes_prefix p rs normal in
-    let doubt : Bool = doubted x d.next.pending in
+    let doubt : Bool = is_doubted x d.next.pending in
     let some : List Request = take n rs in
     let shows : doubts x some (length d.words) ≡ doubt = doubt_shows t rs (length d.words) n x d.next.pending ends in
     let performs = performs_own t d.next.line.target rs (length d.words) n x d.next.pending normal follow ends target in

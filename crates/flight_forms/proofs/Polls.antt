@@ -1,7 +1,7 @@
 -- A portion of a poll is the polled reads, one at a time.
 use Rattle.std.proofs.Common.{◌≡◌, ℕ, ◌+◌, ◌-◌, ◌^◌, ◌≤◌, ◌<◌, Bool, true, false, cond, List, [], ◌∷◌, refl, ap, sym, ◌∙◌, arith, subst}
 use Rattle.target_machine.specs.Attempt.{bank}
-use Rattle.target_machine.specs.Plain.{Polled, polled}
+use Rattle.target_machine.specs.Plain.{Polled, poll_result}
 use Rattle.target_machine.specs.State.{TargetState}
 use Rattle.dap_messages.specs.declared.request.Request.{Request}
 use Rattle.dap_messages.specs.declared.request.Response.TheVariants.{Good, Mismatch}
@@ -9,7 +9,7 @@ use Rattle.dap_messages.specs.Replies.{AnswersTransfer}
 use Rattle.dap_messages.specs.Responses.{code_of}
 use Rattle.dap_messages.proofs.RequestBits.{mask_is_request, match_is_request}
 use Rattle.dap_transfer.specs.CommandEnds.{counted_from}
-use Rattle.dap_transfer.specs.Lines.{configured}
+use Rattle.dap_transfer.specs.Lines.{configured_state}
 use Rattle.dap_transfer.specs.State.{TransferState, Transferred}
 use Rattle.dap_transfer.specs.ValueMatch.{has_matched}
 use Rattle.dap_transfer.proofs.Polls.{ctrl_match, mask_alone, mask_in_front, match_alone, never_faults, poll_end, poll_left, poll_of}
@@ -35,13 +35,13 @@ SomeAnswers rs d = AnswersTransfer rs d.executed (code_of d.response) d.words
 pub polls_at_once : (p : TransferState) (retry mask requested turns : ℕ) → bank p.line.target ≡ 0 → 1 ≤ turns → PollsAtOnce p retry mask requested turns
 polls_at_once p retry mask requested turns e some =
     let t : TargetState = p.line.target in
-    let c : TransferState = configured p retry (turns - 1) in
+    let c : TransferState = configured_state p retry (turns - 1) in
     let q : TransferState = record c { mask = mask } in
     let all : turns - 1 + 1 ≡ turns = omega arith in
-    let x : Polled = polled turns mask requested t in
+    let x : Polled = poll_result turns mask requested t in
     let d : Transferred = poll_matched p retry mask requested turns in
     let u : Transferred = poll_cleared p retry mask requested turns in
-    let same : poll_of q requested ≡ x = ap (λ n. polled n mask requested t) all in
+    let same : poll_of q requested ≡ x = ap (λ n. poll_result n mask requested t) all in
     let m : Bool = has_matched x in
     let d_is : d ≡ record { executed = cond m 2 1; response = cond m Good Mismatch; words = []; next = poll_left q x } =
     mask_in_front c mask (ctrl_match requested ∷ [])
@@ -56,7 +56,7 @@ polls_at_once p retry mask requested turns e some =
       answers = subst (SomeAnswers (poll_requests mask requested)) (sym d_is) (matched_answers mask requested m);
       clears = u_is;
       clear_answers = subst (SomeAnswers clear_mask) (sym u_is) cleared_answers;
-      after = ap (λ (y : Transferred). configured y.next retry 0) u_is ∙ ap (λ (y : Transferred). configured (record y.next { mask = 0 }) retry 0) d_is;
+      after = ap (λ (y : Transferred). configured_state y.next retry 0) u_is ∙ ap (λ (y : Transferred). configured_state (record y.next { mask = 0 }) retry 0) d_is;
     }
 
 -- ---- its packet

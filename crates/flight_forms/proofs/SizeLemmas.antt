@@ -9,7 +9,7 @@ use Rattle.target_machine.proofs.CountLemmas.{one_most}
 use Rattle.dap_transfer.specs.CommandEnds.{may_be_free, writes_ap}
 use Rattle.flight_forms.specs.declared.size.FlightSize.{FlightSize}
 use Rattle.flight_forms.specs.declared.size.Tally.{Tally}
-use Rattle.flight_forms.specs.Forms.{all_write_drw, filled, fits_block, fits_chain, fits_guarded, fits_transfer, form_of, parts_of, writes_drw}
+use Rattle.flight_forms.specs.Forms.{all_write_drw, filled_parts, fits_block, fits_chain, fits_guarded, fits_transfer, form_of, parts_of, writes_drw}
 use Rattle.flight_forms.specs.declared.form.Form.TheVariants.{Block, Transfer, Chain}
 use Rattle.flight_forms.specs.Packing.{check_when, request_of, requests_for}
 use Rattle.flight_forms.specs.Sizes.{Counts, IsSizeOf, ends_in_ap_write, has_part_more, last_of, no_tally, plus, size_with, tally_fits_guarded, with_access}
@@ -48,11 +48,11 @@ last_after : (part : List RegAccess) (parts : List (List RegAccess)) → 1 ≤ l
 last_after part [] h = absurd (omega arith)
 last_after part (other ∷ parts) h = refl
 
-pub some_parts : (size : ℕ) (part rest : List RegAccess) → 1 ≤ length (filled size part rest)
+pub some_parts : (size : ℕ) (part rest : List RegAccess) → 1 ≤ length (filled_parts size part rest)
 some_parts size part [] = omega arith
 some_parts size part (a ∷ rest) = by_fit (fits_guarded size (part ++ a ∷ [])) (some_parts size (part ++ a ∷ []) rest)
   where
-    by_fit : (b : Bool) → 1 ≤ length (filled size (part ++ a ∷ []) rest) → 1 ≤ length (cond b (filled size (part ++ a ∷ []) rest) (part ∷ filled size (a ∷ []) rest))
+    by_fit : (b : Bool) → 1 ≤ length (filled_parts size (part ++ a ∷ []) rest) → 1 ≤ length (cond b (filled_parts size (part ++ a ∷ []) rest) (part ∷ filled_parts size (a ∷ []) rest))
     by_fit true h = h
     by_fit false h = omega arith
 
@@ -71,7 +71,7 @@ under_part size a part before after some more h =
       last = last_after part after more ∙ h.last ∙ ap (λ xs. cond (fits_guarded size (xs ++ a ∷ [])) (xs ++ a ∷ []) (a ∷ [])) (sym same);
     }
 
-filled_more : (size : ℕ) (part rest : List RegAccess) (a : RegAccess) → PartsGrow size a (filled size part rest) (filled size part (rest ++ a ∷ []))
+filled_more : (size : ℕ) (part rest : List RegAccess) (a : RegAccess) → PartsGrow size a (filled_parts size part rest) (filled_parts size part (rest ++ a ∷ []))
 filled_more size part [] a = record { count = by_count (fits_guarded size (part ++ a ∷ [])); last = by_last (fits_guarded size (part ++ a ∷ [])) }
   where
     by_count : (b : Bool) → length (cond b ((part ++ a ∷ []) ∷ []) (part ∷ (a ∷ []) ∷ [])) ≡ 1 + cond b 0 1
@@ -83,51 +83,51 @@ filled_more size part [] a = record { count = by_count (fits_guarded size (part 
     by_last false = refl
 filled_more size part (x ∷ rest) a = by_fit (fits_guarded size (part ++ x ∷ [])) (filled_more size (part ++ x ∷ []) rest a) (filled_more size (x ∷ []) rest a)
   where
-    by_fit : (b : Bool) → PartsGrow size a (filled size (part ++ x ∷ []) rest) (filled size (part ++ x ∷ []) (rest ++ a ∷ [])) →
-        PartsGrow size a (filled size (x ∷ []) rest) (filled size (x ∷ []) (rest ++ a ∷ [])) →
-        PartsGrow size a (cond b (filled size (part ++ x ∷ []) rest) (part ∷ filled size (x ∷ []) rest))
-        (cond b (filled size (part ++ x ∷ []) (rest ++ a ∷ [])) (part ∷ filled size (x ∷ []) (rest ++ a ∷ [])))
+    by_fit : (b : Bool) → PartsGrow size a (filled_parts size (part ++ x ∷ []) rest) (filled_parts size (part ++ x ∷ []) (rest ++ a ∷ [])) →
+        PartsGrow size a (filled_parts size (x ∷ []) rest) (filled_parts size (x ∷ []) (rest ++ a ∷ [])) →
+        PartsGrow size a (cond b (filled_parts size (part ++ x ∷ []) rest) (part ∷ filled_parts size (x ∷ []) rest))
+        (cond b (filled_parts size (part ++ x ∷ []) (rest ++ a ∷ [])) (part ∷ filled_parts size (x ∷ []) (rest ++ a ∷ [])))
     by_fit true longer shorter = longer
     by_fit false longer shorter =
-        under_part size a part (filled size (x ∷ []) rest) (filled size (x ∷ []) (rest ++ a ∷ [])) (some_parts size (x ∷ []) rest) (some_parts size (x ∷ []) (rest ++ a ∷ [])) shorter
+        under_part size a part (filled_parts size (x ∷ []) rest) (filled_parts size (x ∷ []) (rest ++ a ∷ [])) (some_parts size (x ∷ []) rest) (some_parts size (x ∷ []) (rest ++ a ∷ [])) shorter
 
 -- the last part ends as the whole does
-ends_alike : (size : ℕ) (part rest : List RegAccess) → 1 ≤ length part → ends_in_ap_write (last_of (filled size part rest)) ≡ ap_write_at_end (ends_in_ap_write part) rest
+ends_alike : (size : ℕ) (part rest : List RegAccess) → 1 ≤ length part → ends_in_ap_write (last_of (filled_parts size part rest)) ≡ ap_write_at_end (ends_in_ap_write part) rest
 ends_alike size part [] some = refl
 ends_alike size part (x ∷ rest) some =
     by_fit (fits_guarded size (part ++ x ∷ [])) (ends_alike size (part ++ x ∷ []) rest (let n = length-append part (x ∷ []) in omega arith)) (ends_alike size (x ∷ []) rest (omega arith))
   where
-    by_fit : (b : Bool) → ends_in_ap_write (last_of (filled size (part ++ x ∷ []) rest)) ≡ ap_write_at_end (ends_in_ap_write (part ++ x ∷ [])) rest →
-        ends_in_ap_write (last_of (filled size (x ∷ []) rest)) ≡ ap_write_at_end (writes_ap x) rest →
-        ends_in_ap_write (last_of (cond b (filled size (part ++ x ∷ []) rest) (part ∷ filled size (x ∷ []) rest))) ≡ ap_write_at_end (writes_ap x) rest
+    by_fit : (b : Bool) → ends_in_ap_write (last_of (filled_parts size (part ++ x ∷ []) rest)) ≡ ap_write_at_end (ends_in_ap_write (part ++ x ∷ [])) rest →
+        ends_in_ap_write (last_of (filled_parts size (x ∷ []) rest)) ≡ ap_write_at_end (writes_ap x) rest →
+        ends_in_ap_write (last_of (cond b (filled_parts size (part ++ x ∷ []) rest) (part ∷ filled_parts size (x ∷ []) rest))) ≡ ap_write_at_end (writes_ap x) rest
     by_fit true longer shorter = longer ∙ ap (λ w. ap_write_at_end w rest) (write_more false part x)
-    by_fit false longer shorter = ap ends_in_ap_write (last_after part (filled size (x ∷ []) rest) (some_parts size (x ∷ []) rest)) ∙ shorter
+    by_fit false longer shorter = ap ends_in_ap_write (last_after part (filled_parts size (x ∷ []) rest) (some_parts size (x ∷ []) rest)) ∙ shorter
 
 last_ends : (size : ℕ) (accesses : List RegAccess) → ends_in_ap_write (last_of (parts_of size accesses)) ≡ ends_in_ap_write accesses
 last_ends size [] = refl
 last_ends size (a ∷ rest) = ends_alike size (a ∷ []) rest (omega arith)
 
 -- no part is longer than the whole
-short_part : (size : ℕ) (part rest : List RegAccess) → length (last_of (filled size part rest)) ≤ length part + length rest
+short_part : (size : ℕ) (part rest : List RegAccess) → length (last_of (filled_parts size part rest)) ≤ length part + length rest
 short_part size part [] = omega arith
 short_part size part (x ∷ rest) = by_fit (fits_guarded size (part ++ x ∷ [])) (short_part size (part ++ x ∷ []) rest) (short_part size (x ∷ []) rest)
   where
-    by_fit : (b : Bool) → length (last_of (filled size (part ++ x ∷ []) rest)) ≤ length (part ++ x ∷ []) + length rest →
-        length (last_of (filled size (x ∷ []) rest)) ≤ 1 + length rest →
-        length (last_of (cond b (filled size (part ++ x ∷ []) rest) (part ∷ filled size (x ∷ []) rest))) ≤ length part + suc (length rest)
+    by_fit : (b : Bool) → length (last_of (filled_parts size (part ++ x ∷ []) rest)) ≤ length (part ++ x ∷ []) + length rest →
+        length (last_of (filled_parts size (x ∷ []) rest)) ≤ 1 + length rest →
+        length (last_of (cond b (filled_parts size (part ++ x ∷ []) rest) (part ∷ filled_parts size (x ∷ []) rest))) ≤ length part + suc (length rest)
     by_fit true longer shorter = (let n = length-append part (x ∷ []) in omega arith)
-    by_fit false longer shorter = (let n = ap length (last_after part (filled size (x ∷ []) rest) (some_parts size (x ∷ []) rest)) in omega arith)
+    by_fit false longer shorter = (let n = ap length (last_after part (filled_parts size (x ∷ []) rest) (some_parts size (x ∷ []) rest)) in omega arith)
 
 short_last : (size : ℕ) (accesses : List RegAccess) → length (last_of (parts_of size accesses)) ≤ length accesses
 short_last size [] = omega arith
 short_last size (a ∷ rest) = (let h = short_part size (a ∷ []) rest in omega arith)
 
-few_parts : (size : ℕ) (part rest : List RegAccess) → length (filled size part rest) ≤ 1 + length rest
+few_parts : (size : ℕ) (part rest : List RegAccess) → length (filled_parts size part rest) ≤ 1 + length rest
 few_parts size part [] = omega arith
 few_parts size part (x ∷ rest) = by_fit (fits_guarded size (part ++ x ∷ [])) (few_parts size (part ++ x ∷ []) rest) (few_parts size (x ∷ []) rest)
   where
-    by_fit : (b : Bool) → length (filled size (part ++ x ∷ []) rest) ≤ 1 + length rest → length (filled size (x ∷ []) rest) ≤ 1 + length rest →
-        length (cond b (filled size (part ++ x ∷ []) rest) (part ∷ filled size (x ∷ []) rest)) ≤ 1 + suc (length rest)
+    by_fit : (b : Bool) → length (filled_parts size (part ++ x ∷ []) rest) ≤ 1 + length rest → length (filled_parts size (x ∷ []) rest) ≤ 1 + length rest →
+        length (cond b (filled_parts size (part ++ x ∷ []) rest) (part ∷ filled_parts size (x ∷ []) rest)) ≤ 1 + suc (length rest)
     by_fit true longer shorter = omega arith
     by_fit false longer shorter = omega arith
 

@@ -11,7 +11,7 @@ use Rattle.dap_transfer.specs.Wires.{Role, Posts, Moves, Fetches, Reads, Matches
 use Rattle.dap_transfer.specs.State.{Setting, TransferState, WireState, is_good}
 use Rattle.dap_transfer.specs.WireTransfer.{Ending, ends, access_made, next_number, number_after, value, wire_ending, wire_ending_as}
 use Rattle.dap_transfer.specs.ValueMatch.{match_ending, match_ending_as}
-use Rattle.dap_transfer.specs.Transfer.{RunResult, ending, ending_as, good_front, run_to_place, transferred}
+use Rattle.dap_transfer.specs.Transfer.{RunResult, ending, ending_as, good_front, run_to_place, transfer_result}
 use Rattle.dap_transfer.specs.Private.{first_then, run}
 use Rattle.dap_transfer.proofs.Runs.{first_place}
 use Rattle.flight_forms.specs.Flights.{IsOver}
@@ -73,7 +73,7 @@ run_over s before l (w ∷ ws) e =
     first_over (ending s l w).response s before l w (ending s l w) _ (role_over w.role s l w.mask w.access) (run_over s _ (ending s l w).line ws) e
 
 -- a command of requests
-pub command_over : (p : TransferState) (rs : List Request) → (transferred p rs).response ≡ Wait → IsOver p.setting (transferred p rs).next.line.number
+pub command_over : (p : TransferState) (rs : List Request) → (transfer_result p rs).response ≡ Wait → IsOver p.setting (transfer_result p rs).next.line.number
 command_over p rs e =
     let ws : List Wire = wires p.mask rs in
     let same = first_place p.setting false p.line ws in

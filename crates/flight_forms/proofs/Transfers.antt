@@ -7,7 +7,7 @@ use Rattle.dap_messages.specs.declared.request.Response.{Response}
 use Rattle.dap_transfer.specs.CommandEnds.{AreGuarded}
 use Rattle.dap_transfer.specs.Laws.{AreNormal, accesses_in}
 use Rattle.dap_transfer.specs.State.{TransferState, Transferred}
-use Rattle.dap_transfer.specs.Transfer.{transferred}
+use Rattle.dap_transfer.specs.Transfer.{transfer_result}
 use Rattle.dap_transfer.proofs.LastMask.{mask_stays}
 use Rattle.flight_forms.specs.Packing.{AreTaken, check_when, requests_for}
 use Rattle.flight_forms.specs.Flights.{DoesPart, DoesTransfer, Part, Performs, part_of}
@@ -48,7 +48,7 @@ part_asked p q accesses part taken h = record {
 pub does_transfer : (p : TransferState) (accesses : List RegAccess) → AreTaken accesses → p.line.target.sticky ≡ false → DoesTransfer p accesses
 does_transfer p accesses taken clear =
     let rs : List Request = requests_for false accesses in
-    let d : Transferred = transferred p rs in
+    let d : Transferred = transfer_result p rs in
     let same : rs ++ check_when false ≡ rs = append-nil rs in
     let asked : accesses_in rs ≡ map asked_of accesses = ap accesses_in (sym same) ∙ accesses_asked false false accesses taken in
     let normal : AreNormal rs = are_normal false accesses in

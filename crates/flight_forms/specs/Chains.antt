@@ -5,7 +5,7 @@ use Rattle.target_machine.specs.declared.access.RegAccess.{RegAccess}
 use Rattle.dap_messages.specs.declared.request.Response.{Response}
 use Rattle.dap_messages.specs.declared.request.Response.TheVariants.{Good, Mismatch}
 use Rattle.dap_transfer.specs.State.{TransferState, Transferred}
-use Rattle.dap_transfer.specs.Transfer.{transferred}
+use Rattle.dap_transfer.specs.Transfer.{transfer_result}
 use Rattle.flight_forms.specs.Packing.{AreTaken, guarded_requests, payload}
 use Rattle.flight_forms.specs.Flights.{DoesPart, Part, part_of}
 
@@ -35,12 +35,12 @@ guarded_part accesses d = part_of (take (d.executed - 2) (payload accesses)) d.r
 -- the replies to the guarded commands of these parts, one after the other
 abbrev pub chain_replies : TransferState → List (List RegAccess) → List Transferred
 chain_replies p [] = []
-chain_replies p (accesses ∷ parts) = let d = transferred p (guarded_requests accesses) in d ∷ chain_replies d.next parts
+chain_replies p (accesses ∷ parts) = let d = transfer_result p (guarded_requests accesses) in d ∷ chain_replies d.next parts
 
 -- the state after the guarded commands of these parts
 abbrev pub chain_after : TransferState → List (List RegAccess) → TransferState
 chain_after p [] = p
-chain_after p (accesses ∷ parts) = let d = transferred p (guarded_requests accesses) in chain_after d.next parts
+chain_after p (accesses ∷ parts) = let d = transfer_result p (guarded_requests accesses) in chain_after d.next parts
 
 -- a part of no accesses
 abbrev pub nothing_yet : Part

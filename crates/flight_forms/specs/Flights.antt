@@ -8,11 +8,11 @@ use Rattle.dap_messages.specs.declared.request.Request.{Request}
 use Rattle.dap_messages.specs.declared.request.Response.{Response}
 use Rattle.dap_messages.specs.declared.request.Response.TheVariants.{Good, Wait, Fault, Mismatch}
 use Rattle.dap_messages.specs.Requests.{kind, reads_in, write_after}
-use Rattle.dap_transfer.specs.Block.{blocked}
+use Rattle.dap_transfer.specs.Block.{block_result}
 use Rattle.target_machine.specs.Counts.{one_if}
 use Rattle.dap_transfer.specs.Laws.{accesses_in, one_at_a_time, reads_value, value_now}
-use Rattle.dap_transfer.specs.State.{Setting, TransferState, grown, is_good, is_wait}
-use Rattle.dap_transfer.specs.Transfer.{transferred}
+use Rattle.dap_transfer.specs.State.{Setting, TransferState, grown_work, is_good, is_wait}
+use Rattle.dap_transfer.specs.Transfer.{transfer_result}
 use Rattle.dap_transfer.specs.WireTransfer.{next_number, reads_rdbuff_itself}
 use Rattle.dap_transfer.specs.Wires.{access_of}
 use Rattle.flight_forms.specs.Packing.{requests_for}
@@ -58,7 +58,7 @@ IsOver s number = (place : ℕ) × (number ≡ next_number place) × (s.retry < 
 pub record DoesPart (p q : TransferState) (accesses : List RegAccess) (part : Part) : Type 0 where
   pub made : Performs p.line.target q.line.target accesses part.performed part.confirmed part.response
   pub values : part.values ≡ slot_values p.line.target (take part.confirmed accesses)
-  pub work : q.work ≡ grown p.work part.performed
+  pub work : q.work ≡ grown_work p.work part.performed
   pub setting : q.setting ≡ p.setting
   pub retries : q.ended_retries ≡ (if is_wait part.response then min (p.ended_retries + 1) (2 ^ 32 - 1) else p.ended_retries)
   -- at WAIT the probe knows too whether the last access is in doubt
@@ -125,7 +125,7 @@ pub record IsPartOf (count : ℕ) (part : Part) : Type 0 where
 abbrev pub DoesTransfer : TransferState → List RegAccess → Type 0
 DoesTransfer p accesses =
     let rs = requests_for false accesses in
-    let d = transferred p rs in
+    let d = transfer_result p rs in
     DoesPart p d.next accesses (part_of (take d.executed rs) d.response d.words) × (d.next.mask ≡ p.mask)
 
 -- what the accesses write
@@ -135,5 +135,5 @@ words_of accesses = map (λ a. a.value) accesses
 -- So does one block of these writes of DRW (request byte 0x0D), whose reply gives no words.
 abbrev pub DoesBlock : TransferState → List RegAccess → Type 0
 DoesBlock p accesses =
-    let d = blocked p 0x0D (words_of accesses) in
+    let d = block_result p 0x0D (words_of accesses) in
     DoesPart p d.next accesses (part_of (take d.executed (requests_for false accesses)) d.response []) × (d.next.mask ≡ p.mask)

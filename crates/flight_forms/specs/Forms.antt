@@ -41,15 +41,15 @@ fits_guarded size accesses =
     nat_le (bytes_in requests + 21) size && nat_le (reads_in requests) ((size - 9) / 4) && nat_le (length requests) 251
 
 -- the parts of a chain, where the first of them has these accesses already: each part has as many as fit
-abbrev pub filled : ℕ → List RegAccess → List RegAccess → List (List RegAccess)
-filled size part [] = part ∷ []
-filled size part (a ∷ rest) =
-    if fits_guarded size (part ++ a ∷ []) then filled size (part ++ a ∷ []) rest else part ∷ filled size (a ∷ []) rest
+abbrev pub filled_parts : ℕ → List RegAccess → List RegAccess → List (List RegAccess)
+filled_parts size part [] = part ∷ []
+filled_parts size part (a ∷ rest) =
+    if fits_guarded size (part ++ a ∷ []) then filled_parts size (part ++ a ∷ []) rest else part ∷ filled_parts size (a ∷ []) rest
 
 -- the parts of a chain of these accesses, each a guarded Transfer
 abbrev pub parts_of : ℕ → List RegAccess → List (List RegAccess)
 parts_of size [] = []
-parts_of size (a ∷ rest) = filled size (a ∷ []) rest
+parts_of size (a ∷ rest) = filled_parts size (a ∷ []) rest
 
 -- A chain holds as many parts as the probe takes packets, which are two at least.
 abbrev pub fits_chain : ℕ → ℕ → List RegAccess → Bool

@@ -49,9 +49,9 @@ payload accesses = requests_for false accesses ++ check_when (write_at_end false
 
 -- A guarded command begins with a value match of DPIDR with 0, which is met only while the match mask is 0, and then sets the
 -- mask to 1. At its end it sets the mask to 0.
-abbrev pub guarded : List Request → List Request
-guarded requests = match_request false 0x0 0 ∷ mask_request 1 ∷ requests ++ mask_request 0 ∷ []
+abbrev pub with_guards : List Request → List Request
+with_guards requests = match_request false 0x0 0 ∷ mask_request 1 ∷ requests ++ mask_request 0 ∷ []
 
 -- the guarded command of these accesses
 abbrev pub guarded_requests : List RegAccess → List Request
-guarded_requests accesses = guarded (payload accesses)
+guarded_requests accesses = with_guards (payload accesses)

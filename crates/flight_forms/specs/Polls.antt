@@ -1,6 +1,6 @@
 -- A portion of a poll of CTRL/STAT, as one packet of four commands.
 use Rattle.std.specs.Prelude.{◌≡◌, ℕ, ◌-◌, false, if◌then◌else◌, List, [], ◌∷◌, length}
-use Rattle.target_machine.specs.Plain.{Polled, is_fault, polled}
+use Rattle.target_machine.specs.Plain.{Polled, is_fault, poll_result}
 use Rattle.dap_messages.specs.declared.request.Request.{Request}
 use Rattle.dap_messages.specs.declared.request.Response.TheVariants.{Good, Mismatch}
 use Rattle.dap_messages.specs.declared.command_value.CommandValue.{CommandValue}
@@ -9,9 +9,9 @@ use Rattle.dap_messages.specs.declared.command.PacketKind.TheVariants.{Execute}
 use Rattle.dap_messages.specs.Commands.{IsPacket, Packet, longest_packet_reply, packet_bytes}
 use Rattle.dap_messages.specs.Requests.{mask_request, match_request}
 use Rattle.dap_messages.specs.Replies.{Answers}
-use Rattle.dap_transfer.specs.Lines.{configured}
-use Rattle.dap_transfer.specs.State.{TransferState, Transferred, grown}
-use Rattle.dap_transfer.specs.Transfer.{transferred}
+use Rattle.dap_transfer.specs.Lines.{configured_state}
+use Rattle.dap_transfer.specs.State.{TransferState, Transferred, grown_work}
+use Rattle.dap_transfer.specs.Transfer.{transfer_result}
 use Rattle.dap_transfer.specs.ValueMatch.{has_matched}
 use Rattle.flight_forms.specs.Packets.{transfer_answer}
 
@@ -34,15 +34,15 @@ poll_commands idle retry mask requested turns =
 
 -- what the value match does and answers
 abbrev pub poll_matched : TransferState → ℕ → ℕ → ℕ → ℕ → Transferred
-poll_matched p retry mask requested turns = transferred (configured p retry (turns - 1)) (poll_requests mask requested)
+poll_matched p retry mask requested turns = transfer_result (configured_state p retry (turns - 1)) (poll_requests mask requested)
 
 -- what the mask after it does and answers
 abbrev pub poll_cleared : TransferState → ℕ → ℕ → ℕ → ℕ → Transferred
-poll_cleared p retry mask requested turns = transferred (poll_matched p retry mask requested turns).next clear_mask
+poll_cleared p retry mask requested turns = transfer_result (poll_matched p retry mask requested turns).next clear_mask
 
 -- the state after the four commands
 abbrev pub poll_after : TransferState → ℕ → ℕ → ℕ → ℕ → TransferState
-poll_after p retry mask requested turns = configured (poll_cleared p retry mask requested turns).next retry 0
+poll_after p retry mask requested turns = configured_state (poll_cleared p retry mask requested turns).next retry 0
 
 -- A portion of a poll reads CTRL/STAT one read at a time until it matches. Its replies say whether it did. After it the target is that after
 -- these reads, the match mask and match retry are 0, and each read is one of the work. Nothing else changed.
@@ -58,13 +58,13 @@ pub record DoesPoll (p : TransferState) (retry mask requested turns : ℕ) (x : 
     setting = record p.setting { retry = retry; matches = 0 };
     line = record p.line { target = x.next };
     mask = 0;
-    work = grown p.work x.reads;
+    work = grown_work p.work x.reads;
   }
 
 -- the same of a portion of so many turns from a state of the probe
 abbrev pub PollsAtOnce : TransferState → ℕ → ℕ → ℕ → ℕ → Type 0
 PollsAtOnce p retry mask requested turns =
-    DoesPoll p retry mask requested turns (polled turns mask requested p.line.target)
+    DoesPoll p retry mask requested turns (poll_result turns mask requested p.line.target)
     (poll_matched p retry mask requested turns) (poll_cleared p retry mask requested turns)
 
 -- the packet of these commands

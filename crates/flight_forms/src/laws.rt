@@ -8,9 +8,9 @@ ghost use Rattle.dap_messages.specs.Replies.{Answers};
 ghost use Rattle.dap_messages.specs.Replies as reply;
 ghost use Rattle.dap_messages.specs.Responses.{code_of};
 ghost use Rattle.dap_messages.specs.declared.request.Response.{Response};
-ghost use Rattle.dap_transfer.specs.Block.{blocked};
+ghost use Rattle.dap_transfer.specs.Block.{block_result};
 ghost use Rattle.dap_transfer.specs.State.{TransferState};
-ghost use Rattle.dap_transfer.specs.Transfer.{transferred};
+ghost use Rattle.dap_transfer.specs.Transfer.{transfer_result};
 ghost use Rattle.flight_forms.specs.Chains.{AllTaken, DoesChain, IsGuardOpen, all_of, chain_replies, joined_as};
 ghost use Rattle.flight_forms.specs.Flights.{DoesBlock, DoesTransfer, IsPartOf, Part, part_of, words_of};
 ghost use Rattle.flight_forms.specs.Forms.{all_write_drw, capacity, fits_block, fits_guarded, fits_transfer, form_of, parts_of};
@@ -86,9 +86,9 @@ pub fn how_many_fit()
 /// there is no guard. The target has numbers in their ranges.
 pub fn replies_may_come()
     ensures block { (p : TransferState) (size : ℕ) (accesses : List RegAccess) → fits_block size accesses ≡ true → p.line.target.sticky ≡ false
-        → Answers (block_command accesses) (block_answer (blocked p 0x0D (words_of accesses))) }
+        → Answers (block_command accesses) (block_answer (block_result p 0x0D (words_of accesses))) }
     ensures transfer { (p : TransferState) (accesses : List RegAccess) → AreTaken accesses → AreWords accesses → p.line.target.sticky ≡ false → IsInRange p.line.target
-        → Answers (transfer_command accesses) (transfer_answer (transferred p (requests_for false accesses))) }
+        → Answers (transfer_command accesses) (transfer_answer (transfer_result p (requests_for false accesses))) }
     ensures chain { (p : TransferState) (parts : List (List RegAccess)) → AllTaken parts → AllByRecursion AreWords parts → IsGuardOpen p → IsInRange p.line.target
         → AnswerChain parts (chain_replies p parts) }
 {}

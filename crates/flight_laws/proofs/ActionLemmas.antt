@@ -14,7 +14,7 @@ use Rattle.access_regs.proofs.Seams.{after_split, passes_both}
 use Rattle.access_regs.specs.Entries.{NoneFault}
 use Rattle.access_regs.specs.Journal.{making}
 use Rattle.target_calls.specs.Journal.{Entry, Passes, actions_in, target_after}
-use Rattle.target_calls.specs.Weights.{commands_in, commands_of, performed, registers_in, registers_of, weight, weight_in}
+use Rattle.target_calls.specs.Weights.{commands_in, commands_of, entries_performed, registers_in, registers_of, weight, weight_in}
 use Rattle.flight_laws.proofs.CutLemmas.{Cutting, cut, faults, front_target, one_more, passes_but_last, work_is}
 use Rattle.flight_laws.proofs.FlightLemmas.{commands_both, flight_length, head_makes, weight_both}
 use Rattle.flight_laws.specs.Actions.{ActionBench, ActionDone, ActionWait, AreForgiving, FaultForgiven}
@@ -29,7 +29,7 @@ use Rattle.probe_core.specs.Bench.{BenchState}
 use Rattle.probe_core.specs.Probe.{ended_retries_of, target_of, work_of}
 use Rattle.probe_core.specs.declared.job.Limits.{Limits}
 use Rattle.target_machine.specs.Lists.{after}
-use Rattle.target_machine.specs.Plain.{Action, Commands, Makes, acted, forgives, is_fault}
+use Rattle.target_machine.specs.Plain.{Action, Commands, Makes, action_attempt, forgives, is_fault}
 use Rattle.target_machine.specs.State.{Agree, TargetState}
 use Rattle.target_machine.specs.declared.access.RegAccess.{RegAccess}
 use Rattle.dap_messages.specs.declared.request.Response.{Response}
@@ -52,8 +52,8 @@ action_done entries made e rest m0 m o on does passes room =
       are = on.are ∙ sym (append_assoc made (e ∷ []) rest);
       weighty = on.weighty;
       flight = refl;
-      passes = passes_both t0 made (e ∷ []) on.passes (ap (λ (s : TargetState). is_fault (acted s e.action).outcome && not e.forgiving) (sym on.target) ∙ passes, tt);
-      target = does.target ∙ ap (λ (s : TargetState). (acted s e.action).next) on.target ∙ sym (after_split t0 made (e ∷ []));
+      passes = passes_both t0 made (e ∷ []) on.passes (ap (λ (s : TargetState). is_fault (action_attempt s e.action).outcome && not e.forgiving) (sym on.target) ∙ passes, tt);
+      target = does.target ∙ ap (λ (s : TargetState). (action_attempt s e.action).next) on.target ∙ sym (after_split t0 made (e ∷ []));
       clear = does.clear;
       work = (let a = does.work in let b = on.work in let c = weight_one t0 made e in omega (arith, a, b, c, w));
       room = omega (arith, room);
@@ -78,10 +78,10 @@ module _ (entries made : List Entry) (e : Entry) (rest : List Entry) (n : Option
   abbrev t0 : TargetState
   t0 = target_of m0.probe
 
-  count_at : length made ≡ performed t0 entries (work_of o.probe - work_of m0.probe)
+  count_at : length made ≡ entries_performed t0 entries (work_of o.probe - work_of m0.probe)
   count_at =
       let g : work_of o.probe - work_of m0.probe ≡ weight_in t0 made + work = (let a = on.work in omega (arith, a, grown)) in
-      sym ((λ j. performed t0 (on.are j) (g j)) ∙ performed_part t0 made e rest work (subst (λ (s : TargetState). work < weight s e.action) on.target less))
+      sym ((λ j. entries_performed t0 (on.are j) (g j)) ∙ performed_part t0 made e rest work (subst (λ (s : TargetState). work < weight s e.action) on.target less))
 
   long : length entries ≡ length made + suc (length rest)
   long = ap length on.are ∙ length-append made (e ∷ rest)
@@ -172,19 +172,19 @@ action_wait_law entries made e rest n m0 m o work r b on grown less same idle re
 
 pub forgiving_passes : (u : TargetState) (es : List Entry) → AreForgiving es → Passes u es
 forgiving_passes u [] h = tt
-forgiving_passes u (e ∷ es) h = (ap (λ (b : Bool). is_fault (acted u e.action).outcome && not b) h.0 ∙ and_false (is_fault (acted u e.action).outcome), forgiving_passes (acted u e.action).next es h.1)
+forgiving_passes u (e ∷ es) h = (ap (λ (b : Bool). is_fault (action_attempt u e.action).outcome && not b) h.0 ∙ and_false (is_fault (action_attempt u e.action).outcome), forgiving_passes (action_attempt u e.action).next es h.1)
   where
     and_false : (b : Bool) → (b && not true) ≡ false
     and_false true = refl
     and_false false = refl
 
-none_fault_at : (u : TargetState) (front : List Entry) (e : Entry) (back : List Entry) (lead : List RegAccess) (a : RegAccess) → NoneFault u lead → actions_in (front ++ e ∷ back) ≡ making (lead ++ a ∷ []) → length front < length lead → is_fault (acted (after u (actions_in front)) e.action).outcome ≡ false
+none_fault_at : (u : TargetState) (front : List Entry) (e : Entry) (back : List Entry) (lead : List RegAccess) (a : RegAccess) → NoneFault u lead → actions_in (front ++ e ∷ back) ≡ making (lead ++ a ∷ []) → length front < length lead → is_fault (action_attempt (after u (actions_in front)) e.action).outcome ≡ false
 none_fault_at u [] e back [] a h is less = absurd (omega (arith, less))
-none_fault_at u [] e back (b ∷ lead) a h is less = ap (λ (x : Action). is_fault (acted u x).outcome) (head_makes e.action (Makes b) (actions_in back) (making (lead ++ a ∷ [])) is).0 ∙ h.0
+none_fault_at u [] e back (b ∷ lead) a h is less = ap (λ (x : Action). is_fault (action_attempt u x).outcome) (head_makes e.action (Makes b) (actions_in back) (making (lead ++ a ∷ [])) is).0 ∙ h.0
 none_fault_at u (x ∷ front) e back [] a h is less = absurd (omega (arith, less))
 none_fault_at u (x ∷ front) e back (b ∷ lead) a h is less =
     let p = head_makes x.action (Makes b) (actions_in (front ++ e ∷ back)) (making (lead ++ a ∷ [])) is in
-    none_fault_at (acted u x.action).next front e back lead a (subst (λ (y : Action). NoneFault (acted u y).next lead) (sym p.0) h.1) p.1 (omega (arith, less))
+    none_fault_at (action_attempt u x.action).next front e back lead a (subst (λ (y : Action). NoneFault (action_attempt u y).next lead) (sym p.0) h.1) p.1 (omega (arith, less))
 
 all_forgiving : (xs : List Entry) (e : Entry) → AreForgiving xs → e.forgiving ≡ true → AreForgiving (xs ++ e ∷ [])
 all_forgiving [] e h k = (k, tt)
@@ -195,11 +195,11 @@ module _ (entries made flying rest : List Entry) (lead : List RegAccess) (a : Re
   early : part.confirmed < length lead → part.confirmed < length (lead ++ a ∷ []) → ⊥
   early less short =
       let c : Cutting part.confirmed flying = cut entries made flying rest (lead ++ a ∷ []) None m0 m o part on flies.does bad short in
-      let good : is_fault (acted (after (target_of m.probe) (actions_in c.front)) c.entry.action).outcome ≡ false =
+      let good : is_fault (action_attempt (after (target_of m.probe) (actions_in c.front)) c.entry.action).outcome ≡ false =
       none_fault_at (target_of m.probe) c.front c.entry c.back lead a none (ap actions_in (sym c.is) ∙ on.flight) (let at = c.at in omega (arith, at, less)) in
       let here : after (target_of m0.probe) (actions_in (made ++ c.front)) ≡ after (target_of m.probe) (actions_in c.front) = after_split (target_of m0.probe) made c.front ∙ ap (λ (s : TargetState). after s (actions_in c.front)) (sym on.target) in
-      both_ways (is_fault (acted (after (target_of m.probe) (actions_in c.front)) c.entry.action).outcome) good
-      (ap (λ (s : TargetState). is_fault (acted s c.entry.action).outcome) (sym here) ∙ faults entries made flying rest (lead ++ a ∷ []) None m0 m o part on flies.does bad short)
+      both_ways (is_fault (action_attempt (after (target_of m.probe) (actions_in c.front)) c.entry.action).outcome) good
+      (ap (λ (s : TargetState). is_fault (action_attempt s c.entry.action).outcome) (sym here) ∙ faults entries made flying rest (lead ++ a ∷ []) None m0 m o part on flies.does bad short)
 
   last_by : part.confirmed < length (lead ++ a ∷ []) → length (lead ++ a ∷ []) ≡ length lead + 1 → (part.confirmed < length lead → ⊥) → part.confirmed ≡ length lead
   last_by short len never = by_place (cases_lt part.confirmed (length lead))
@@ -240,7 +240,7 @@ fault_forgiven entries made flying abort rest lead a m0 m o p part on flies bad 
       weighty = on.weighty;
       flight = refl;
       passes = passes_both t0 made (flying ++ abort ∷ []) on.passes (forgiving_passes (after t0 (actions_in made)) (flying ++ abort ∷ []) (all_forgiving flying abort forgiving mild));
-      target = does.target ∙ ap (λ (s : TargetState). (acted s (Commands forgives)).next) target_o ∙ ap (λ (x : Action). (acted (after t0 (actions_in (made ++ flying))) x).next) (sym action)
+      target = does.target ∙ ap (λ (s : TargetState). (action_attempt s (Commands forgives)).next) target_o ∙ ap (λ (x : Action). (action_attempt (after t0 (actions_in (made ++ flying))) x).next) (sym action)
           ∙ sym (after_split t0 (made ++ flying) (abort ∷ [])) ∙ ap (λ (l : List Entry). after t0 (actions_in l)) (sym joined);
       clear = does.clear;
       work = (let w = on.work in let d : work_of p.probe ≡ work_of o.probe + 1 = does.work in omega (arith, w, d, work_o, w1, w2, w3, wj, all));

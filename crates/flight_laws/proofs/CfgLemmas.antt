@@ -3,7 +3,7 @@ use Rattle.std.proofs.Common.{◌≡◌, ◌∙◌, ℕ, ◌<◌, Bool, true, fa
 use Rattle.dap_base.specs.Bits.{has_bit}
 use Rattle.target_machine.specs.Attempt.{Attempt, attempt}
 use Rattle.target_machine.specs.Lists.{after}
-use Rattle.target_machine.specs.Plain.{Action, CallDone, Makes, call_done, cfg_actions, contains, ended, given, has_large, in_order, is_fault, issued, memory_actions, needs_cfg, result_of, select_of}
+use Rattle.target_machine.specs.Plain.{Action, CallDone, Makes, call_done, cfg_actions, contains, ended_call, given_number, has_large, in_order, is_fault, issued_actions, memory_actions, needs_cfg, result_of, select_of}
 use Rattle.target_machine.specs.State.{TargetState}
 use Rattle.target_machine.specs.declared.unit.Call.{Call}
 use Rattle.target_machine.specs.declared.unit.Call.TheVariants.{Access}
@@ -19,8 +19,8 @@ use Rattle.access_regs.specs.Entries.{kept_by, target_by}
 use Rattle.access_regs.specs.Follows.{Follows}
 use Rattle.access_regs.specs.Journal.{gives, making}
 use Rattle.access_regs.specs.Kept.{Kept}
-use Rattle.access_regs.specs.Plan.{cfg_plan, select_needed, select_value, settle, settled}
-use Rattle.access_regs.specs.Kept.{selected}
+use Rattle.access_regs.specs.Plan.{cfg_plan, select_needed, select_value, settle, kept_after_settling}
+use Rattle.access_regs.specs.Kept.{kept_with_select}
 use Rattle.access_regs.specs.declared.known.Unsettled.{Unsettled}
 use Rattle.access_regs.proofs.AllCalls.{journal_follows}
 use Rattle.access_regs.proofs.FollowsFacts.{at_select, follows_select, plain_select, planned_select}
@@ -39,7 +39,7 @@ module _ (k : Kept) (large : List ℕ) (t u : TargetState) (f : Follows k large 
   abbrev us : TargetState
   us = at_select u n 0xF
 
-  selects : Follows (selected k (select_value n 0xF)) large ts us
+  selects : Follows (kept_with_select k (select_value n 0xF)) large ts us
   selects = follows_select k large t u f n 0xF lt (omega arith) (λ s e. (let x : ◌≡◌ {A = Option Unsettled} None (Some s) = sym calm ∙ e in absurd (cc)))
 
   plain_read : in_order t (cfg_actions n) ≡ attempt ts cfg_access
@@ -53,13 +53,13 @@ module _ (k : Kept) (large : List ℕ) (t u : TargetState) (f : Follows k large 
   same_read : (in_order t (cfg_actions n)).outcome ≡ (in_order u (making (cfg_plan k n))).outcome
   same_read =
       ap (λ (x : Attempt). x.outcome) plain_read
-      ∙ (attempt_agrees ts us cfg_access (follows_agree (selected k (select_value n 0xF)) large ts us selects calm) refl).outcome
+      ∙ (attempt_agrees ts us cfg_access (follows_agree (kept_with_select k (select_value n 0xF)) large ts us selects calm) refl).outcome
       ∙ ap (λ (x : Attempt). x.outcome) (sym planned_read)
 
   same_large : has_large t n ≡ has_bit (gives u (cfg_plan k n)) 2
-  same_large = ap (λ o. has_bit (given o) 2) same_read
+  same_large = ap (λ o. has_bit (given_number o) 2) same_read
 
-small_when : (faults forgives : Bool) (v : ℕ) (t : TargetState) (l : List ℕ) (xs : List Action) → faults ≡ false → is_small_end (ended faults forgives true v t l xs).end ≡ true
+small_when : (faults forgives : Bool) (v : ℕ) (t : TargetState) (l : List ℕ) (xs : List Action) → faults ≡ false → is_small_end (ended_call faults forgives true v t l xs).end ≡ true
 small_when true forgives v t l xs e = absurd (cc)
 small_when false forgives v t l xs e = refl
 
@@ -72,7 +72,7 @@ module _ (large : List ℕ) (size : ℕ) (read : Bool) (n address value : ℕ) (
   shape t w b =
       let actions : List Action = cond w (cfg_actions n ++ cond b (memory_actions (in_order t (cfg_actions n)).next true size read n address value) []) (memory_actions t (contains large n) size read n address value) in
       let ran : Attempt = in_order t actions in
-      ended (is_fault ran.outcome) (forgive && true) (w && not b) (result_of call (given ran.outcome)) ran.next (cond (w && b) (large ++ n ∷ []) large) (issued t actions)
+      ended_call (is_fault ran.outcome) (forgive && true) (w && not b) (result_of call (given_number ran.outcome)) ran.next (cond (w && b) (large ++ n ∷ []) large) (issued_actions t actions)
 
   by_definition : (t : TargetState) → call_done t large forgive call ≡ shape t (needs_cfg large n address) (has_large t n)
   unfolding call_done
@@ -95,7 +95,7 @@ small_by_cfg p t asks n size read port address value forgive fresh ok whole lt w
     let follows : Follows (kept_by p t asks) large plain (target_by p t asks) = journal_follows p t asks fresh ok s.none in
     let g = settles (kept_by p t asks) large plain (target_by p t asks) follows in
     let at : after (target_by p t asks) (making (settle (kept_by p t asks))) ≡ g.at = pass_after (target_by p t asks) g.at (making (settle (kept_by p t asks))) g.pass in
-    let k : Kept = settled (kept_by p t asks) in
+    let k : Kept = kept_after_settling (kept_by p t asks) in
     let f : Follows k large plain (after (target_by p t asks) (making (settle (kept_by p t asks)))) = subst (Follows k large plain) (sym at) g.follows in
     let u : TargetState = after (target_by p t asks) (making (settle (kept_by p t asks))) in
     let needs : needs_cfg large port address ≡ true = ap (λ (b : Bool). nat_lt 0xFFFF_FFFF address && not b) (sym (f.larges port lt)) ∙ wide in
@@ -117,7 +117,7 @@ small_alone p t asks n size read port address value forgive fresh ok whole lt wi
     let follows : Follows (kept_by p t asks) large plain (target_by p t asks) = journal_follows p t asks fresh ok s.none in
     let g = settles (kept_by p t asks) large plain (target_by p t asks) follows in
     let at : after (target_by p t asks) (making (settle (kept_by p t asks))) ≡ g.at = pass_after (target_by p t asks) g.at (making (settle (kept_by p t asks))) g.pass in
-    let k : Kept = settled (kept_by p t asks) in
+    let k : Kept = kept_after_settling (kept_by p t asks) in
     let u : TargetState = after (target_by p t asks) (making (settle (kept_by p t asks))) in
     let f : Follows k large plain u = subst (Follows k large plain) (sym at) g.follows in
     let needs : needs_cfg large port address ≡ true = ap (λ (b : Bool). nat_lt 0xFFFF_FFFF address && not b) (sym (f.larges port lt)) ∙ wide in
@@ -128,4 +128,4 @@ small_alone p t asks n size read port address value forgive fresh ok whole lt wi
     one_small (start_world t n) asks (unit_ask (unit.Memory size read port address value) forgive) whole
     ∙ (λ j. is_small_end (call_done (target j) (larges j) forgive (Access (unit.Memory size read port address value))).end)
     ∙ small_shape large size read port address value forgive plain needs clear
-    ∙ ap (λ o. not (has_bit (given o) 2)) same.outcome
+    ∙ ap (λ o. not (has_bit (given_number o) 2)) same.outcome

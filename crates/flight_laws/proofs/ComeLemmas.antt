@@ -1,7 +1,8 @@
 -- Calls all of whose entries were made.
 use Rattle.std.proofs.Common.{◌≡◌, ◌∙◌, ℕ, suc, ◌+◌, Bool, true, false, cond, ◌||◌, List, [], ◌∷◌, ◌++◌, length, slice_index, Option, Some, None, refl, sym, ap, subst, arith, append-nil, append_assoc, length-append}
+use Rattle.std.proofs.Math.Bool.{or-true}
 use Rattle.std.proofs.lemmas.Bool.{both_ways}
-use Rattle.target_machine.specs.Plain.{CallEnd, Answered, Faulted, Skipped, Small, acted, call_done, given, result_of}
+use Rattle.target_machine.specs.Plain.{CallEnd, Answered, Faulted, Skipped, Small, action_attempt, call_done, given_number, result_of}
 use Rattle.target_machine.specs.State.{TargetState}
 use Rattle.probe_core.specs.Bench.{BenchState}
 use Rattle.probe_core.specs.Probe.{target_of}
@@ -15,7 +16,7 @@ use Rattle.target_calls.proofs.EndLemmas.{skipped_forgives}
 use Rattle.target_calls.proofs.OneCall.{one_last, one_results, one_skips, one_small, one_stops}
 use Rattle.access_regs.specs.Alone.{call_alone, alone_after, large_of_all}
 use Rattle.access_regs.specs.Entries.{AnsweredAt, kept_by, target_by}
-use Rattle.access_regs.specs.Journal.{issue_of, issued}
+use Rattle.access_regs.specs.Journal.{issue_of, issued_entries}
 use Rattle.access_regs.specs.Stops.{world_at}
 use Rattle.access_regs.proofs.SkipLemmas.{fault_skips, passing_is_made}
 use Rattle.access_regs.proofs.EntryLemmas.{call_answers}
@@ -29,7 +30,7 @@ use Rattle.flight_laws.proofs.SmallLemmas.{NeverStops, never_stops}
 use Rattle.access_regs.specs.declared.planner.Planner.{Planner}
 
 -- all entries were made
-all_made : (p : Planner) (calls : List Ask) (confirmed count : ℕ) (came : List ℕ) (m0 m : BenchState) → (s : IsSending p calls confirmed count [] [] [] came m0 m) → issued p (target_of m0.probe) calls ≡ s.made
+all_made : (p : Planner) (calls : List Ask) (confirmed count : ℕ) (came : List ℕ) (m0 m : BenchState) → (s : IsSending p calls confirmed count [] [] [] came m0 m) → issued_entries p (target_of m0.probe) calls ≡ s.made
 all_made p calls confirmed count came m0 m s = s.on.are ∙ append-nil s.made
 
 pub none_stopped : NoneStopped
@@ -42,7 +43,7 @@ all_came p calls confirmed count old came m0 m b kept s h = record {
   askable = subst AreAskable (sym h.calls_are) s.askable;
   made = s.made;
   flying = [];
-  on = subst (λ (l : List Ask). IsUnderWay (issued p (target_of m0.probe) l) s.made [] [] [] m0 m) (sym h.calls_are) s.on;
+  on = subst (λ (l : List Ask). IsUnderWay (issued_entries p (target_of m0.probe) l) s.made [] [] [] m0 m) (sym h.calls_are) s.on;
   kept_is = ap (kept_by p (target_of m0.probe)) h.calls_are ∙ h.kept_is;
   confirmed = s.confirmed_is ∙ sym h.confirmed_is;
   issued_is = (let c = s.confirmed_is in let i = h.issued_is in omega (arith, c, i));
@@ -51,7 +52,7 @@ all_came p calls confirmed count old came m0 m b kept s h = record {
   back = [];
   calls = h.calls_are ∙ sym (append-nil calls);
   part = [];
-  made_is = sym (all_made p calls confirmed count old m0 m s) ∙ sym (append-nil (issued p (target_of m0.probe) calls));
+  made_is = sym (all_made p calls confirmed count old m0 m s) ∙ sym (append-nil (issued_entries p (target_of m0.probe) calls));
   came_is = h.came_is;
   came_are = h.came_are;
   skipped_is = h.skipped_is;
@@ -120,14 +121,14 @@ module _ (t : TargetState) (asks : List Ask) (ask : Ask) (whole : stop (start_wo
 
 -- the answer of a call that is answered
 module _ (p : Planner) (t : TargetState) (asks : List Ask) (ask : Ask) (more : List Ask) (front : List Entry) (e : Entry) (rest : List Entry) (fresh : IsFresh t) (ok : AreAskable (asks ++ ask ∷ more))
-    (whole : stop (start_world t None) asks ≡ None) (is : issued p t (asks ++ ask ∷ more) ≡ front ++ e ∷ rest)
-    (at : length front + 1 ≡ length (issued p t asks) + length (issue_of p (target_by p t asks) (kept_by p t asks) ask).steps) where
-  pub answer_given : (v : ℕ) → there t asks ask whole ≡ Answered v → v ≡ result_of ask.call (given (acted (target_after t front) e.action).outcome)
+    (whole : stop (start_world t None) asks ≡ None) (is : issued_entries p t (asks ++ ask ∷ more) ≡ front ++ e ∷ rest)
+    (at : length front + 1 ≡ length (issued_entries p t asks) + length (issue_of p (target_by p t asks) (kept_by p t asks) ask).steps) where
+  pub answer_given : (v : ℕ) → there t asks ask whole ≡ Answered v → v ≡ result_of ask.call (given_number (action_attempt (target_after t front) e.action).outcome)
   answer_given v end =
-      let a : AnsweredAt p t (issued p t (asks ++ ask ∷ more)) asks ask v = call_answers p t asks ask more v fresh ok (never t asks ask whole).none (sym (alone_is t asks ask whole) ∙ end) in
+      let a : AnsweredAt p t (issued_entries p t (asks ++ ask ∷ more)) asks ask v = call_answers p t asks ask more v fresh ok (never t asks ask whole).none (sym (alone_is t asks ask whole) ∙ end) in
       let place = a.at in
       let same = same_cut a.front front a.entry e a.more rest (sym a.is ∙ is) (omega (arith, place, at)) in
-      sym a.gives_it ∙ (λ j. result_of ask.call (given (acted (target_after t (same.0 j)) (same.1 j).action).outcome))
+      sym a.gives_it ∙ (λ j. result_of ask.call (given_number (action_attempt (target_after t (same.0 j)) (same.1 j).action).outcome))
 
 pub result_given : ResultGiven
 result_given p t asks ask more front e rest fresh ok whole mild large is at = result_there t asks ask more whole ∙ by_end (done_now (world_after (start_world t None) asks) ask).end refl
@@ -135,17 +136,13 @@ result_given p t asks ask more front e rest fresh ok whole mild large is at = re
     before : stop (start_world t None) asks ≡ None
     before = before_whole t asks ask more whole
 
-    by_end : (x : CallEnd) → (done_now (world_after (start_world t None) asks) ask).end ≡ x → end_result x ≡ result_of ask.call (given (acted (target_after t front) e.action).outcome)
+    by_end : (x : CallEnd) → (done_now (world_after (start_world t None) asks) ask).end ≡ x → end_result x ≡ result_of ask.call (given_number (action_attempt (target_after t front) e.action).outcome)
     by_end (Answered v) end = answer_given p t asks ask more front e rest fresh ok before is at v end
     by_end Skipped end = absurd (both_ways (is_forgiving ask) mild (skipped_forgives (world_after (start_world t None) asks) ask end))
     by_end Faulted end = absurd (both_ways (stops_here (world_after (start_world t None) asks) ask) (goes_here t asks ask more whole) (faulted_here end))
       where
         faulted_here : (done_now (world_after (start_world t None) asks) ask).end ≡ Faulted → stops_here (world_after (start_world t None) asks) ask ≡ true
-        faulted_here end = rw end (or_true _)
-          where
-            or_true : (b : Bool) → (b || true) ≡ true
-            or_true true = refl
-            or_true false = refl
+        faulted_here end = rw end (or-true _)
     by_end Small end = absurd (both_ways (small_now (start_world t None) asks ask) large (one_small (start_world t None) asks ask before ∙ ap is_small_end end))
 
 -- ---- one call more
@@ -181,10 +178,10 @@ pass_given p t asks ask front e rest at fresh ok whole pass large is place =
     w = start_world t None
 
     value : ℕ
-    value = result_of ask.call (given (acted (target_after t front) e.action).outcome)
+    value = result_of ask.call (given_number (action_attempt (target_after t front) e.action).outcome)
 
     by_end : (x : CallEnd) → there t asks ask whole ≡ x → (there t asks ask whole ≡ Skipped → ⊥) → (there t asks ask whole ≡ Faulted → ⊥) →
-        results w (asks ++ ask ∷ []) ≡ results w asks ++ result_of ask.call (given (acted (target_after t front) e.action).outcome) ∷ []
+        results w (asks ++ ask ∷ []) ≡ results w asks ++ result_of ask.call (given_number (action_attempt (target_after t front) e.action).outcome) ∷ []
     by_end (Answered v) end no_skip no_fault =
         one_results w asks ask whole (goes_on t asks ask whole (Answered v) end refl) ∙ ap (λ (x : CallEnd). results w asks ++ end_result x ∷ []) end
         ∙ ap (λ (n : ℕ). results w asks ++ n ∷ []) (answer_given p t asks ask [] front e rest fresh ok whole is place v end)

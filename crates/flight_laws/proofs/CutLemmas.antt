@@ -25,7 +25,7 @@ use Rattle.probe_core.specs.Bench.{BenchState}
 use Rattle.probe_core.specs.Probe.{ended_retries_of, target_of, work_of}
 use Rattle.probe_core.specs.declared.job.Limits.{Limits}
 use Rattle.target_machine.specs.Lists.{after}
-use Rattle.target_machine.specs.Plain.{Action, Makes, acted, is_fault}
+use Rattle.target_machine.specs.Plain.{Action, Makes, action_attempt, is_fault}
 use Rattle.target_machine.specs.State.{TargetState}
 use Rattle.target_machine.specs.declared.access.RegAccess.{RegAccess}
 use Rattle.target_machine.proofs.CountLemmas.{one_most}
@@ -76,7 +76,7 @@ pub weight_longer : (t : TargetState) (n k : ℕ) (es : List Entry) → n ≤ k 
 weight_longer t zero k es le = omega arith
 weight_longer t (suc n) zero es le = absurd (omega (arith, le))
 weight_longer t (suc n) (suc k) [] le = omega arith
-weight_longer t (suc n) (suc k) (e ∷ es) le = (let r = weight_longer (acted t e.action).next n k es (omega (arith, le)) in omega (arith, r))
+weight_longer t (suc n) (suc k) (e ∷ es) le = (let r = weight_longer (action_attempt t e.action).next n k es (omega (arith, le)) in omega (arith, r))
 
 -- all but the last of the entries that were begun, where more than these pass
 pub passes_but_last : (t : TargetState) (begun : ℕ) (entries front rest : List Entry) → entries ≡ front ++ rest → Passes t front → begun - 1 ≤ length front → Passes t (take (begun - 1) entries)
@@ -194,19 +194,19 @@ module _ (entries made flying rest : List Entry) (accesses : List RegAccess) (n 
           ∙ ap (after (target_of m.probe)) (flight_take part.confirmed flying accesses on.flight) ∙ makes_after (target_of m.probe) (take part.confirmed accesses))
           ∙ clear_end (target_of m.probe) (take part.confirmed accesses) does.made.clear
 
-      after_is : target_of o.probe ≡ (acted before cut.entry.action).next
+      after_is : target_of o.probe ≡ (action_attempt before cut.entry.action).next
       after_is =
           front_target
           ∙ ap (λ (l : List Entry). after t0 (actions_in (made ++ l))) with_is
           ∙ ap (λ (l : List Entry). after t0 (actions_in l)) (sym (append_assoc made cut.front (cut.entry ∷ [])))
           ∙ after_split t0 (made ++ cut.front) (cut.entry ∷ [])
 
-      pub faults : is_fault (acted before cut.entry.action).outcome ≡ true
+      pub faults : is_fault (action_attempt before cut.entry.action).outcome ≡ true
       faults =
           let a : IsMakes cut.entry = is_makes cut.front cut.entry cut.back accesses (ap actions_in (sym cut.is) ∙ on.flight) in
-          let set : (acted before cut.entry.action).next.sticky ≡ true = ap (λ (s : TargetState). s.sticky) (sym after_is) ∙ (does.made.fault bad).1 in
-          ap (λ (x : Action). is_fault (acted before x).outcome) a.is
-          ∙ sym (attempt_sets before a.access before_clear) ∙ subst (λ (x : Action). (acted before x).next.sticky ≡ true) a.is set
+          let set : (action_attempt before cut.entry.action).next.sticky ≡ true = ap (λ (s : TargetState). s.sticky) (sym after_is) ∙ (does.made.fault bad).1 in
+          ap (λ (x : Action). is_fault (action_attempt before x).outcome) a.is
+          ∙ sym (attempt_sets before a.access before_clear) ∙ subst (λ (x : Action). (action_attempt before x).next.sticky ≡ true) a.is set
 
       fault_at : AreStrict flying → IsStrictFaultAt entries (length made + part.confirmed) t0
       unfolding cut_at

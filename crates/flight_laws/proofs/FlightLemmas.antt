@@ -12,7 +12,7 @@ use Rattle.batch_packer.specs.Flying.{Flies}
 use Rattle.flight_laws.specs.UnderWay.{IsUnderWay}
 use Rattle.target_machine.specs.Counts.{one_if}
 use Rattle.dap_transfer.specs.Laws.{one_at_a_time}
-use Rattle.dap_transfer.specs.State.{grown, is_wait}
+use Rattle.dap_transfer.specs.State.{grown_work, is_wait}
 use Rattle.flight_forms.specs.Flights.{AreClear, Part, slot_values}
 use Rattle.flight_forms.proofs.Rows.{clear_end}
 use Rattle.probe_core.specs.Bench.{BenchState}
@@ -20,7 +20,7 @@ use Rattle.probe_core.specs.Probe.{ended_retries_of, target_of, work_of}
 use Rattle.target_machine.proofs.AccessLaws.{fault_sets}
 use Rattle.target_machine.specs.Attempt.{attempt}
 use Rattle.target_machine.specs.Lists.{after}
-use Rattle.target_machine.specs.Plain.{Action, Makes, acted, is_fault}
+use Rattle.target_machine.specs.Plain.{Action, Makes, action_attempt, is_fault}
 use Rattle.target_machine.specs.State.{TargetState}
 use Rattle.target_machine.specs.declared.access.RegAccess.{RegAccess}
 use Rattle.target_machine.specs.declared.access.Outcome.{Outcome}
@@ -59,7 +59,7 @@ flight_weight t (x ∷ es) [] e = absurd (cc)
 flight_weight t (x ∷ es) (a ∷ accesses) e =
     let p = head_makes x.action (Makes a) (actions_in es) (making accesses) e in
     let one : weight t x.action ≡ 1 = ap (weight t) p.0 in
-    let rest : weight_in (acted t x.action).next es ≡ length es = flight_weight (acted t x.action).next es accesses p.1 in
+    let rest : weight_in (action_attempt t x.action).next es ≡ length es = flight_weight (action_attempt t x.action).next es accesses p.1 in
     omega (arith, one, rest)
 
 -- none is a command of the probe
@@ -101,8 +101,8 @@ clear_passes t [] accesses e h = tt
 clear_passes t (x ∷ es) [] e h = absurd (cc)
 clear_passes t (x ∷ es) (a ∷ accesses) e h =
     let p = head_makes x.action (Makes a) (actions_in es) (making accesses) e in
-    let good : is_fault (acted t x.action).outcome ≡ false = ap (λ (y : Action). is_fault (acted t y).outcome) p.0 ∙ clear_good t a (clear_head (attempt t a).next accesses h.1) in
-    (ap (λ (b : Bool). b && not x.forgiving) good, clear_passes (acted t x.action).next es accesses p.1 (subst (λ (y : Action). AreClear (acted t y).next accesses) (sym p.0) h.1))
+    let good : is_fault (action_attempt t x.action).outcome ≡ false = ap (λ (y : Action). is_fault (action_attempt t y).outcome) p.0 ∙ clear_good t a (clear_head (attempt t a).next accesses h.1) in
+    (ap (λ (b : Bool). b && not x.forgiving) good, clear_passes (action_attempt t x.action).next es accesses p.1 (subst (λ (y : Action). AreClear (action_attempt t y).next accesses) (sym p.0) h.1))
 
 -- ---- a flight that came whole
 
@@ -110,7 +110,7 @@ no_doubt : (b : Bool) (k n : ℕ) → n ≡ k + one_if b → n ≤ k → n ≡ k
 no_doubt true k n e le = omega (arith, e, le)
 no_doubt false k n e le = omega (arith, e)
 
-pub room_grown : (w n : ℕ) → w + n < 2 ^ 64 → grown w n ≡ w + n
+pub room_grown : (w n : ℕ) → w + n < 2 ^ 64 → grown_work w n ≡ w + n
 room_grown w n room = grind (arith, room)
 
 module _ (entries made flying rest : List Entry) (accesses : List RegAccess) (m0 m o : BenchState) (part : Part) (on : IsUnderWay entries made flying rest accesses m0 m) (flies : Flies accesses part m o) where

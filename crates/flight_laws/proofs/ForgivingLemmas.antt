@@ -4,7 +4,7 @@ use Rattle.std.specs.List.{list_any}
 use Rattle.std.proofs.Math.Bool.{and-true}
 use Rattle.target_machine.specs.Attempt.{Attempt}
 use Rattle.target_machine.specs.Lists.{PassTo, after}
-use Rattle.target_machine.specs.Plain.{Action, Commands, Makes, acted, call_actions, call_done, ended, forgives, given, in_order, is_fault, is_small, issued, large_after, may_forgive, result_of}
+use Rattle.target_machine.specs.Plain.{Action, Commands, Makes, action_attempt, call_actions, call_done, ended_call, forgives, given_number, in_order, is_fault, is_small, issued_actions, large_after, may_forgive, result_of}
 use Rattle.target_machine.specs.State.{TargetState}
 use Rattle.target_machine.specs.declared.access.RegAccess.{RegAccess}
 use Rattle.target_machine.specs.declared.unit.Call.{Call}
@@ -20,15 +20,15 @@ use Rattle.flight_laws.proofs.PushLemmas.{pass_makes}
 
 -- ---- what is issued of actions of which the first pass
 
-issued_stop : (t u : TargetState) (xs : List Action) (a : Action) (ys : List Action) → PassTo t xs u → is_fault (acted u a).outcome ≡ true → issued t (xs ++ a ∷ ys) ≡ xs ++ a ∷ []
-issued_stop t u [] a ys h bad = ap (λ (b : Bool). a ∷ cond b [] (issued (acted t a).next ys)) (ap (λ (s : TargetState). is_fault (acted s a).outcome) (sym h) ∙ bad)
-issued_stop t u (x ∷ xs) a ys h bad = ap (λ (b : Bool). x ∷ cond b [] (issued (acted t x).next (xs ++ a ∷ ys))) h.0 ∙ ap (λ (l : List Action). x ∷ l) (issued_stop (acted t x).next u xs a ys h.1 bad)
+issued_stop : (t u : TargetState) (xs : List Action) (a : Action) (ys : List Action) → PassTo t xs u → is_fault (action_attempt u a).outcome ≡ true → issued_actions t (xs ++ a ∷ ys) ≡ xs ++ a ∷ []
+issued_stop t u [] a ys h bad = ap (λ (b : Bool). a ∷ cond b [] (issued_actions (action_attempt t a).next ys)) (ap (λ (s : TargetState). is_fault (action_attempt s a).outcome) (sym h) ∙ bad)
+issued_stop t u (x ∷ xs) a ys h bad = ap (λ (b : Bool). x ∷ cond b [] (issued_actions (action_attempt t x).next (xs ++ a ∷ ys))) h.0 ∙ ap (λ (l : List Action). x ∷ l) (issued_stop (action_attempt t x).next u xs a ys h.1 bad)
 
-issued_more : (t u : TargetState) (xs : List Action) (a : Action) (ys : List Action) → PassTo t xs u → is_fault (acted u a).outcome ≡ false → issued t (xs ++ a ∷ ys) ≡ xs ++ a ∷ issued (acted u a).next ys
+issued_more : (t u : TargetState) (xs : List Action) (a : Action) (ys : List Action) → PassTo t xs u → is_fault (action_attempt u a).outcome ≡ false → issued_actions t (xs ++ a ∷ ys) ≡ xs ++ a ∷ issued_actions (action_attempt u a).next ys
 issued_more t u [] a ys h good =
-    ap (λ (b : Bool). a ∷ cond b [] (issued (acted t a).next ys)) (ap (λ (s : TargetState). is_fault (acted s a).outcome) (sym h) ∙ good)
-    ∙ ap (λ (s : TargetState). a ∷ issued (acted s a).next ys) (sym h)
-issued_more t u (x ∷ xs) a ys h good = ap (λ (b : Bool). x ∷ cond b [] (issued (acted t x).next (xs ++ a ∷ ys))) h.0 ∙ ap (λ (l : List Action). x ∷ l) (issued_more (acted t x).next u xs a ys h.1 good)
+    ap (λ (b : Bool). a ∷ cond b [] (issued_actions (action_attempt t a).next ys)) (ap (λ (s : TargetState). is_fault (action_attempt s a).outcome) (sym h) ∙ good)
+    ∙ ap (λ (s : TargetState). a ∷ issued_actions (action_attempt s a).next ys) (sym h)
+issued_more t u (x ∷ xs) a ys h good = ap (λ (b : Bool). x ∷ cond b [] (issued_actions (action_attempt t x).next (xs ++ a ∷ ys))) h.0 ∙ ap (λ (l : List Action). x ∷ l) (issued_more (action_attempt t x).next u xs a ys h.1 good)
 
 -- ---- the actions of a unit made alone
 
@@ -36,19 +36,19 @@ issued_more t u (x ∷ xs) a ys h good = ap (λ (b : Bool). x ∷ cond b [] (iss
 abbrev abort_if : Bool → List Action
 abort_if forgive = cond forgive (Commands forgives ∷ []) []
 
-ended_actions : (f g s : Bool) (n : ℕ) (t : TargetState) (l : List ℕ) (xs : List Action) → (ended f g s n t l xs).actions ≡ cond f (xs ++ abort_if g) xs
+ended_actions : (f g s : Bool) (n : ℕ) (t : TargetState) (l : List ℕ) (xs : List Action) → (ended_call f g s n t l xs).actions ≡ cond f (xs ++ abort_if g) xs
 ended_actions true true s n t l xs = refl
 ended_actions true false s n t l xs = sym (append-nil xs)
 ended_actions false g true n t l xs = refl
 ended_actions false g false n t l xs = refl
 
 done_actions : (t : TargetState) (large : List ℕ) (forgive : Bool) (call : Call) → may_forgive call ≡ true → (call_done t large forgive call).actions
-    ≡ cond (is_fault (in_order t (call_actions t large call)).outcome) (issued t (call_actions t large call) ++ abort_if forgive) (issued t (call_actions t large call))
+    ≡ cond (is_fault (in_order t (call_actions t large call)).outcome) (issued_actions t (call_actions t large call) ++ abort_if forgive) (issued_actions t (call_actions t large call))
 unfolding call_done
 done_actions t large forgive call may =
     let ran : Attempt = in_order t (call_actions t large call) in
-    ended_actions (is_fault ran.outcome) (forgive && may_forgive call) (is_small t large call) (result_of call (given ran.outcome)) ran.next (large_after t large call) (issued t (call_actions t large call))
-    ∙ ap (λ (b : Bool). cond (is_fault ran.outcome) (issued t (call_actions t large call) ++ abort_if b) (issued t (call_actions t large call))) (ap (λ (b : Bool). forgive && b) may ∙ and-true forgive)
+    ended_actions (is_fault ran.outcome) (forgive && may_forgive call) (is_small t large call) (result_of call (given_number ran.outcome)) ran.next (large_after t large call) (issued_actions t (call_actions t large call))
+    ∙ ap (λ (b : Bool). cond (is_fault ran.outcome) (issued_actions t (call_actions t large call) ++ abort_if b) (issued_actions t (call_actions t large call))) (ap (λ (b : Bool). forgive && b) may ∙ and-true forgive)
 
 -- ---- as steps
 
@@ -91,10 +91,10 @@ module _ (forgive : Bool) (asked : AccessUnit) (t : TargetState) (k : Kept) (lea
   steps_are : (done : List Action) → (call_done t (large_of k asked) forgive (Access asked)).actions ≡ done → (alone_at forgive asked t k).steps ≡ parts_of (is_early asked done) asked done
   steps_are done is = ap (λ (l : List Action). parts_of (is_early asked l) asked l) is
 
-  bad_steps : is_fault (acted u (Makes a)).outcome ≡ true → (alone_at forgive asked t k).steps ≡ steps_of_unit asked (lead ++ a ∷ []) ++ after_fault forgive asked (lead ++ a ∷ [])
+  bad_steps : is_fault (action_attempt u (Makes a)).outcome ≡ true → (alone_at forgive asked t k).steps ≡ steps_of_unit asked (lead ++ a ∷ []) ++ after_fault forgive asked (lead ++ a ∷ [])
   bad_steps bad =
       let faults : is_fault (in_order t (call_actions t (large_of k asked) (Access asked))).outcome ≡ true = ap (λ (l : List Action). is_fault (in_order t l).outcome) actions_are ∙ ap (λ (m : Attempt). is_fault m.outcome) (pass_then_fault t u (making lead) (Makes a) rest pass bad) ∙ bad in
-      let first : issued t (call_actions t (large_of k asked) (Access asked)) ≡ xs = ap (issued t) actions_are ∙ issued_stop t u (making lead) (Makes a) rest pass bad ∙ first_is in
+      let first : issued_actions t (call_actions t (large_of k asked) (Access asked)) ≡ xs = ap (issued_actions t) actions_are ∙ issued_stop t u (making lead) (Makes a) rest pass bad ∙ first_is in
       let done : (call_done t (large_of k asked) forgive (Access asked)).actions ≡ xs ++ abort_if forgive =
       done_actions t (large_of k asked) forgive (Access asked) may
       ∙ (λ j. cond (faults j) (first j ++ abort_if forgive) (first j)) in
@@ -104,14 +104,14 @@ module _ (forgive : Bool) (asked : AccessUnit) (t : TargetState) (k : Kept) (lea
       ∙ parts_append (is_early asked xs) asked xs (abort_if forgive)
       ∙ (λ j. parts_makes (is_early asked xs) asked (lead ++ a ∷ []) j ++ parts_abort forgive asked (lead ++ a ∷ []) j)
 
-  good_steps : is_fault (acted u (Makes a)).outcome ≡ false → BeginsWithAccesses (alone_at forgive asked t k).steps asked (lead ++ a ∷ []) rest
+  good_steps : is_fault (action_attempt u (Makes a)).outcome ≡ false → BeginsWithAccesses (alone_at forgive asked t k).steps asked (lead ++ a ∷ []) rest
   good_steps good = by_fault (is_fault (in_order t (call_actions t (large_of k asked) (Access asked))).outcome) refl
     where
       more : List Action
-      more = issued (acted u (Makes a)).next rest
+      more = issued_actions (action_attempt u (Makes a)).next rest
 
-      first : issued t (call_actions t (large_of k asked) (Access asked)) ≡ xs ++ issued (acted u (Makes a)).next rest
-      first = ap (issued t) actions_are ∙ issued_more t u (making lead) (Makes a) rest pass good ∙ sym (append_assoc (making lead) (Makes a ∷ []) more) ∙ ap (λ (l : List Action). l ++ more) first_is
+      first : issued_actions t (call_actions t (large_of k asked) (Access asked)) ≡ xs ++ issued_actions (action_attempt u (Makes a)).next rest
+      first = ap (issued_actions t) actions_are ∙ issued_more t u (making lead) (Makes a) rest pass good ∙ sym (append_assoc (making lead) (Makes a ∷ []) more) ∙ ap (λ (l : List Action). l ++ more) first_is
 
       begins : (done tail : List Action) → (call_done t (large_of k asked) forgive (Access asked)).actions ≡ done → done ≡ xs ++ tail → (alone_at forgive asked t k).steps ≡ steps_of_unit asked (lead ++ a ∷ []) ++ parts_of (is_early asked done) asked tail
       begins done tail is split =
@@ -134,7 +134,7 @@ module _ (forgive : Bool) (asked : AccessUnit) (t : TargetState) (k : Kept) (lea
       by_fault false e = record {
         more = parts_of (is_early asked (xs ++ more)) asked more;
         is = begins (xs ++ more) more (done_actions t (large_of k asked) forgive (Access asked) may ∙ (λ j. cond (e j) (first j ++ abort_if forgive) (first j))) refl;
-        end = λ none. ap (λ (l : List Action). parts_of (is_early asked (xs ++ more)) asked (issued (acted u (Makes a)).next l)) none;
+        end = λ none. ap (λ (l : List Action). parts_of (is_early asked (xs ++ more)) asked (issued_actions (action_attempt u (Makes a)).next l)) none;
       }
 
 pub alone_flight : AloneFlight

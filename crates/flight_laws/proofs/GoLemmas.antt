@@ -5,7 +5,7 @@ use Rattle.target_calls.proofs.MarkLemmas.{settled_append}
 use Rattle.access_regs.proofs.EntryLemmas.{journal_grows, weighty_both}
 use Rattle.access_regs.proofs.Lists.{actions_in_append, actions_numbered}
 use Rattle.access_regs.specs.Entries.{kept_by, target_by}
-use Rattle.access_regs.specs.Journal.{Step, issue_of, issued, making, numbered}
+use Rattle.access_regs.specs.Journal.{Step, issue_of, issued_entries, making, numbered_entries}
 use Rattle.access_regs.specs.Kept.{Kept}
 use Rattle.target_calls.specs.Asks.{AreAskable, ForgiveNothing, IsAskable, is_forgiving, is_settled}
 use Rattle.target_calls.specs.Journal.{Entry, actions_in}
@@ -25,13 +25,13 @@ use Rattle.target_calls.specs.declared.calls.Ask.{Ask}
 pub flush_goes : FlushGoes
 flush_goes p a b kept accesses came flushed m0 m o part f flies good h =
     let t0 : TargetState = target_of m0.probe in
-    let whole = whole_flies (issued p t0 a.asks.calls) f.made f.flying [] accesses m0 m o part f.on flies good in
+    let whole = whole_flies (issued_entries p t0 a.asks.calls) f.made f.flying [] accesses m0 m o part f.on flies good in
     record {
       fresh = f.fresh;
       askable = subst (λ (l : List Ask). AreAskable l) (sym h.calls) f.askable;
       made = f.made ++ f.flying;
       flying = [];
-      on = subst (λ (l : List Ask). IsUnderWay (issued p t0 l) (f.made ++ f.flying) [] [] [] m0 o) (sym h.calls) whole;
+      on = subst (λ (l : List Ask). IsUnderWay (issued_entries p t0 l) (f.made ++ f.flying) [] [] [] m0 o) (sym h.calls) whole;
       kept_is = ap (kept_by p t0) h.calls ∙ f.kept_is;
       confirmed = length-append f.made f.flying ∙ f.issued_is ∙ sym h.confirmed;
       issued_is = (let l = length-append f.made f.flying in let i = f.issued_is in let j = h.issued in omega (arith, l, i, j));
@@ -40,7 +40,7 @@ flush_goes p a b kept accesses came flushed m0 m o part f flies good h =
       back = [];
       calls = h.calls ∙ sym (append-nil a.asks.calls);
       part = [];
-      made_is = sym (append-nil (f.made ++ f.flying)) ∙ append_assoc f.made f.flying [] ∙ sym f.on.are ∙ sym (append-nil (issued p t0 a.asks.calls));
+      made_is = sym (append-nil (f.made ++ f.flying)) ∙ append_assoc f.made f.flying [] ∙ sym f.on.are ∙ sym (append-nil (issued_entries p t0 a.asks.calls));
       came_is = h.came_all;
       came_are = h.came_are;
       skipped_is = h.skipped ∙ is_skipped p a kept accesses came None m0 m f tt;
@@ -62,7 +62,7 @@ strict_both : (xs ys : List Entry) → AreStrict xs → AreStrict ys → AreStri
 strict_both [] ys h k = k
 strict_both (x ∷ xs) ys h k = (h.0, strict_both xs ys h.1 k)
 
-strict_numbered : (n : ℕ) (b : Bool) (steps : List Step) → b ≡ false → AreStrict (numbered n b steps)
+strict_numbered : (n : ℕ) (b : Bool) (steps : List Step) → b ≡ false → AreStrict (numbered_entries n b steps)
 strict_numbered n true steps e = absurd (cc)
 strict_numbered n false [] e = tt
 strict_numbered n false (s ∷ steps) e = (refl, strict_numbered n false steps e)
@@ -81,12 +81,12 @@ push_goes p a b ask kept learned accesses more came m0 m f h =
     let calls : List Ask = a.asks.calls in
     let u : TargetState = target_by p t0 calls in
     let steps : List Step = (issue_of p u kept ask).steps in
-    let own : List Entry = numbered (length calls) (is_forgiving ask) steps in
+    let own : List Entry = numbered_entries (length calls) (is_forgiving ask) steps in
     let acts : actions_in own ≡ making more = actions_numbered (length calls) (is_forgiving ask) steps ∙ h.accesses in
     let grows = journal_grows p t0 calls ask h.unmarked in
-    let entries : issued p t0 b.asks.calls ≡ issued p t0 calls ++ own =
-    ap (λ (l : List Ask). issued p t0 l) h.calls ∙ grows.0
-    ∙ ap (λ (k : Kept). issued p t0 calls ++ numbered (length calls) (is_forgiving ask) (issue_of p u k ask).steps) f.kept_is in
+    let entries : issued_entries p t0 b.asks.calls ≡ issued_entries p t0 calls ++ own =
+    ap (λ (l : List Ask). issued_entries p t0 l) h.calls ∙ grows.0
+    ∙ ap (λ (k : Kept). issued_entries p t0 calls ++ numbered_entries (length calls) (is_forgiving ask) (issue_of p u k ask).steps) f.kept_is in
     let len : length own ≡ length more = flight_length own more acts in
     let on = f.on in
     record {
@@ -96,7 +96,7 @@ push_goes p a b ask kept learned accesses more came m0 m f h =
       flying = f.flying ++ own;
       on = record {
         are = entries ∙ ap (λ (l : List Entry). l ++ own) on.are ∙ append_assoc f.made (f.flying ++ []) own ∙ ap (λ (l : List Entry). f.made ++ (l ++ own)) (append-nil f.flying) ∙ ap (λ (l : List Entry). f.made ++ l) (sym (append-nil (f.flying ++ own)));
-        weighty = subst AreWeighty (sym entries) (weighty_both (issued p t0 calls) own on.weighty (weighty_makes own more acts));
+        weighty = subst AreWeighty (sym entries) (weighty_both (issued_entries p t0 calls) own on.weighty (weighty_makes own more acts));
         flight = actions_in_append f.flying own ∙ (λ j. on.flight j ++ acts j) ∙ sym (map-append (λ (x : RegAccess). Makes x) accesses more);
         passes = on.passes;
         target = on.target;

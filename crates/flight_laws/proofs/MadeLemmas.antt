@@ -2,7 +2,7 @@
 use Rattle.std.proofs.Common.{◌≡◌, ◌≢◌, ◌∙◌, ◌⊎◌, inl, inr, ℕ, zero, suc, ◌+◌, ◌-◌, ◌≤◌, max, Bool, true, false, cond, not, ◌&&◌, ◌||◌, List, [], ◌∷◌, ◌++◌, append_assoc, fold, length, length-append, take, slice_get, Some, refl, sym, ap, subst, arith}
 use Rattle.target_machine.specs.Counts.{one_if}
 use Rattle.target_machine.specs.Fresh.{IsFresh}
-use Rattle.target_machine.specs.Plain.{CallDone, acted, is_fault}
+use Rattle.target_machine.specs.Plain.{CallDone, action_attempt, is_fault}
 use Rattle.target_machine.specs.State.{Agree, TargetState}
 use Rattle.probe_core.specs.Bench.{BenchState}
 use Rattle.probe_core.specs.Probe.{target_of}
@@ -14,7 +14,7 @@ use Rattle.target_calls.specs.declared.journal.Part.{Part}
 use Rattle.target_calls.specs.declared.journal.Part.TheVariants.{Ends, Leads, Settles, Skips}
 use Rattle.access_regs.specs.Alone.{NoneFaults, call_alone, alone_after}
 use Rattle.access_regs.specs.Closed.{HasMade, IsMadeAt, closed_after, closed_by, closes}
-use Rattle.access_regs.specs.Journal.{issued}
+use Rattle.access_regs.specs.Journal.{issued_entries}
 use Rattle.access_regs.specs.Stops.{StaysThere, StopsThere, world_at}
 use Rattle.access_regs.specs.declared.planner.Planner.{Planner}
 use Rattle.access_regs.proofs.EntryMemory.{memory_at_entry}
@@ -90,13 +90,13 @@ pub agree_words : (t u : TargetState) → Agree t u → t.words ≡ u.words
 agree_words t u h = ap (λ (s : TargetState). s.words) h.same
 
 module _ (p : Planner) (m0 o : BenchState) (asks : List Ask) (r : Report) (skipped lines : ℕ) (fresh : IsFresh (target_of m0.probe)) (ok : AreAskable asks)
-    (cut : IsCutAt (issued p (target_of m0.probe) asks) r.confirmed (target_of m0.probe)) (numbers : HasNumbers (issued p (target_of m0.probe) asks) asks skipped lines r)
-    (there : Agree (target_of o.probe) (target_after (target_of m0.probe) (take r.accesses (issued p (target_of m0.probe) asks)))) where
+    (cut : IsCutAt (issued_entries p (target_of m0.probe) asks) r.confirmed (target_of m0.probe)) (numbers : HasNumbers (issued_entries p (target_of m0.probe) asks) asks skipped lines r)
+    (there : Agree (target_of o.probe) (target_after (target_of m0.probe) (take r.accesses (issued_entries p (target_of m0.probe) asks)))) where
   abbrev t0 : TargetState
   t0 = target_of m0.probe
 
   abbrev entries : List Entry
-  entries = issued p t0 asks
+  entries = issued_entries p t0 asks
 
   abbrev stays : StaysThere 0 t0 [] asks cut.entry
   stays = wait_stops p t0 asks cut.front cut.entry cut.more fresh ok cut.is cut.passes
@@ -141,7 +141,7 @@ module _ (p : Planner) (m0 o : BenchState) (asks : List Ask) (r : Report) (skipp
   wait_memory true is = made (cut.front ++ cut.entry ∷ []) (take_front r.accesses entries (cut.front ++ cut.entry ∷ []) cut.more longer (let a = longer_length in omega (arith, a, is))) law.after
 
   -- at a fault
-  module _ (bad : is_fault (acted (target_after t0 cut.front) cut.entry.action).outcome ≡ true) (strict : cut.entry.forgiving ≡ false) where
+  module _ (bad : is_fault (action_attempt (target_after t0 cut.front) cut.entry.action).outcome ≡ true) (strict : cut.entry.forgiving ≡ false) where
     abbrev stops : StopsThere 0 t0 [] asks cut.entry
     stops = fault_stops p t0 asks cut.front cut.entry cut.more fresh ok cut.is cut.passes bad strict
 

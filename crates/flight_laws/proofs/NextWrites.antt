@@ -20,11 +20,11 @@ use Rattle.target_calls.specs.Journal.{Entry, settles}
 use Rattle.target_calls.specs.declared.calls.Ask.{Ask}
 use Rattle.target_calls.specs.declared.journal.Part.{Part}
 use Rattle.target_calls.specs.declared.journal.Part.TheVariants.{Ends, Leads, Settles}
-use Rattle.access_regs.specs.Journal.{Issue, Step, actions_of, after_settling, before, by_cfg, by_cfg_read, by_csw, by_plan, entries_at, finish, gives, issued}
-use Rattle.access_regs.specs.Journal.{issued_from, kept_at, making, numbered, planned, steps_of, target_at}
-use Rattle.access_regs.specs.Kept.{Kept, csw_of, is_known, known, nothing_kept, unknown}
-use Rattle.access_regs.specs.Plan.{cfg_plan, csw_needed, first_plan, high_needed, leads, learned, made, needs_settle, planned_csw, port_writes, select_needed}
-use Rattle.access_regs.specs.Plan.{select_value, settle, settled, tar_needed, unless}
+use Rattle.access_regs.specs.Journal.{Issue, Step, actions_of, after_settling, before, by_cfg, by_cfg_read, by_csw, by_plan, entries_at, finish, gives, issued_entries}
+use Rattle.access_regs.specs.Journal.{issued_from, kept_at, making, numbered_entries, issue_of_plan, steps_of, target_at}
+use Rattle.access_regs.specs.Kept.{Kept, csw_of, is_known, known_at, nothing_kept, unknown}
+use Rattle.access_regs.specs.Plan.{cfg_plan, csw_needed, first_plan, high_needed, leads, kept_after_csw, kept_after_plan, needs_settle, planned_csw, port_writes, select_needed}
+use Rattle.access_regs.specs.Plan.{select_value, settle, kept_after_settling, tar_needed, unless}
 use Rattle.access_regs.specs.declared.known.Known.{Known}
 use Rattle.access_regs.specs.declared.planner.Planner.TheVariants.{Managed}
 use Rattle.access_regs.proofs.AllCalls.{known_nothing}
@@ -57,18 +57,18 @@ others_cons e es = sum_by-cons (λ (x : Entry). one_if (not (is_drw_write x.acti
 
 -- entries that are no writes of DRW come first
 bare_changes : (n : ℕ) (f : Bool) (part : Part) (xs : List RegAccess) (es : List Entry) → AreBare xs →
-    changes_after false (numbered n f (steps_of part xs) ++ es) ≡ changes_after false es
+    changes_after false (numbered_entries n f (steps_of part xs) ++ es) ≡ changes_after false es
 bare_changes n f part [] es h = refl
 bare_changes n f part (x ∷ xs) es h =
-    ap (λ (b : Bool). one_if b + changes_after b (numbered n f (steps_of part xs) ++ es)) h.0 ∙ (let r = bare_changes n f part xs es h.1 in omega (arith, r))
+    ap (λ (b : Bool). one_if b + changes_after b (numbered_entries n f (steps_of part xs) ++ es)) h.0 ∙ (let r = bare_changes n f part xs es h.1 in omega (arith, r))
 
 -- each access that is no write of DRW counts
 bare_others : (n : ℕ) (f : Bool) (part : Part) (xs : List RegAccess) (es : List Entry) → AreBare xs →
-    others_in (numbered n f (steps_of part xs) ++ es) ≡ length xs + others_in es
+    others_in (numbered_entries n f (steps_of part xs) ++ es) ≡ length xs + others_in es
 bare_others n f part [] es h = omega arith
 bare_others n f part (x ∷ xs) es h =
     let c = others_cons (record { unit = cond (settles part) n (n + 1); part = part; forgiving = f && not (settles part); action = Makes x })
-    (numbered n f (steps_of part xs) ++ es) in
+    (numbered_entries n f (steps_of part xs) ++ es) in
     let one = ap (λ (b : Bool). one_if (not b)) h.0 in
     let r = bare_others n f part xs es h.1 in
     omega (arith, c, one, r)
@@ -77,23 +77,23 @@ bare_others n f part (x ∷ xs) es h =
 
 -- a write of DRW is one change after what leads to it, and none directly after another write of DRW
 lead_changes : (b : Bool) (n : ℕ) (xs : List RegAccess) (d : Step) (rest : List Entry) → AreBare xs → is_drw_write d.action ≡ true → (b ≡ true → xs ≡ []) →
-    changes_after b (numbered n false (steps_of Leads xs ++ d ∷ []) ++ rest) ≡ one_if (not b) + changes_after true rest
+    changes_after b (numbered_entries n false (steps_of Leads xs ++ d ∷ []) ++ rest) ≡ one_if (not b) + changes_after true rest
 lead_changes true n [] d rest h is none = ap (λ (x : Bool). differs true x + changes_after x rest) is
 lead_changes false n [] d rest h is none = ap (λ (x : Bool). differs false x + changes_after x rest) is
 lead_changes true n (x ∷ xs) d rest h is none = absurd (let e = none refl in cc)
 lead_changes false n (x ∷ xs) d rest h is none =
-    ap (λ (b : Bool). one_if b + changes_after b (numbered n false (steps_of Leads xs ++ d ∷ []) ++ rest)) h.0
+    ap (λ (b : Bool). one_if b + changes_after b (numbered_entries n false (steps_of Leads xs ++ d ∷ []) ++ rest)) h.0
     ∙ (let r = lead_changes false n xs d rest h.1 is (λ e. absurd (cc)) in omega (arith, r))
 
 -- what leads to a write of DRW counts, and the write does not
 lead_others : (n : ℕ) (xs : List RegAccess) (d : Step) (rest : List Entry) → AreBare xs → is_drw_write d.action ≡ true →
-    others_in (numbered n false (steps_of Leads xs ++ d ∷ []) ++ rest) ≡ length xs + others_in rest
+    others_in (numbered_entries n false (steps_of Leads xs ++ d ∷ []) ++ rest) ≡ length xs + others_in rest
 lead_others n [] d rest h is =
     let c = others_cons (record { unit = cond (settles d.part) n (n + 1); part = d.part; forgiving = false; action = d.action }) rest in
     let none = ap (λ (b : Bool). one_if (not b)) is in
     omega (arith, c, none)
 lead_others n (x ∷ xs) d rest h is =
-    let c = others_cons (record { unit = n + 1; part = Leads; forgiving = false; action = Makes x }) (numbered n false (steps_of Leads xs ++ d ∷ []) ++ rest) in
+    let c = others_cons (record { unit = n + 1; part = Leads; forgiving = false; action = Makes x }) (numbered_entries n false (steps_of Leads xs ++ d ∷ []) ++ rest) in
     let one = ap (λ (b : Bool). one_if (not b)) h.0 in
     let r = lead_others n xs d rest h.1 is in
     omega (arith, c, one, r)
@@ -114,23 +114,23 @@ module _ (size m address value n : ℕ) (from : Kept) where
 
   -- the write, what leads to it, and the settling after it
   unit_few : (b s : Bool) (xs : List RegAccess) (rest : List Entry) (changes others : ℕ) → AreBare xs → (b ≡ true → xs ≡ []) → HasFew (not s) rest changes others →
-      HasFew b ((numbered n false (steps_of Leads xs ++ write ∷ []) ++ numbered (n + 1) false (finish s (made from here)).steps) ++ rest)
+      HasFew b ((numbered_entries n false (steps_of Leads xs ++ write ∷ []) ++ numbered_entries (n + 1) false (finish s (kept_after_plan from here)).steps) ++ rest)
       (one_if (not b) + one_if s + changes) (length xs + 2 * one_if s + others)
   unit_few b s xs rest changes others bare none h =
       subst (λ (l : List Entry). HasFew b l (one_if (not b) + one_if s + changes) (length xs + 2 * one_if s + others))
-      (sym (append_assoc (numbered n false (steps_of Leads xs ++ write ∷ [])) (numbered (n + 1) false (finish s (made from here)).steps) rest))
+      (sym (append_assoc (numbered_entries n false (steps_of Leads xs ++ write ∷ [])) (numbered_entries (n + 1) false (finish s (kept_after_plan from here)).steps) rest))
       (by_mark s h)
     where
       by_mark : (s : Bool) → HasFew (not s) rest changes others →
-          HasFew b (numbered n false (steps_of Leads xs ++ write ∷ []) ++ (numbered (n + 1) false (finish s (made from here)).steps ++ rest))
+          HasFew b (numbered_entries n false (steps_of Leads xs ++ write ∷ []) ++ (numbered_entries (n + 1) false (finish s (kept_after_plan from here)).steps ++ rest))
           (one_if (not b) + one_if s + changes) (length xs + 2 * one_if s + others)
       by_mark true k =
-          let fin : List Entry = numbered (n + 1) false (finish true (made from here)).steps ++ rest in
+          let fin : List Entry = numbered_entries (n + 1) false (finish true (kept_after_plan from here)).steps ++ rest in
           let a = lead_changes b n xs write fin bare refl none in
           let o = lead_others n xs write fin bare refl in
           let f : changes_after true fin ≡ 1 + changes_after false rest = omega arith in
           let g : others_in fin ≡ 2 + others_in rest = sum_by-append (λ (e : Entry). one_if (not (is_drw_write e.action)))
-          (numbered (n + 1) false (finish true (made from here)).steps) rest in
+          (numbered_entries (n + 1) false (finish true (kept_after_plan from here)).steps) rest in
           let x = k.changing in let y = k.bare in
           record { changing = omega (arith, a, f, x); bare = omega (arith, o, g, y) }
       by_mark false k =
@@ -145,12 +145,12 @@ module _ (size m address value n : ℕ) (from : Kept) where
 record IsHalfReady (m : ℕ) (k : Kept) : Type 0 where
   table : m < length k.ports
   select : is_known k.select (select_value m 0) ≡ true
-  some : is_none (known k m).csw ≡ false
-  large : (known k m).large ≡ false
+  some : is_none (known_at k m).csw ≡ false
+  large : (known_at k m).large ≡ false
 
 -- the last entry was a write of DRW, and the next needs nothing else; or it was none
 abbrev IsAt : Bool → ℕ → ℕ → ℕ → Kept → Type 0
-IsAt true size m address k = Ready size m address k × ((known k m).large ≡ false)
+IsAt true size m address k = Ready size m address k × ((known_at k m).large ≡ false)
 IsAt false size m address k = IsHalfReady m k
 
 -- the plan of a write
@@ -161,9 +161,9 @@ record IsPlanned (b : Bool) (size m address value most : ℕ) (i : Issue) : Type
   none : b ≡ true → lead ≡ []
   from : Kept
   steps : i.steps ≡ steps_of Leads lead ++ record { part = Ends; action = Makes (drw_of false address value) } ∷ []
-  kept : i.kept ≡ made from (unit.Memory size false m address value)
+  kept : i.kept ≡ kept_after_plan from (unit.Memory size false m address value)
   table : m < length from.ports
-  large : (known from m).large ≡ false
+  large : (known_at from m).large ≡ false
 
 module _ (size m address value : ℕ) (t : TargetState) where
   -- the unit that writes the value at the address
@@ -175,7 +175,7 @@ module _ (size m address value : ℕ) (t : TargetState) where
   end = record { part = Ends; action = Makes (drw_of false address value) }
 
   -- where the access port is ready for the address, the plan is the write of DRW alone
-  ready_planned : (k : Kept) → IsAt true size m address k → IsPlanned true size m address value 0 (planned t k asked)
+  ready_planned : (k : Kept) → IsAt true size m address k → IsPlanned true size m address value 0 (issue_of_plan t k asked)
   ready_planned k h = record {
     lead = [];
     bare = tt;
@@ -190,12 +190,12 @@ module _ (size m address value : ℕ) (t : TargetState) where
   }
 
   -- an address of 32 bits needs no large addresses
-  narrow_port : (k : Kept) → address < 2 ^ 32 → (nat_lt 0xFFFF_FFFF address && not (known k m).large) ≡ false
-  narrow_port k low = ap (λ (b : Bool). b && not (known k m).large) (le-ltb 0xFFFF_FFFF address (omega (arith, low)))
+  narrow_port : (k : Kept) → address < 2 ^ 32 → (nat_lt 0xFFFF_FFFF address && not (known_at k m).large) ≡ false
+  narrow_port k low = ap (λ (b : Bool). b && not (known_at k m).large) (le-ltb 0xFFFF_FFFF address (omega (arith, low)))
 
   -- where SELECT is known, only writes of the port's CSW and TAR lead to the write of DRW
-  half_leads : (k : Kept) → IsHalfReady m k → leads k asked ≡ port_writes (known k m) size address
-  half_leads k h = ap (λ (b : Bool). unless b (select_of m 0) ++ port_writes (known k m) size address) h.select
+  half_leads : (k : Kept) → IsHalfReady m k → leads k asked ≡ port_writes (known_at k m) size address
+  half_leads k h = ap (λ (b : Bool). unless b (select_of m 0) ++ port_writes (known_at k m) size address) h.select
 
   -- the writes of CSW and TAR are no writes of DRW
   port_bare : (a : Known) → AreBare (port_writes a size address)
@@ -216,11 +216,11 @@ module _ (size m address value : ℕ) (t : TargetState) where
       omega (arith, c, d, e, f, g)
 
   -- where SELECT and CSW are known, at most two accesses lead to the write of DRW
-  half_planned : (k : Kept) → address < 2 ^ 32 → IsHalfReady m k → IsPlanned false size m address value 2 (planned t k asked)
+  half_planned : (k : Kept) → address < 2 ^ 32 → IsHalfReady m k → IsPlanned false size m address value 2 (issue_of_plan t k asked)
   half_planned k low h = record {
-    lead = port_writes (known k m) size address;
-    bare = port_bare (known k m);
-    few = port_few (known k m) h.large;
+    lead = port_writes (known_at k m) size address;
+    bare = port_bare (known_at k m);
+    few = port_few (known_at k m) h.large;
     none = λ e. absurd (cc);
     from = k;
     steps = ap (λ (i : Issue). i.steps) is ∙ ap (λ (l : List RegAccess). steps_of Leads l ++ end ∷ []) (half_leads k h);
@@ -234,12 +234,12 @@ module _ (size m address value : ℕ) (t : TargetState) where
           ap (λ (b : Bool). is_some k.unsettled && (b || not (is_known k.select (select_value m 0)))) (narrow_port k low)
           ∙ ap (λ (b : Bool). is_some k.unsettled && not b) h.select ∙ and-false (is_some k.unsettled)
 
-      is : planned t k asked ≡ by_plan k asked
+      is : issue_of_plan t k asked ≡ by_plan k asked
       is =
           ap (λ (b : Bool). cond b (after_settling t k (λ u l. by_cfg u l asked)) (by_cfg t k asked)) no_settle
           ∙ ap (λ (b : Bool). cond b (before (steps_of Leads (cfg_plan k m)) (by_cfg_read (after t (making (cfg_plan k m))) k asked (gives t (cfg_plan k m))))
           (by_csw t k asked)) (narrow_port k low)
-          ∙ ap (λ (b : Bool). cond b (before (steps_of Leads (first_plan k m)) (by_plan (learned k m (gives t (first_plan k m))) asked)) (by_plan k asked)) h.some
+          ∙ ap (λ (b : Bool). cond b (before (steps_of Leads (first_plan k m)) (by_plan (kept_after_csw k m (gives t (first_plan k m))) asked)) (by_plan k asked)) h.some
 
   -- the CSW that is read before the first write
   abbrev csw_first : ℕ
@@ -247,22 +247,22 @@ module _ (size m address value : ℕ) (t : TargetState) where
 
   -- what is known after this read
   abbrev first_kept : Kept
-  first_kept = learned nothing_kept m csw_first
+  first_kept = kept_after_csw nothing_kept m csw_first
 
   -- after this read SELECT and CSW are known
   first_half : m < 256 → IsHalfReady m first_kept
   first_half lt =
-      let same : known first_kept m ≡ record (known nothing_kept m) { csw = Some csw_first } =
-      known_same nothing_kept m (record (known nothing_kept m) { csw = Some csw_first }) lt in
+      let same : known_at first_kept m ≡ record (known_at nothing_kept m) { csw = Some csw_first } =
+      known_same nothing_kept m (record (known_at nothing_kept m) { csw = Some csw_first }) lt in
       record {
-        table = (let e = table_kept nothing_kept m (record (known nothing_kept m) { csw = Some csw_first }) in omega (arith, e, lt));
+        table = (let e = table_kept nothing_kept m (record (known_at nothing_kept m) { csw = Some csw_first }) in omega (arith, e, lt));
         select = eq-eqb (select_value m 0) (select_value m 0) refl;
         some = ap (λ (a : Known). is_none a.csw) same;
         large = ap (λ (a : Known). a.large) same ∙ ap (λ (a : Known). a.large) (known_nothing m);
       }
 
   -- the first write of all reads CSW, and is then planned by what was read
-  first_is : address < 2 ^ 32 → planned t nothing_kept asked ≡ before (steps_of Leads (first_plan nothing_kept m)) (by_plan first_kept asked)
+  first_is : address < 2 ^ 32 → issue_of_plan t nothing_kept asked ≡ before (steps_of Leads (first_plan nothing_kept m)) (by_plan first_kept asked)
   first_is low =
       ap (λ (b : Bool). cond b (before (steps_of Leads (cfg_plan nothing_kept m))
       (by_cfg_read (after t (making (cfg_plan nothing_kept m))) nothing_kept asked (gives t (cfg_plan nothing_kept m)))) (by_csw t nothing_kept asked))
@@ -271,26 +271,26 @@ module _ (size m address value : ℕ) (t : TargetState) where
       (known_nothing m)
 
   -- what leads to the first write has no writes of DRW
-  first_bare : AreBare (first_plan nothing_kept m ++ port_writes (known first_kept m) size address)
-  first_bare = bare_both (first_plan nothing_kept m) (port_writes (known first_kept m) size address) (refl, (refl, tt)) (port_bare (known first_kept m))
+  first_bare : AreBare (first_plan nothing_kept m ++ port_writes (known_at first_kept m) size address)
+  first_bare = bare_both (first_plan nothing_kept m) (port_writes (known_at first_kept m) size address) (refl, (refl, tt)) (port_bare (known_at first_kept m))
 
   -- at most four accesses lead to the first write
-  first_few : m < 256 → length (first_plan nothing_kept m ++ port_writes (known first_kept m) size address) ≤ 4
-  first_few lt = (let a = length-append (first_plan nothing_kept m) (port_writes (known first_kept m) size address) in let d =
-      port_few (known first_kept m) (first_half lt).large in omega (arith, a, d))
+  first_few : m < 256 → length (first_plan nothing_kept m ++ port_writes (known_at first_kept m) size address) ≤ 4
+  first_few lt = (let a = length-append (first_plan nothing_kept m) (port_writes (known_at first_kept m) size address) in let d =
+      port_few (known_at first_kept m) (first_half lt).large in omega (arith, a, d))
 
   -- the first one of all reads CSW
-  first_planned : address < 2 ^ 32 → m < 256 → IsPlanned false size m address value 4 (planned t nothing_kept asked)
+  first_planned : address < 2 ^ 32 → m < 256 → IsPlanned false size m address value 4 (issue_of_plan t nothing_kept asked)
   first_planned low lt = record {
-    lead = first_plan nothing_kept m ++ port_writes (known first_kept m) size address;
+    lead = first_plan nothing_kept m ++ port_writes (known_at first_kept m) size address;
     bare = first_bare;
     few = first_few lt;
     none = λ e. absurd (cc);
     from = first_kept;
     steps = ap (λ (i : Issue). i.steps) (first_is low)
         ∙ ap (λ (p : List RegAccess). steps_of Leads (first_plan nothing_kept m) ++ (steps_of Leads p ++ end ∷ [])) (half_leads first_kept (first_half lt))
-        ∙ sym (append_assoc (steps_of Leads (first_plan nothing_kept m)) (steps_of Leads (port_writes (known first_kept m) size address)) (end ∷ []))
-        ∙ ap (λ (s : List Step). s ++ end ∷ []) (sym (steps_append Leads (first_plan nothing_kept m) (port_writes (known first_kept m) size address)));
+        ∙ sym (append_assoc (steps_of Leads (first_plan nothing_kept m)) (steps_of Leads (port_writes (known_at first_kept m) size address)) (end ∷ []))
+        ∙ ap (λ (s : List Step). s ++ end ∷ []) (sym (steps_append Leads (first_plan nothing_kept m) (port_writes (known_at first_kept m) size address)));
     kept = ap (λ (i : Issue). i.kept) (first_is low);
     table = (first_half lt).table;
     large = (first_half lt).large;
@@ -322,17 +322,17 @@ module _ (size m address value : ℕ) where
   inside block near next = omega (arith, near, next)
 
   -- after a write the port is ready for the next address, where that is in the block
-  made_at : (block : ℕ) (from : Kept) → 0 < size → block < 2 ^ 22 → m < length from.ports → (known from m).large ≡ false → address / 1024 ≡ block →
-      (address + size) / 1024 ≡ block → IsAt true size m (address + size) (made from this)
+  made_at : (block : ℕ) (from : Kept) → 0 < size → block < 2 ^ 22 → m < length from.ports → (known_at from m).large ≡ false → address / 1024 ≡ block →
+      (address + size) / 1024 ≡ block → IsAt true size m (address + size) (kept_after_plan from this)
   made_at block from some low table narrow near next = (
     made_ready size m address false value from table some (inside block near next) (inr (omega (arith, next, low))),
     made_large size m address false value from table ∙ narrow,
   )
 
   -- after a write and its settling, SELECT and CSW are known
-  settled_at : (from : Kept) → m < length from.ports → (known from m).large ≡ false → IsHalfReady m (settled (made from this))
+  settled_at : (from : Kept) → m < length from.ports → (known_at from m).large ≡ false → IsHalfReady m (kept_after_settling (kept_after_plan from this))
   settled_at from table narrow =
-      let k : Kept = made from this in
+      let k : Kept = kept_after_plan from this in
       let l = settled_large k m in
       let t : length k.ports ≡ length from.ports = table_kept from m _ in
       let lt : m < length k.ports = omega (arith, t, table) in
@@ -345,42 +345,42 @@ module _ (size m address value : ℕ) where
 
   -- the calls after it
   module _ (n block : ℕ) (cs : List Ask) (u : TargetState) (from : Kept) (some : 0 < size) (low : block < 2 ^ 22) (near : address / 1024 ≡ block)
-      (table : m < length from.ports) (narrow : (known from m).large ≡ false)
+      (table : m < length from.ports) (narrow : (known_at from m).large ≡ false)
       (rest : (d : Bool) (l : Kept) → (Begins block (address + size) cs → IsAt d size m (address + size) l) →
       HasFew d (issued_from Managed (n + 1) l u cs) (one_if (not d) + 2 * marks_in cs) (2 * one_if (not d) + 4 * marks_in cs)) where
     made_few : (b s : Bool) (most : ℕ) (xs : List RegAccess) → AreBare xs → (b ≡ true → xs ≡ []) → length xs ≤ most →
-        HasFew b ((numbered n false (steps_of Leads xs ++ record { part = Ends; action = Makes (drw_of false address value) } ∷ [])
-        ++ numbered (n + 1) false (finish s (made from this)).steps) ++ issued_from Managed (n + 1) (finish s (made from this)).kept u cs)
+        HasFew b ((numbered_entries n false (steps_of Leads xs ++ record { part = Ends; action = Makes (drw_of false address value) } ∷ [])
+        ++ numbered_entries (n + 1) false (finish s (kept_after_plan from this)).steps) ++ issued_from Managed (n + 1) (finish s (kept_after_plan from this)).kept u cs)
         (one_if (not b) + 2 * (one_if s + marks_in cs)) (most + 4 * (one_if s + marks_in cs))
     made_few b true most xs bare none few =
-        more_few b _ _ _ _ _ (unit_few size m address value n from b true xs (issued_from Managed (n + 1) (settled (made from this)) u cs) (1 + 2 * marks_in cs)
-        (2 + 4 * marks_in cs) bare none (rest false (settled (made from this)) (λ begins. settled_at from table narrow)))
+        more_few b _ _ _ _ _ (unit_few size m address value n from b true xs (issued_from Managed (n + 1) (kept_after_settling (kept_after_plan from this)) u cs) (1 + 2 * marks_in cs)
+        (2 + 4 * marks_in cs) bare none (rest false (kept_after_settling (kept_after_plan from this)) (λ begins. settled_at from table narrow)))
         (omega arith) (omega (arith, few))
     made_few b false most xs bare none few =
-        more_few b _ _ _ _ _ (unit_few size m address value n from b false xs (issued_from Managed (n + 1) (made from this) u cs) (0 + 2 * marks_in cs)
-        (0 + 4 * marks_in cs) bare none (rest true (made from this) (λ begins. made_at block from some low table narrow near
+        more_few b _ _ _ _ _ (unit_few size m address value n from b false xs (issued_from Managed (n + 1) (kept_after_plan from this) u cs) (0 + 2 * marks_in cs)
+        (0 + 4 * marks_in cs) bare none (rest true (kept_after_plan from this) (λ begins. made_at block from some low table narrow near
         (begins_near block (address + size) cs begins))))
         (omega arith) (omega (arith, few))
 
   -- a write, and the calls after it
   write_few : (b : Bool) (n most block : ℕ) (c : Ask) (cs : List Ask) (k : Kept) (t : TargetState) → 0 < size → block < 2 ^ 22 → c.call ≡ Access this →
-      c.forgive ≡ false → address / 1024 ≡ block → IsPlanned b size m address value most (planned t k this) →
+      c.forgive ≡ false → address / 1024 ≡ block → IsPlanned b size m address value most (issue_of_plan t k this) →
       ((d : Bool) (l : Kept) (u : TargetState) → (Begins block (address + size) cs → IsAt d size m (address + size) l) →
       HasFew d (issued_from Managed (n + 1) l u cs) (one_if (not d) + 2 * marks_in cs) (2 * one_if (not d) + 4 * marks_in cs)) →
       HasFew b (issued_from Managed n k t (c ∷ cs)) (one_if (not b) + 2 * (one_if c.settled + marks_in cs)) (most + 4 * (one_if c.settled + marks_in cs))
   write_few b n most block c cs k t some low call mild near p rest =
       let asked_ : Ask = record { call = Access this; forgive = false; settled = c.settled } in
       let same : asked_ ≡ c = (λ j. record { call = sym call j; forgive = sym mild j; settled = c.settled }) in
-      let i : Issue = planned t k this in
+      let i : Issue = issue_of_plan t k this in
       let u : TargetState = target_at Managed t k asked_ in
       let all = made_few n block cs u p.from some low near p.table p.large (λ d l at. rest d l u at) b c.settled most p.lead p.bare p.none p.few in
       subst (λ (a : Ask). HasFew b (issued_from Managed n k t (a ∷ cs)) (one_if (not b) + 2 * (one_if c.settled + marks_in cs))
       (most + 4 * (one_if c.settled + marks_in cs))) same
-      (subst (λ (steps : List Step). HasFew b ((numbered n false steps ++ numbered (n + 1) false (finish c.settled i.kept).steps)
+      (subst (λ (steps : List Step). HasFew b ((numbered_entries n false steps ++ numbered_entries (n + 1) false (finish c.settled i.kept).steps)
       ++ issued_from Managed (n + 1) (finish c.settled i.kept).kept u cs) (one_if (not b) + 2 * (one_if c.settled + marks_in cs))
       (most + 4 * (one_if c.settled + marks_in cs))) (sym p.steps)
-      (subst (λ (l : Kept). HasFew b ((numbered n false (steps_of Leads p.lead ++ record { part = Ends; action = Makes (drw_of false address value) } ∷ [])
-      ++ numbered (n + 1) false (finish c.settled l).steps) ++ issued_from Managed (n + 1) (finish c.settled l).kept u cs)
+      (subst (λ (l : Kept). HasFew b ((numbered_entries n false (steps_of Leads p.lead ++ record { part = Ends; action = Makes (drw_of false address value) } ∷ [])
+      ++ numbered_entries (n + 1) false (finish c.settled l).steps) ++ issued_from Managed (n + 1) (finish c.settled l).kept u cs)
       (one_if (not b) + 2 * (one_if c.settled + marks_in cs)) (most + 4 * (one_if c.settled + marks_in cs))) (sym p.kept) all))
 
 -- a write of memory that forgives no fault was not asked to forgive one
@@ -409,7 +409,7 @@ writes_few b (c ∷ cs) n k t size m address block some low are at =
     more_few b _ _ _ _ _ few (omega (arith, marks)) (omega (arith, marks))
   where
     by_kept : (b : Bool) → IsAt b size m address k → (value : ℕ) → address < 2 ^ 32 →
-        IsPlanned b size m address value (2 * one_if (not b)) (planned t k (unit.Memory size false m address value))
+        IsPlanned b size m address value (2 * one_if (not b)) (issue_of_plan t k (unit.Memory size false m address value))
     by_kept true ready value fits = ready_planned size m address value t k ready
     by_kept false half value fits = half_planned size m address value t k fits half
 
@@ -417,7 +417,7 @@ writes_few b (c ∷ cs) n k t size m address block some low are at =
 -- writes of DRW, or back, at most once, and twice more for each mark.
 pub journal_few : (t : TargetState) (size m address : ℕ) (calls : List Ask) → 0 < size → m < 256 → address < 2 ^ 32 →
     AreNextWrites (address / 1024) size m address calls →
-    (changes_in (issued Managed t calls) ≤ 1 + 2 * marks_in calls) × (others_in (issued Managed t calls) ≤ 4 + 4 * marks_in calls)
+    (changes_in (issued_entries Managed t calls) ≤ 1 + 2 * marks_in calls) × (others_in (issued_entries Managed t calls) ≤ 4 + 4 * marks_in calls)
 journal_few t size m address [] some lt low are = (omega arith, omega arith)
 journal_few t size m address (c ∷ cs) some lt low are =
     let w = are.0 in

@@ -9,14 +9,14 @@ use Rattle.probe_core.specs.Probe.{target_of}
 use Rattle.target_calls.specs.Asks.{AreAskable, is_settled}
 use Rattle.target_calls.specs.Journal.{Entry, Passes, first_fault, target_after}
 use Rattle.target_calls.specs.Weights.{weight_in}
-use Rattle.target_calls.specs.World.{AtLeast, World, is_faulted, one_fewer, results, results_within, skips, start_world, stop, unlimited, world_after}
+use Rattle.target_calls.specs.World.{AtLeast, World, is_faulted, one_fewer, results, results_within, skips, start_world, stop, unlimited_world, world_after}
 use Rattle.target_calls.specs.declared.calls.Ask.{Ask}
 use Rattle.target_calls.proofs.CallLists.{append_results, append_skips, count_of}
 use Rattle.target_calls.proofs.EndLemmas.{none_skipped}
 use Rattle.target_calls.proofs.EntryLemmas.{pass_front, pass_none}
 use Rattle.target_calls.proofs.WorldLemmas.{results_first, whole_least, whole_skips, whole_unlimited}
 use Rattle.access_regs.specs.Alone.{NoneFaults, call_alone, alone_after, large_of_all}
-use Rattle.access_regs.specs.Journal.{issued}
+use Rattle.access_regs.specs.Journal.{issued_entries}
 use Rattle.access_regs.specs.Kept.{Kept}
 use Rattle.access_regs.specs.Stops.{NoneStops, world_at}
 use Rattle.access_regs.proofs.AllCalls.{journal_agrees}
@@ -33,15 +33,15 @@ agree_sym : (t u : TargetState) → Agree t u → Agree u t
 agree_sym t u h = record { same = sym h.same }
 
 -- calls that do not stop have the results that they have where all are answered
-pub whole_results : (w : World) (calls : List Ask) → stop w calls ≡ None → results w calls ≡ results (unlimited w) calls
+pub whole_results : (w : World) (calls : List Ask) → stop w calls ≡ None → results w calls ≡ results (unlimited_world w) calls
 whole_results w calls whole = by_answered w.answered refl
   where
-    by_answered : (n : Option ℕ) → w.answered ≡ n → results w calls ≡ results (unlimited w) calls
+    by_answered : (n : Option ℕ) → w.answered ≡ n → results w calls ≡ results (unlimited_world w) calls
     by_answered None is = ap (λ (n : Option ℕ). results (record w { answered = n }) calls) is
     by_answered (Some n) is =
-        let count : length (results (unlimited w) calls) ≡ length calls = count_of (unlimited w) calls (whole_unlimited w calls whole) in
+        let count : length (results (unlimited_world w) calls) ≡ length calls = count_of (unlimited_world w) calls (whole_unlimited w calls whole) in
         let enough : length calls ≤ n = subst (AtLeast (length calls)) is (whole_least w calls whole) in
-        results_first w calls ∙ ap (λ (x : Option ℕ). results_within x (results (unlimited w) calls)) is ∙ take_all n (results (unlimited w) calls) (omega (arith, count, enough))
+        results_first w calls ∙ ap (λ (x : Option ℕ). results_within x (results (unlimited_world w) calls)) is ∙ take_all n (results (unlimited_world w) calls) (omega (arith, count, enough))
 
 -- where no call ends at a fault, and all are answered, the target after the calls is the one after each alone
 pub after_alone : (t : TargetState) (large : List ℕ) (n : Option ℕ) (calls : List Ask) → NoneFaults t large calls → AtLeast (length calls) n → (world_after (world_at t large n) calls).target ≡ alone_after t large calls
@@ -67,7 +67,7 @@ module _ (p : Planner) (a : AccessView) (kept : Kept) (accesses : List RegAccess
   w = start_world t0 n
 
   pub front_none : NoneStops t0 [] f.front
-  front_none = passing_stops p t0 f.front f.fresh (askable_first f.front f.back (subst AreAskable f.calls f.askable)) (pass_front t0 (issued p t0 f.front) f.part (subst (Passes t0) f.made_is f.on.passes))
+  front_none = passing_stops p t0 f.front f.fresh (askable_first f.front f.back (subst AreAskable f.calls f.askable)) (pass_front t0 (issued_entries p t0 f.front) f.part (subst (Passes t0) f.made_is f.on.passes))
 
   front_enough : AtLeast (length f.front) n
   front_enough = subst (λ (k : ℕ). AtLeast k n) f.came_is enough
@@ -75,26 +75,26 @@ module _ (p : Planner) (a : AccessView) (kept : Kept) (accesses : List RegAccess
   front_whole : stop w f.front ≡ None
   front_whole = front_none.stops n front_enough
 
-  is_performed : HasPerformed (issued p t0 a.asks.calls) a.confirmed (began m0 n) m
-  is_performed = has_at (issued p t0 a.asks.calls) f.made (f.flying ++ []) a.confirmed n m0 m f.on.are f.on.weighty f.confirmed f.on.work f.on.target
+  is_performed : HasPerformed (issued_entries p t0 a.asks.calls) a.confirmed (began m0 n) m
+  is_performed = has_at (issued_entries p t0 a.asks.calls) f.made (f.flying ++ []) a.confirmed n m0 m f.on.are f.on.weighty f.confirmed f.on.work f.on.target
 
-  is_good : first_fault t0 (take a.confirmed (issued p t0 a.asks.calls)) ≡ None
+  is_good : first_fault t0 (take a.confirmed (issued_entries p t0 a.asks.calls)) ≡ None
   is_good =
       (λ j. first_fault t0 (take (sym f.confirmed j) (f.on.are j)))
       ∙ ap (first_fault t0) (take-append_seam f.made (f.flying ++ []))
       ∙ pass_none t0 f.made f.on.passes
 
-  made_first : take a.confirmed (issued p t0 a.asks.calls) ≡ f.made
+  made_first : take a.confirmed (issued_entries p t0 a.asks.calls) ≡ f.made
   made_first = (λ j. take (sym f.confirmed j) (f.on.are j)) ∙ take-append_seam f.made (f.flying ++ [])
 
-  is_work : grown_since (began m0 n) m ≡ weight_in t0 (take a.confirmed (issued p t0 a.asks.calls))
+  is_work : grown_since (began m0 n) m ≡ weight_in t0 (take a.confirmed (issued_entries p t0 a.asks.calls))
   is_work = (let w = f.on.work in let s = ap (weight_in t0) made_first in omega (arith, w, s))
 
-  is_own : StayWithin t0 a.asks.calls (take a.confirmed (issued p t0 a.asks.calls))
+  is_own : StayWithin t0 a.asks.calls (take a.confirmed (issued_entries p t0 a.asks.calls))
   is_own =
       subst (StayWithin t0 a.asks.calls) (sym made_first) (stay_passing p t0 a.asks.calls f.made (f.flying ++ []) f.fresh f.askable f.on.are f.on.passes)
 
-  is_issued : a.issued ≡ length (issued p t0 a.asks.calls)
+  is_issued : a.issued ≡ length (issued_entries p t0 a.asks.calls)
   is_issued =
       let all = ap length f.on.are in
       let split = length-append f.made (f.flying ++ []) in
@@ -115,14 +115,14 @@ module _ (p : Planner) (a : AccessView) (kept : Kept) (accesses : List RegAccess
   is_calm settled =
       let c = f.calm settled in
       let all : a.asks.calls ≡ f.front = f.calls ∙ ap (λ (l : List Ask). f.front ++ l) c.0 ∙ append-nil f.front in
-      let made : issued p t0 a.asks.calls ≡ f.made = f.on.are ∙ ap (λ (l : List Entry). f.made ++ (l ++ [])) c.1 ∙ append-nil f.made in
+      let made : issued_entries p t0 a.asks.calls ≡ f.made = f.on.are ∙ ap (λ (l : List Entry). f.made ++ (l ++ [])) c.1 ∙ append-nil f.made in
       let none : NoneFaults t0 [] a.asks.calls = subst (NoneFaults t0 []) (sym all) front_none.none in
-      let here : Agree (alone_after t0 [] a.asks.calls) (target_after t0 (issued p t0 a.asks.calls)) = journal_agrees p t0 a.asks.calls f.fresh f.askable none settled in
-      let target : target_after t0 (issued p t0 a.asks.calls) ≡ target_of m.probe = ap (target_after t0) made ∙ sym f.on.target in
+      let here : Agree (alone_after t0 [] a.asks.calls) (target_after t0 (issued_entries p t0 a.asks.calls)) = journal_agrees p t0 a.asks.calls f.fresh f.askable none settled in
+      let target : target_after t0 (issued_entries p t0 a.asks.calls) ≡ target_of m.probe = ap (target_after t0) made ∙ sym f.on.target in
       let alone_is : (world_after w a.asks.calls).target ≡ alone_after t0 [] a.asks.calls = after_alone t0 [] n a.asks.calls none (subst (λ (l : List Ask). AtLeast (length l) n) (sym all) front_enough) in
       agree_sym _ _ (subst (λ (t : TargetState). Agree t (target_of m.probe)) (sym alone_is) (subst (Agree (alone_after t0 [] a.asks.calls)) target here))
 
-  pub open_stands : StandsOpen (issued p t0 a.asks.calls) a (began m0 n) m
+  pub open_stands : StandsOpen (issued_entries p t0 a.asks.calls) a (began m0 n) m
   open_stands = record { issued = is_issued; performed = is_performed; work = is_work; good = is_good; own = is_own; retries = f.on.retries; idle_cycles = f.on.idle_cycles; skipped = is_skipped; settled = is_calm }
 
   came_length : length came ≡ a.came

@@ -13,7 +13,7 @@ use Rattle.target_calls.specs.World.{World, later_by, next_world, start_world, s
 use Rattle.target_calls.specs.declared.calls.Ask.{Ask}
 use Rattle.target_calls.proofs.EntryLemmas.{pass_front}
 use Rattle.access_regs.specs.Alone.{NoneFaults, call_alone}
-use Rattle.access_regs.specs.Journal.{issued}
+use Rattle.access_regs.specs.Journal.{issued_entries}
 use Rattle.access_regs.specs.Stops.{StaysThere, world_at}
 use Rattle.access_regs.specs.declared.planner.Planner.{Planner}
 use Rattle.access_regs.proofs.StopLists.{good_end, stop_goes, wait_stops}
@@ -52,7 +52,7 @@ stop_later t large (ask ∷ asks) (suc at) n none within is =
 -- ---- entries
 
 -- an entry before which none gives a fault is issued for the calls up to the first that ends at one
-own_at : (p : Planner) (t : TargetState) (asks : List Ask) (front : List Entry) (e : Entry) (more : List Entry) (n : ℕ) → IsFresh t → AreAskable asks → issued p t asks ≡ front ++ e ∷ more
+own_at : (p : Planner) (t : TargetState) (asks : List Ask) (front : List Entry) (e : Entry) (more : List Entry) (n : ℕ) → IsFresh t → AreAskable asks → issued_entries p t asks ≡ front ++ e ∷ more
     → Passes t front → stop (start_world t None) asks ≡ Some n → IsForFirstCalls n e
 own_at p t asks front e more n fresh ok is passes stops =
     let s : StaysThere 0 t [] asks e = wait_stops p t asks front e more fresh ok is passes in
@@ -66,7 +66,7 @@ all_by_front P [] h = tt
 all_by_front {A = A} P (x ∷ xs) h = (h [] x xs refl, all_by_front P xs (λ front y more is. h (x ∷ front) y more (ap (λ (l : List A). x ∷ l) is)))
 
 -- entries in front, where those before each of them pass
-pub stay_front : (p : Planner) (t : TargetState) (asks : List Ask) (first rest : List Entry) → IsFresh t → AreAskable asks → issued p t asks ≡ first ++ rest
+pub stay_front : (p : Planner) (t : TargetState) (asks : List Ask) (first rest : List Entry) → IsFresh t → AreAskable asks → issued_entries p t asks ≡ first ++ rest
     → ((front : List Entry) (e : Entry) (more : List Entry) → first ≡ front ++ e ∷ more → Passes t front) → StayWithin t asks first
 stay_front p t asks first rest fresh ok is pass = record {
   so = λ n stops. all_by_front (IsForFirstCalls n) first
@@ -74,7 +74,7 @@ stay_front p t asks first rest fresh ok is pass = record {
 }
 
 -- where all of them pass
-pub stay_passing : (p : Planner) (t : TargetState) (asks : List Ask) (first rest : List Entry) → IsFresh t → AreAskable asks → issued p t asks ≡ first ++ rest → Passes t first → StayWithin t asks first
+pub stay_passing : (p : Planner) (t : TargetState) (asks : List Ask) (first rest : List Entry) → IsFresh t → AreAskable asks → issued_entries p t asks ≡ first ++ rest → Passes t first → StayWithin t asks first
 stay_passing p t asks first rest fresh ok is passes =
     stay_front p t asks first rest fresh ok is (λ front e more here. pass_front t front (e ∷ more) (subst (Passes t) here passes))
 
@@ -84,7 +84,7 @@ begun_stay p t asks begun fresh ok passes =
     stay_front p t asks (take begun entries) (drop begun entries) fresh ok (sym (take-append-drop begun entries)) before
   where
     entries : List Entry
-    entries = issued p t asks
+    entries = issued_entries p t asks
 
     before : (front : List Entry) (e : Entry) (more : List Entry) → take begun entries ≡ front ++ e ∷ more → Passes t front
     before front e more here =

@@ -3,7 +3,7 @@ use Rattle.std.proofs.Common.{◌≡◌, ◌∙◌, ℕ, ◌+◌, Bool, true, co
 use Rattle.std.proofs.lemmas.List.{map-append}
 use Rattle.target_machine.specs.Attempt.{Attempt, attempt}
 use Rattle.target_machine.specs.Lists.{PassTo, after}
-use Rattle.target_machine.specs.Plain.{Action, Makes, acted, given, in_order}
+use Rattle.target_machine.specs.Plain.{Action, Makes, action_attempt, given_number, in_order}
 use Rattle.target_machine.specs.State.{TargetState}
 use Rattle.target_machine.specs.declared.access.Outcome.{Outcome}
 use Rattle.target_machine.specs.declared.access.Outcome.TheVariants as outcome
@@ -63,13 +63,13 @@ entry_pushed entries made flying e rest accesses a m0 m on is room = record {
 
 -- ---- values
 
-value_given : (o : Outcome) → value_of o ≡ given o
+value_given : (o : Outcome) → value_of o ≡ given_number o
 value_given (outcome.Value n) = refl
 value_given outcome.Done = refl
 value_given outcome.Fault = refl
 
 value_there : (t : TargetState) (front : List Entry) (e : Entry) (back : List Entry) (accesses : List RegAccess) (a : RegAccess) → actions_in (front ++ e ∷ back) ≡ making accesses → e.action ≡ Makes a → a.read ≡ true →
-    value_at (slot_values t accesses) (length front) ≡ Some (given (acted (after t (actions_in front)) e.action).outcome)
+    value_at (slot_values t accesses) (length front) ≡ Some (given_number (action_attempt (after t (actions_in front)) e.action).outcome)
 value_there t [] e back [] a h is read = absurd (cc)
 value_there t [] e back (b ∷ accesses) a h is read =
     let p = head_makes e.action (Makes b) (actions_in back) (making accesses) h in
@@ -77,12 +77,12 @@ value_there t [] e back (b ∷ accesses) a h is read =
     let same' : b ≡ a = cc in
     let reads : b.read ≡ true = ap (λ (x : RegAccess). x.read) same' ∙ read in
     ap (λ (x : Bool). value_in (Some (cond x (Some (value_now t b)) None))) reads
-    ∙ ap (λ (k : ℕ). Some k) (value_given (attempt t b).outcome ∙ ap (λ (x : Action). given (acted t x).outcome) (sym p.0))
+    ∙ ap (λ (k : ℕ). Some k) (value_given (attempt t b).outcome ∙ ap (λ (x : Action). given_number (action_attempt t x).outcome) (sym p.0))
 value_there t (x ∷ front) e back [] a h is read = absurd (cc)
 value_there t (x ∷ front) e back (b ∷ accesses) a h is read =
     let p = head_makes x.action (Makes b) (actions_in (front ++ e ∷ back)) (making accesses) h in
-    ap (λ (y : Action). value_at (slot_values (acted t y).next accesses) (length front)) (sym p.0)
-    ∙ value_there (acted t x.action).next front e back accesses a p.1 is read
+    ap (λ (y : Action). value_at (slot_values (action_attempt t y).next accesses) (length front)) (sym p.0)
+    ∙ value_there (action_attempt t x.action).next front e back accesses a p.1 is read
 
 pub same_cut : (xs xs' : List Entry) (e e' : Entry) (ys ys' : List Entry) → xs ++ e ∷ ys ≡ xs' ++ e' ∷ ys' → length xs ≡ length xs' → (xs ≡ xs') × (e ≡ e')
 same_cut [] [] e e' ys ys' is len = (refl, cc)
@@ -104,14 +104,14 @@ value_is_given entries made flying rest accesses m0 m o part front e more a plac
     let values : part.values ≡ slot_values (after t0 (actions_in made)) accesses = values_came entries made flying rest accesses m0 m o part on flies good in
     (λ j. value_at (values j) (sym c.at j))
     ∙ value_there (after t0 (actions_in made)) c.front c.entry c.back accesses a (ap actions_in (sym c.is) ∙ on.flight) (ap (λ (x : Entry). x.action) same.1 ∙ action) read
-    ∙ ap (λ (s : TargetState). Some (given (acted s c.entry.action).outcome)) (sym (after_split t0 made c.front))
-    ∙ (λ j. Some (given (acted (after t0 (actions_in (same.0 j))) (same.1 j).action).outcome))
+    ∙ ap (λ (s : TargetState). Some (given_number (action_attempt s c.entry.action).outcome)) (sym (after_split t0 made c.front))
+    ∙ (λ j. Some (given_number (action_attempt (after t0 (actions_in (same.0 j))) (same.1 j).action).outcome))
 
 pub pass_makes : (u : TargetState) (lead : List RegAccess) → NoneFault u lead → PassTo u (making lead) (after u (making lead))
 pass_makes u [] h = refl
-pass_makes u (a ∷ lead) h = (h.0, pass_makes (acted u (Makes a)).next lead h.1)
+pass_makes u (a ∷ lead) h = (h.0, pass_makes (action_attempt u (Makes a)).next lead h.1)
 
 pub plan_gives : PlanGives
 plan_gives u lead a none =
-    ap (λ (l : List Action). given (in_order u l).outcome) (map-append (λ (x : RegAccess). Makes x) lead (a ∷ []))
-    ∙ ap (λ (x : Attempt). given x.outcome) (pass_last u (after u (making lead)) (making lead) (Makes a) (pass_makes u lead none))
+    ap (λ (l : List Action). given_number (in_order u l).outcome) (map-append (λ (x : RegAccess). Makes x) lead (a ∷ []))
+    ∙ ap (λ (x : Attempt). given_number x.outcome) (pass_last u (after u (making lead)) (making lead) (Makes a) (pass_makes u lead none))

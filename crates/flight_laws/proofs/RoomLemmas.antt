@@ -1,16 +1,16 @@
 -- There is room for more work.
 use Rattle.std.proofs.Common.{◌≡◌, ◌∙◌, ℕ, ◌+◌, ◌*◌, ◌^◌, ◌≤◌, ◌<◌, List, [], ◌∷◌, ◌++◌, length, sym, ap, subst, arith, length-append}
 use Rattle.target_machine.specs.State.{TargetState}
-use Rattle.target_machine.specs.Plain.{acted}
+use Rattle.target_machine.specs.Plain.{action_attempt}
 use Rattle.target_machine.specs.declared.access.RegAccess.{RegAccess}
-use Rattle.dap_transfer.specs.State.{grown}
+use Rattle.dap_transfer.specs.State.{grown_work}
 use Rattle.probe_core.specs.Bench.{BenchState}
 use Rattle.probe_core.specs.Probe.{target_of, work_of}
 use Rattle.target_calls.specs.Journal.{Entry, target_after}
 use Rattle.target_calls.specs.Weights.{AreWeighty, weight_in}
 use Rattle.target_calls.specs.declared.calls.Ask.{Ask}
 use Rattle.target_calls.proofs.EntryLemmas.{weight_append, weight_some}
-use Rattle.access_regs.specs.Journal.{issued}
+use Rattle.access_regs.specs.Journal.{issued_entries}
 use Rattle.access_regs.specs.declared.planner.Planner.{Planner}
 use Rattle.access_regs.proofs.LightLemmas.{journal_light}
 use Rattle.access_regs.proofs.Lists.{actions_numbered}
@@ -25,7 +25,7 @@ use Rattle.flight_laws.proofs.UnderWayLemmas.{weighty_tail}
 -- entries that weigh something weigh at least as much as they are
 at_least : (t : TargetState) (xs : List Entry) → AreWeighty xs → length xs ≤ weight_in t xs
 at_least t [] h = omega arith
-at_least t (x ∷ xs) h = let a = weight_some t x.action h.0 in let b = at_least (acted t x.action).next xs h.1 in omega (arith, a, b)
+at_least t (x ∷ xs) h = let a = weight_some t x.action h.0 in let b = at_least (action_attempt t x.action).next xs h.1 in omega (arith, a, b)
 
 weighty_front : (xs ys : List Entry) → AreWeighty (xs ++ ys) → AreWeighty xs
 weighty_front [] ys h = tt
@@ -33,7 +33,7 @@ weighty_front (x ∷ xs) ys h = (h.0, weighty_front xs ys h.1)
 
 -- all that is in the flight and still to be pushed has room
 module _ (p : Planner) (calls : List Ask) (made flying rest : List Entry) (accesses : List RegAccess) (m0 m : BenchState) (askable : AreAskable calls)
-    (on : IsUnderWay (issued p (target_of m0.probe) calls) made flying rest accesses m0 m) (room : HasRoom calls m0) where
+    (on : IsUnderWay (issued_entries p (target_of m0.probe) calls) made flying rest accesses m0 m) (room : HasRoom calls m0) where
   abbrev t0 : TargetState
   t0 = target_of m0.probe
 
@@ -41,7 +41,7 @@ module _ (p : Planner) (calls : List Ask) (made flying rest : List Entry) (acces
   after_made : weight_in t0 made + weight_in (target_after t0 made) (flying ++ rest) ≤ 60000012 * length calls
   after_made =
       let all = journal_light p t0 calls askable in
-      let split : weight_in t0 (issued p t0 calls) ≡ weight_in t0 made + weight_in (target_after t0 made) (flying ++ rest) = ap (weight_in t0) on.are ∙ weight_append t0 made (flying ++ rest) in
+      let split : weight_in t0 (issued_entries p t0 calls) ≡ weight_in t0 made + weight_in (target_after t0 made) (flying ++ rest) = ap (weight_in t0) on.are ∙ weight_append t0 made (flying ++ rest) in
       omega (arith, all, split)
 
   pub rest_room : work_of m.probe + length flying + length rest < 2 ^ 64
@@ -70,7 +70,7 @@ action_room p calls confirmed count e rest came m0 m o s does room =
     let w = does.work in
     omega (arith, r, w)
 
-grown_few : (w n : ℕ) → grown w n ≤ w + n
+grown_few : (w n : ℕ) → grown_work w n ≤ w + n
 grown_few w n = omega arith
 
 pub forgiven_room : ForgivenRoom

@@ -2,7 +2,7 @@
 use Rattle.std.proofs.Common.{◌≡◌, ◌≢◌, ◌∙◌, ℕ, zero, suc, ◌<◌, Bool, true, false, not, ◌&&◌, nat_lt, List, [], ◌∷◌, length, Option, Some, None, refl, ap, subst, arith}
 use Rattle.std.proofs.lemmas.Bool.{or_parts, both_ways, and_left}
 use Rattle.target_machine.specs.Fresh.{IsFresh}
-use Rattle.target_machine.specs.Plain.{Action, CallEnd, Faulted, call_done, contains, ended, is_small}
+use Rattle.target_machine.specs.Plain.{Action, CallEnd, Faulted, call_done, contains, ended_call, is_small}
 use Rattle.target_machine.specs.State.{TargetState}
 use Rattle.target_machine.specs.declared.unit.Call.{Call}
 use Rattle.target_machine.specs.declared.unit.Call.TheVariants.{Access}
@@ -15,7 +15,7 @@ use Rattle.target_calls.specs.declared.calls.Ask.{Ask}
 use Rattle.target_calls.proofs.CallLists.{head_of}
 use Rattle.access_regs.specs.Alone.{NoneFaults, call_alone, alone_after, large_of_all}
 use Rattle.access_regs.specs.Entries.{kept_by}
-use Rattle.access_regs.specs.Kept.{Kept, known}
+use Rattle.access_regs.specs.Kept.{Kept, known_at}
 use Rattle.access_regs.specs.Plan.{needs_cfg}
 use Rattle.access_regs.specs.Stops.{world_at}
 use Rattle.access_regs.specs.declared.planner.Planner.{Planner}
@@ -48,7 +48,7 @@ never_stops t large n (ask ∷ asks) e =
     let r = never_stops (call_alone t large ask).next (call_alone t large ask).large (one_fewer n) asks h.1 in
     record { none = (not_faulted (call_alone t large ask).end g.1, r.none); enough = enough_more n (length asks) g.0 r.enough }
 
-pub not_small : (b forgive s : Bool) (v : ℕ) (t : TargetState) (l : List ℕ) (xs : List Action) → s ≡ false → is_small_end (ended b forgive s v t l xs).end ≡ false
+pub not_small : (b forgive s : Bool) (v : ℕ) (t : TargetState) (l : List ℕ) (xs : List Action) → s ≡ false → is_small_end (ended_call b forgive s v t l xs).end ≡ false
 not_small true true s v t l xs e = refl
 not_small true false s v t l xs e = refl
 not_small false forgive true v t l xs e = absurd (cc)
@@ -57,8 +57,8 @@ not_small false forgive false v t l xs e = refl
 and_not : (a b c : Bool) → b ≡ c → (a && not b) ≡ false → (a && not c) ≡ false
 and_not a b c e h = subst (λ (x : Bool). (a && not x) ≡ false) e h
 
-pub small_none : (t : TargetState) (large : List ℕ) (k : Kept) (asked : AccessUnit) → IsUnitInRange asked → ((ap : ℕ) → ap < 256 → (known k ap).large ≡ contains large ap) → needs_cfg k asked ≡ false → is_small t large (Access asked) ≡ false
-small_none t large k (unit.Memory size read n address value) range larges none = and_left _ _ (and_not (nat_lt 0xFFFF_FFFF address) (known k n).large (contains large n) (larges n range.0) none)
+pub small_none : (t : TargetState) (large : List ℕ) (k : Kept) (asked : AccessUnit) → IsUnitInRange asked → ((ap : ℕ) → ap < 256 → (known_at k ap).large ≡ contains large ap) → needs_cfg k asked ≡ false → is_small t large (Access asked) ≡ false
+small_none t large k (unit.Memory size read n address value) range larges none = and_left _ _ (and_not (nat_lt 0xFFFF_FFFF address) (known_at k n).large (contains large n) (larges n range.0) none)
 small_none t large k (unit.Ap read n addr value) range larges none = refl
 small_none t large k (unit.Dp read addr value) range larges none = refl
 small_none t large k (unit.Poll mask value turns) range larges none = refl

@@ -4,7 +4,7 @@ use Rattle.std.proofs.lemmas.List.Sums.{sum_by-append, sum_by-cons}
 use Rattle.dap_base.specs.Bits.{has_bit}
 use Rattle.dap_base.proofs.Basics.{second_true}
 use Rattle.target_machine.specs.Lists.{after}
-use Rattle.target_machine.specs.Plain.{Action, Commands, Makes, acted, after_cfg, ap_access_of, call_done, cfg_actions, contains, drw_of, ended, forgives, has_large, in_order, is_fault, issued as made_of, may_forgive, memory_actions, needs_cfg as wants_cfg, select_of, unit_actions}
+use Rattle.target_machine.specs.Plain.{Action, Commands, Makes, action_attempt, after_cfg, ap_access_of, call_done, cfg_actions, contains, drw_of, ended_call, forgives, has_large, in_order, is_fault, issued_actions as made_of, may_forgive, memory_actions, needs_cfg as wants_cfg, select_of, unit_actions}
 use Rattle.target_machine.specs.State.{TargetState}
 use Rattle.target_machine.specs.declared.access.RegAccess.{RegAccess}
 use Rattle.target_machine.specs.declared.unit.Call.{Call}
@@ -17,9 +17,9 @@ use Rattle.target_calls.specs.Journal.{Entry, settles}
 use Rattle.target_calls.specs.declared.calls.Ask.{Ask}
 use Rattle.target_calls.specs.declared.journal.Part.{Part}
 use Rattle.target_calls.specs.declared.journal.Part.TheVariants.{Ends, Leads, Settles}
-use Rattle.access_regs.specs.Journal.{Issue, Step, actions_of, after_settling, alone_at, before, by_cfg, by_cfg_read, by_csw, by_plan, done_alone, finish, finish_of, gives, is_alone, is_early, issue, issue_of, issued_from, large_of, last_action, making, numbered, parts_of, planned, port_of, steps_at, steps_of}
-use Rattle.access_regs.specs.Kept.{Kept, csw_of, is_known, known, nothing_kept}
-use Rattle.access_regs.specs.Plan.{cfg_plan, csw_needed, first_plan, high_needed, leads, learned, learned_cfg, needs_cfg, needs_csw, needs_settle, planned_csw, port_writes, select_needed, select_value, settle, settled, settling, tar_needed, unless}
+use Rattle.access_regs.specs.Journal.{Issue, Step, actions_of, after_settling, alone_at, before, by_cfg, by_cfg_read, by_csw, by_plan, done_alone, finish, finish_of, gives, is_alone, is_early, issue, issue_of, issued_from, large_of, last_action, making, numbered_entries, parts_of, issue_of_plan, port_of, steps_at, steps_of}
+use Rattle.access_regs.specs.Kept.{Kept, csw_of, is_known, known_at, nothing_kept}
+use Rattle.access_regs.specs.Plan.{cfg_plan, csw_needed, first_plan, high_needed, leads, kept_after_csw, learned_cfg, needs_cfg, needs_csw, needs_settle, planned_csw, port_writes, select_needed, select_value, settle, kept_after_settling, settling, tar_needed, unless}
 use Rattle.access_regs.specs.declared.known.Known.{Known}
 use Rattle.access_regs.specs.declared.known.Unsettled.{Unsettled}
 use Rattle.access_regs.specs.declared.planner.Planner.{Planner}
@@ -42,10 +42,10 @@ actions_both : (xs ys : List Action) → writes_among (xs ++ ys) ≡ writes_amon
 actions_both [] ys = omega arith
 actions_both (x ∷ xs) ys = let e = actions_both xs ys in omega (arith, e)
 
-entries_are : (n : ℕ) (b : Bool) (steps : List Step) → drw_writes_in (numbered n b steps) ≡ writes_of steps
+entries_are : (n : ℕ) (b : Bool) (steps : List Step) → drw_writes_in (numbered_entries n b steps) ≡ writes_of steps
 entries_are n b [] = refl
 entries_are n b (s ∷ steps) =
-    sum_by-cons (λ (e : Entry). one_if (is_drw_write e.action)) (record { unit = cond (settles s.part) n (n + 1); part = s.part; forgiving = b && not (settles s.part); action = s.action }) (numbered n b steps)
+    sum_by-cons (λ (e : Entry). one_if (is_drw_write e.action)) (record { unit = cond (settles s.part) n (n + 1); part = s.part; forgiving = b && not (settles s.part); action = s.action }) (numbered_entries n b steps)
     ∙ ap (λ (m : ℕ). one_if (is_drw_write s.action) + m) (entries_are n b steps)
 
 parts_are : (early : Bool) (asked : AccessUnit) (xs : List Action) → writes_of (parts_of early asked xs) ≡ writes_among xs
@@ -77,8 +77,8 @@ writes_none n size address =
 leads_none : (k : Kept) (asked : AccessUnit) → writes_of (steps_of Leads (leads k asked)) ≡ 0
 leads_none k (unit.Memory size read n address value) =
     let a = select_none Leads k n 0 in
-    let b = writes_none (known k n) size address in
-    let c = leads_both Leads (select_needed k n 0) (port_writes (known k n) size address) in
+    let b = writes_none (known_at k n) size address in
+    let c = leads_both Leads (select_needed k n 0) (port_writes (known_at k n) size address) in
     omega (arith, a, b, c)
 leads_none k (unit.Ap read n addr value) = select_none Leads k n (addr / 16)
 leads_none k (unit.Dp read addr value) = refl
@@ -115,7 +115,7 @@ either_one false x y h k = k
 
 csw_one : (t : TargetState) (k : Kept) (asked : AccessUnit) → writes_of (by_csw t k asked).steps ≤ 1
 csw_one t k asked =
-    let l : Kept = learned k (port_of asked) (gives t (first_plan k (port_of asked))) in
+    let l : Kept = kept_after_csw k (port_of asked) (gives t (first_plan k (port_of asked))) in
     either_one (needs_csw k asked) (before (steps_of Leads (first_plan k (port_of asked))) (by_plan l asked)) (by_plan k asked)
     (before_one (steps_of Leads (first_plan k (port_of asked))) (by_plan l asked) (read_none k (port_of asked) 0 0) (plan_one l asked)) (plan_one k asked)
 
@@ -131,22 +131,22 @@ cfg_one t k asked =
     (csw_one t k asked)
 
 settling_one : (t : TargetState) (k : Kept) (f : TargetState → Kept → Issue) → ((u : TargetState) (l : Kept) → writes_of (f u l).steps ≤ 1) → writes_of (after_settling t k f).steps ≤ 1
-settling_one t k f h = before_one (steps_of Settles (settle k)) (f (after t (making (settle k))) (settled k)) (settle_none k) (h (after t (making (settle k))) (settled k))
+settling_one t k f h = before_one (steps_of Settles (settle k)) (f (after t (making (settle k))) (kept_after_settling k)) (settle_none k) (h (after t (making (settle k))) (kept_after_settling k))
 
-planned_one : (t : TargetState) (k : Kept) (asked : AccessUnit) → writes_of (planned t k asked).steps ≤ 1
+planned_one : (t : TargetState) (k : Kept) (asked : AccessUnit) → writes_of (issue_of_plan t k asked).steps ≤ 1
 planned_one t k asked = either_one (needs_settle k asked) (after_settling t k (λ u l. by_cfg u l asked)) (by_cfg t k asked) (settling_one t k (λ u l. by_cfg u l asked) (λ u l. cfg_one u l asked)) (cfg_one t k asked)
 
 -- ---- a unit that is made alone
 
 made_few : (t : TargetState) (xs : List Action) → writes_among (made_of t xs) ≤ writes_among xs
 made_few t [] = omega arith
-made_few t (x ∷ xs) = by_fault (is_fault (acted t x).outcome) (made_few (acted t x).next xs)
+made_few t (x ∷ xs) = by_fault (is_fault (action_attempt t x).outcome) (made_few (action_attempt t x).next xs)
   where
-    by_fault : (b : Bool) → writes_among (made_of (acted t x).next xs) ≤ writes_among xs → one_if (is_drw_write x) + writes_among (cond b [] (made_of (acted t x).next xs)) ≤ one_if (is_drw_write x) + writes_among xs
+    by_fault : (b : Bool) → writes_among (made_of (action_attempt t x).next xs) ≤ writes_among xs → one_if (is_drw_write x) + writes_among (cond b [] (made_of (action_attempt t x).next xs)) ≤ one_if (is_drw_write x) + writes_among xs
     by_fault true h = omega arith
     by_fault false h = omega (arith, h)
 
-ended_same : (b f s : Bool) (v : ℕ) (t : TargetState) (l : List ℕ) (xs : List Action) → writes_among (ended b f s v t l xs).actions ≡ writes_among xs
+ended_same : (b f s : Bool) (v : ℕ) (t : TargetState) (l : List ℕ) (xs : List Action) → writes_among (ended_call b f s v t l xs).actions ≡ writes_among xs
 ended_same true true s v t l xs = let e = actions_both xs (Commands forgives ∷ []) in omega (arith, e)
 ended_same true false s v t l xs = refl
 ended_same false f true v t l xs = refl
@@ -190,7 +190,7 @@ alone_one t k forgive asked e =
 issue_one : (p : Planner) (t : TargetState) (k : Kept) (forgive : Bool) (call : Call) → writes_of (issue p t k forgive call).steps ≤ 1
 issue_one p t k forgive (Access asked) = by_mark (is_alone p forgive && may_forgive (Access asked)) refl
   where
-    by_mark : (b : Bool) → (is_alone p forgive && may_forgive (Access asked)) ≡ b → writes_of (cond b (after_settling t k (alone_at forgive asked)) (planned t k asked)).steps ≤ 1
+    by_mark : (b : Bool) → (is_alone p forgive && may_forgive (Access asked)) ≡ b → writes_of (cond b (after_settling t k (alone_at forgive asked)) (issue_of_plan t k asked)).steps ≤ 1
     by_mark true e = settling_one t k (alone_at forgive asked) (λ u l. alone_one u l forgive asked (second_true (is_alone p forgive) (may_forgive (Access asked)) e))
     by_mark false e = planned_one t k asked
 issue_one p t k forgive (Probe c) = omega arith
@@ -202,8 +202,8 @@ finish_none false k = refl
 list_few : (p : Planner) (n : ℕ) (k : Kept) (t : TargetState) (asks : List Ask) → drw_writes_in (issued_from p n k t asks) ≤ length asks
 list_few p n k t [] = omega arith
 list_few p n k t (ask ∷ asks) =
-    let own : List Entry = numbered n (ask.forgive && may_forgive ask.call) (issue_of p t k ask).steps in
-    let fin : List Entry = numbered (n + 1) false (finish_of p t k ask).steps in
+    let own : List Entry = numbered_entries n (ask.forgive && may_forgive ask.call) (issue_of p t k ask).steps in
+    let fin : List Entry = numbered_entries (n + 1) false (finish_of p t k ask).steps in
     let rest : List Entry = issued_from p (n + 1) (finish_of p t k ask).kept (after t (actions_of (steps_at p t k ask))) asks in
     let f : Entry → ℕ = λ e. one_if (is_drw_write e.action) in
     let split : drw_writes_in ((own ++ fin) ++ rest) ≡ drw_writes_in (own ++ fin) + drw_writes_in rest = sum_by-append f (own ++ fin) rest in

@@ -1,7 +1,7 @@
 -- Entries that are no register access: polls and commands of the probe. And faults that are forgiven.
 use Rattle.std.specs.Prelude.{◌≡◌, ◌⊎◌, ℕ, ◌+◌, ◌*◌, ◌^◌, ◌<◌, ◌≤◌, true, false, List, [], ◌∷◌, ◌++◌, length, Option}
 use Rattle.std.specs.List.{AllByRecursion}
-use Rattle.target_machine.specs.Plain.{Action, Commands, acted, forgives}
+use Rattle.target_machine.specs.Plain.{Action, Commands, action_attempt, forgives}
 use Rattle.target_machine.specs.State.{Agree}
 use Rattle.target_machine.specs.declared.access.RegAccess.{RegAccess}
 use Rattle.dap_messages.specs.declared.request.Response.TheVariants.{Fault}

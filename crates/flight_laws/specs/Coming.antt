@@ -2,7 +2,7 @@
 use Rattle.std.specs.Prelude.{◌≡◌, ℕ, ◌+◌, true, false, List, [], ◌∷◌, ◌++◌, length, slice_index, Option, None}
 use Rattle.target_machine.specs.Fresh.{IsFresh}
 use Rattle.target_machine.specs.Lists.{PassTo}
-use Rattle.target_machine.specs.Plain.{acted, given, is_fault, result_of}
+use Rattle.target_machine.specs.Plain.{action_attempt, given_number, is_fault, result_of}
 use Rattle.target_machine.specs.State.{TargetState}
 use Rattle.probe_core.specs.Bench.{BenchState}
 use Rattle.probe_core.specs.Probe.{target_of}
@@ -11,7 +11,7 @@ use Rattle.target_calls.specs.Journal.{Entry, target_after}
 use Rattle.target_calls.specs.World.{AtLeast, results, skips, small_now, start_world, stop}
 use Rattle.target_calls.specs.declared.calls.Ask.{Ask}
 use Rattle.access_regs.specs.Entries.{kept_by, target_by}
-use Rattle.access_regs.specs.Journal.{Step, actions_of, issue_of, issued}
+use Rattle.access_regs.specs.Journal.{Step, actions_of, issue_of, issued_entries}
 use Rattle.access_regs.specs.Kept.{Kept}
 use Rattle.access_regs.specs.Skips.{own_steps}
 use Rattle.access_regs.specs.declared.planner.Planner.{Planner}
@@ -45,9 +45,10 @@ abbrev pub ResultGiven : Type 0
 ResultGiven = (p : Planner) (t : TargetState) (asks : List Ask) (ask : Ask) (more : List Ask) (front : List Entry) (e : Entry) (rest : List Entry) → IsFresh t →
     AreAskable (asks ++ ask ∷ more) →
     stop (start_world t None) (asks ++ ask ∷ more) ≡ None → is_forgiving ask ≡ false → small_now (start_world t None) asks ask ≡ false →
-    issued p t (asks ++ ask ∷ more) ≡ front ++ e ∷ rest → length front + 1
-    ≡ length (issued p t asks) + length (issue_of p (target_by p t asks) (kept_by p t asks) ask).steps →
-    slice_index (results (start_world t None) (asks ++ ask ∷ more)) (length asks) ≡ result_of ask.call (given (acted (target_after t front) e.action).outcome)
+    issued_entries p t (asks ++ ask ∷ more) ≡ front ++ e ∷ rest → length front + 1
+    ≡ length (issued_entries p t asks) + length (issue_of p (target_by p t asks) (kept_by p t asks) ask).steps →
+    slice_index (results (start_world t None) (asks ++ ask ∷ more)) (length asks)
+    ≡ result_of ask.call (given_number (action_attempt (target_after t front) e.action).outcome)
 
 -- ---- one call more
 
@@ -56,7 +57,7 @@ ResultGiven = (p : Planner) (t : TargetState) (asks : List Ask) (ask : Ask) (mor
 abbrev pub SkipComes : Type 0
 SkipComes = (p : Planner) (t : TargetState) (asks : List Ask) (ask : Ask) (leads : List Step) (step : Step) (more : List Step) (at : TargetState) →
     IsFresh t → AreAskable (asks ++ ask ∷ []) → stop (start_world t None) asks ≡ None → is_forgiving ask ≡ true → own_steps p t asks ask ≡ leads ++ step ∷ more →
-    PassTo (target_by p t asks) (actions_of leads) at → is_fault (acted at step.action).outcome ≡ true →
+    PassTo (target_by p t asks) (actions_of leads) at → is_fault (action_attempt at step.action).outcome ≡ true →
     (skips (start_world t None) (asks ++ ask ∷ []) ≡ skips (start_world t None) asks + 1)
     × (results (start_world t None) (asks ++ ask ∷ []) ≡ results (start_world t None) asks ++ 0 ∷ [])
 
@@ -71,8 +72,9 @@ abbrev pub PassGiven : Type 0
 PassGiven = (p : Planner) (t : TargetState) (asks : List Ask) (ask : Ask) (front : List Entry) (e : Entry) (rest : List Entry) (at : TargetState) → IsFresh t →
     AreAskable (asks ++ ask ∷ []) →
     stop (start_world t None) asks ≡ None → PassTo (target_by p t asks) (actions_of (own_steps p t asks ask)) at → small_now (start_world t None) asks ask ≡ false →
-    issued p t (asks ++ ask ∷ []) ≡ front ++ e ∷ rest → length front + 1 ≡ length (issued p t asks) + length (own_steps p t asks ask) →
-    results (start_world t None) (asks ++ ask ∷ []) ≡ results (start_world t None) asks ++ result_of ask.call (given (acted (target_after t front) e.action).outcome) ∷ []
+    issued_entries p t (asks ++ ask ∷ []) ≡ front ++ e ∷ rest → length front + 1 ≡ length (issued_entries p t asks) + length (own_steps p t asks ask) →
+    results (start_world t None) (asks ++ ask ∷ [])
+    ≡ results (start_world t None) asks ++ result_of ask.call (given_number (action_attempt (target_after t front) e.action).outcome) ∷ []
 
 -- Where it ends so, its result is 0.
 abbrev pub SmallGiven : Type 0

@@ -12,7 +12,7 @@ use Rattle.target_calls.specs.Journal.{Entry}
 use Rattle.target_calls.specs.Weights.{weight}
 use Rattle.target_calls.specs.World.{World, results, stop}
 use Rattle.target_calls.specs.declared.calls.Ask.{Ask}
-use Rattle.access_regs.specs.Journal.{issued}
+use Rattle.access_regs.specs.Journal.{issued_entries}
 use Rattle.access_regs.specs.Kept.{Kept}
 use Rattle.access_regs.specs.declared.planner.Planner.{Planner}
 use Rattle.access_calls.specs.Left.{IsLeft}
@@ -42,7 +42,7 @@ use Rattle.flight_laws.specs.Sending.{IsSending}
 
 -- It has ended so: what the contract of accesses says of the end is so, and the results that came stay, in each world that is left.
 pub record IsEnded (p : Planner) (s : Stop) (a : AccessView) (came : List ℕ) (m0 m : BenchState) : Type 0 where
-  pub stands : (n : Option ℕ) → IsLeft a n → StandsAt (Some s) (issued p (target_of m0.probe) a.asks.calls) a (began m0 n) m
+  pub stands : (n : Option ℕ) → IsLeft a n → StandsAt (Some s) (issued_entries p (target_of m0.probe) a.asks.calls) a (began m0 n) m
   pub results_are : (n : Option ℕ) → IsLeft a n → take (length came) (results (world_from m0 n) a.asks.calls) ≡ came
 
 -- by its end: its calls lie in the flight, or it has ended
@@ -57,7 +57,7 @@ pub record IsBegun (p : Planner) (a : AccessView) (kept : Kept) (accesses : List
 -- So it has come as far as the contract of accesses says.
 abbrev pub BegunStands : Type 0
 BegunStands = (p : Planner) (a : AccessView) (kept : Kept) (accesses : List RegAccess) (came : List ℕ) (m0 : BenchState) (n : Option ℕ) →
-    IsBegun p a kept accesses came m0 → IsLeft a n → AccessStands (issued p) a (began m0 n)
+    IsBegun p a kept accesses came m0 → IsLeft a n → AccessStands (issued_entries p) a (began m0 n)
 
 -- The results that came are those of the first calls in each world that is left, also after an end.
 abbrev pub BegunCame : Type 0
@@ -79,7 +79,7 @@ IsStrictAt NoAnswer flying = ⊤
 -- The access is cut: it reports the end, with the numbers of a stop, and counts as come the calls that have their lines before it.
 pub record IsCutOff (p : Planner) (r : Report) (b : AccessView) (m0 : BenchState) : Type 0 where
   pub end : b.end ≡ Some (Cut r)
-  pub numbers : HasNumbers (issued p (target_of m0.probe) b.asks.calls) b.asks.calls b.skipped b.lines r
+  pub numbers : HasNumbers (issued_entries p (target_of m0.probe) b.asks.calls) b.asks.calls b.skipped b.lines r
   pub came : b.came ≡ b.lines
 
 -- At a fault the calls stop right after those that have their lines before it. Where a retry ended they do, or all have and a `finish` was made

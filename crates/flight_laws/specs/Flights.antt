@@ -1,7 +1,7 @@
 -- What a flight leaves of the entries that lie in it.
 use Rattle.std.specs.Prelude.{◌≡◌, ◌⊎◌, ℕ, ◌+◌, ◌≤◌, true, false, List, [], ◌∷◌, ◌++◌, length, Option}
 use Rattle.std.specs.List.{AllByRecursion}
-use Rattle.target_machine.specs.Plain.{acted, is_fault}
+use Rattle.target_machine.specs.Plain.{action_attempt, is_fault}
 use Rattle.target_machine.specs.State.{TargetState}
 use Rattle.target_machine.specs.declared.access.RegAccess.{RegAccess}
 use Rattle.dap_messages.specs.declared.request.Response.TheVariants.{Good, Wait, Fault, Mismatch}
@@ -45,7 +45,7 @@ pub record IsCutAt (entries : List Entry) (k : ℕ) (t : TargetState) : Type 0 w
 -- It gives a fault that its unit does not forgive.
 pub record IsStrictFaultAt (entries : List Entry) (k : ℕ) (t : TargetState) : Type 0 where
   pub cut : IsCutAt entries k t
-  pub bad : is_fault (acted (target_after t cut.front) cut.entry.action).outcome ≡ true
+  pub bad : is_fault (action_attempt (target_after t cut.front) cut.entry.action).outcome ≡ true
   pub strict : cut.entry.forgiving ≡ false
 
 -- A flight that met a fault is at the first entry that is not confirmed, as a report of its numbers says.

@@ -9,7 +9,7 @@ use Rattle.target_calls.specs.Journal.{Entry}
 use Rattle.target_calls.specs.World.{AtLeast, results, skips, start_world}
 use Rattle.target_calls.specs.declared.calls.Ask.{Ask}
 use Rattle.access_regs.specs.Entries.{kept_by}
-use Rattle.access_regs.specs.Journal.{issued}
+use Rattle.access_regs.specs.Journal.{issued_entries}
 use Rattle.access_regs.specs.Kept.{Kept}
 use Rattle.access_regs.specs.declared.planner.Planner.{Planner}
 use Rattle.access_calls.specs.Reported.{AccessView, began, world_from}
@@ -25,7 +25,7 @@ pub record IsFlying (p : Planner) (a : AccessView) (kept : Kept) (accesses : Lis
   pub askable : AreAskable a.asks.calls
   pub made : List Entry
   pub flying : List Entry
-  pub on : IsUnderWay (issued p (target_of m0.probe) a.asks.calls) made flying [] accesses m0 m
+  pub on : IsUnderWay (issued_entries p (target_of m0.probe) a.asks.calls) made flying [] accesses m0 m
   pub kept_is : kept_by p (target_of m0.probe) a.asks.calls ≡ kept
   pub confirmed : length made ≡ a.confirmed
   pub issued_is : length made + length flying ≡ a.issued
@@ -36,7 +36,7 @@ pub record IsFlying (p : Planner) (a : AccessView) (kept : Kept) (accesses : Lis
   pub calls : a.asks.calls ≡ front ++ back
   -- entries of the others that were made, where a flight was sent in the middle of a call
   pub part : List Entry
-  pub made_is : made ≡ issued p (target_of m0.probe) front ++ part
+  pub made_is : made ≡ issued_entries p (target_of m0.probe) front ++ part
   pub came_is : a.came ≡ length front
   pub came_are : came ≡ results (start_world (target_of m0.probe) None) front
   pub skipped_is : a.skipped ≡ skips (start_world (target_of m0.probe) None) front
@@ -47,7 +47,7 @@ pub record IsFlying (p : Planner) (a : AccessView) (kept : Kept) (accesses : Lis
 abbrev pub OpenStands : Type 0
 OpenStands = (p : Planner) (a : AccessView) (kept : Kept) (accesses : List RegAccess) (came : List ℕ) (n : Option ℕ) (m0 m : BenchState) →
     IsFlying p a kept accesses came m0 m → AtLeast a.came n →
-    StandsOpen (issued p (target_of m0.probe) a.asks.calls) a (began m0 n) m
+    StandsOpen (issued_entries p (target_of m0.probe) a.asks.calls) a (began m0 n) m
 
 -- The results that came are those of the first calls in each world that is left, whatever comes after them.
 abbrev pub CameStands : Type 0

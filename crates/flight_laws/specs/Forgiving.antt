@@ -1,7 +1,7 @@
 -- Into which flights the accesses of a unit made alone are cut.
 use Rattle.std.specs.Prelude.{◌≡◌, Bool, true, false, if◌then◌else◌, List, [], ◌∷◌, ◌++◌, map}
 use Rattle.target_machine.specs.Lists.{after}
-use Rattle.target_machine.specs.Plain.{Action, Commands, Makes, acted, call_actions, forgives, is_fault, may_forgive}
+use Rattle.target_machine.specs.Plain.{Action, Commands, Makes, action_attempt, call_actions, forgives, is_fault, may_forgive}
 use Rattle.target_machine.specs.State.{TargetState}
 use Rattle.target_machine.specs.declared.access.RegAccess.{RegAccess}
 use Rattle.target_machine.specs.declared.unit.Call.TheVariants.{Access}
@@ -36,6 +36,6 @@ abbrev pub AloneFlight : Type 0
 AloneFlight = (forgive : Bool) (asked : AccessUnit) (t : TargetState) (k : Kept) (lead : List RegAccess) (a : RegAccess) (rest : List Action) →
     may_forgive (Access asked) ≡ true →
     call_actions t (large_of k asked) (Access asked) ≡ making (lead ++ a ∷ []) ++ rest → NoneFault t lead →
-    (is_fault (acted (after t (making lead)) (Makes a)).outcome ≡ true →
+    (is_fault (action_attempt (after t (making lead)) (Makes a)).outcome ≡ true →
     (alone_at forgive asked t k).steps ≡ steps_of_unit asked (lead ++ a ∷ []) ++ after_fault forgive asked (lead ++ a ∷ []))
-    × (is_fault (acted (after t (making lead)) (Makes a)).outcome ≡ false → BeginsWithAccesses (alone_at forgive asked t k).steps asked (lead ++ a ∷ []) rest)
+    × (is_fault (action_attempt (after t (making lead)) (Makes a)).outcome ≡ false → BeginsWithAccesses (alone_at forgive asked t k).steps asked (lead ++ a ∷ []) rest)

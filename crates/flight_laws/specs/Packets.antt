@@ -10,7 +10,7 @@ use Rattle.target_calls.specs.NeedPoints.{capped_sum}
 use Rattle.target_calls.specs.Weights.{registers_in}
 use Rattle.target_calls.specs.declared.calls.Ask.{Ask}
 use Rattle.target_machine.specs.State.{TargetState}
-use Rattle.access_regs.specs.Journal.{issued, making}
+use Rattle.access_regs.specs.Journal.{issued_entries, making}
 use Rattle.access_regs.specs.declared.planner.Planner.{Planner}
 use Rattle.probe_core.specs.declared.job.Limits.{Limits}
 use Rattle.flight_forms.specs.Forms.{all_write_drw, form_of}
@@ -92,7 +92,7 @@ NeedBlock = (full block needs more : ℕ) (first split : Bool) (made flying : Li
 
 -- No call issues more than one write of DRW.
 abbrev pub WritesAreFew : Type 0
-WritesAreFew = (p : Planner) (t : TargetState) (asks : List Ask) → drw_writes_in (issued p t asks) ≤ length asks
+WritesAreFew = (p : Planner) (t : TargetState) (asks : List Ask) → drw_writes_in (issued_entries p t asks) ≤ length asks
 
 -- ---- the bounds of an access
 
@@ -117,5 +117,5 @@ pub record IsSparingAccess (a : AccessView) (made : List Entry) (b : Beginning) 
 -- So the bounds of the contract of accesses are kept.
 abbrev pub SparingKeeps : Type 0
 SparingKeeps = (p : Planner) (t : TargetState) (a : AccessView) (made more : List Entry) (b : Beginning) (m : BenchState) →
-    issued p t a.asks.calls ≡ made ++ more → IsSparingAccess a made b m →
-    bounds.KeepsBounds (issued p t a.asks.calls) a b m
+    issued_entries p t a.asks.calls ≡ made ++ more → IsSparingAccess a made b m →
+    bounds.KeepsBounds (issued_entries p t a.asks.calls) a b m

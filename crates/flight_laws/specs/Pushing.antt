@@ -1,7 +1,7 @@
 -- How the entries of one call more come into a flight, and what the flight's values say of them.
 use Rattle.std.specs.Prelude.{◌≡◌, ℕ, ◌+◌, ◌^◌, ◌<◌, true, List, [], ◌∷◌, ◌++◌, length, slice_get, Option, Some, None}
 use Rattle.target_machine.specs.Lists.{after}
-use Rattle.target_machine.specs.Plain.{Makes, acted, given}
+use Rattle.target_machine.specs.Plain.{Makes, action_attempt, given_number}
 use Rattle.target_machine.specs.State.{TargetState}
 use Rattle.target_machine.specs.declared.access.RegAccess.{RegAccess}
 use Rattle.dap_messages.specs.declared.request.Response.TheVariants.{Good}
@@ -38,9 +38,9 @@ ValueGiven = (entries made flying rest : List Entry) (accesses : List RegAccess)
     (more : List Entry) (a : RegAccess) (place : ℕ) →
     IsUnderWay entries made flying rest accesses m0 m → Flies accesses part m o → part.response ≡ Good →
     entries ≡ front ++ e ∷ more → length front ≡ length made + place → place < length flying → e.action ≡ Makes a → a.read ≡ true →
-    value_at part.values place ≡ Some (given (acted (target_after (target_of m0.probe) front) e.action).outcome)
+    value_at part.values place ≡ Some (given_number (action_attempt (target_after (target_of m0.probe) front) e.action).outcome)
 
 -- Where the accesses before the last of a plan do not fault, what the plan gives is what the last one gives.
 abbrev pub PlanGives : Type 0
 PlanGives = (u : TargetState) (lead : List RegAccess) (a : RegAccess) → NoneFault u lead →
-    gives u (lead ++ a ∷ []) ≡ given (acted (after u (making lead)) (Makes a)).outcome
+    gives u (lead ++ a ∷ []) ≡ given_number (action_attempt (after u (making lead)) (Makes a)).outcome

@@ -13,7 +13,7 @@ use Rattle.target_calls.specs.World.{AtLeast, results}
 use Rattle.target_calls.specs.declared.calls.Ask.{Ask}
 use Rattle.target_calls.specs.declared.journal.Part.TheVariants.{Settles}
 use Rattle.access_regs.specs.Entries.{NoneFault, target_by}
-use Rattle.access_regs.specs.Journal.{issue_of, issued, numbered, steps_of}
+use Rattle.access_regs.specs.Journal.{issue_of, issued_entries, numbered_entries, steps_of}
 use Rattle.access_regs.specs.Kept.{Kept}
 use Rattle.access_regs.specs.Plan.{settle}
 use Rattle.access_regs.specs.declared.planner.Planner.{Planner}
@@ -33,20 +33,20 @@ pub record IsSending (p : Planner) (calls : List Ask) (confirmed count : ℕ) (f
   pub fresh : IsFresh (target_of m0.probe)
   pub askable : AreAskable calls
   pub made : List Entry
-  pub on : IsUnderWay (issued p (target_of m0.probe) calls) made flying rest accesses m0 m
+  pub on : IsUnderWay (issued_entries p (target_of m0.probe) calls) made flying rest accesses m0 m
   pub confirmed_is : length made ≡ confirmed
   pub length_is : length came ≡ count
   pub results_are : (n : Option ℕ) → AtLeast count n → take count (results (world_from m0 n) calls) ≡ came
-  pub lines : (k : ℕ) → confirmed ≤ k → (cut : IsCutAt (issued p (target_of m0.probe) calls) k (target_of m0.probe)) → count ≤ lines_before cut.entry
+  pub lines : (k : ℕ) → confirmed ≤ k → (cut : IsCutAt (issued_entries p (target_of m0.probe) calls) k (target_of m0.probe)) → count ≤ lines_before cut.entry
 
 -- what a call issues after those of an access
 abbrev pub entries_of_call : Planner → BenchState → AccessView → Kept → Ask → List Entry
 entries_of_call p m0 a kept ask =
-    numbered (length a.asks.calls) (is_forgiving ask) (issue_of p (target_by p (target_of m0.probe) a.asks.calls) kept ask).steps
+    numbered_entries (length a.asks.calls) (is_forgiving ask) (issue_of p (target_by p (target_of m0.probe) a.asks.calls) kept ask).steps
 
 -- what a `finish` issues after the calls of an access
 abbrev pub entries_of_finish : AccessView → Kept → List Entry
-entries_of_finish a kept = numbered (length a.asks.calls) false (steps_of Settles (settle kept))
+entries_of_finish a kept = numbered_entries (length a.asks.calls) false (steps_of Settles (settle kept))
 
 -- Between two calls nothing is left to be pushed.
 abbrev pub FlyingSends : Type 0

@@ -16,7 +16,7 @@ use Rattle.target_calls.specs.declared.calls.Ask.{Ask}
 use Rattle.access_regs.specs.Entries.{kept_by, target_by}
 use Rattle.access_regs.specs.Journal.{gives, making}
 use Rattle.access_regs.specs.Kept.{Kept}
-use Rattle.access_regs.specs.Plan.{cfg_plan, needs_cfg, settle, settled}
+use Rattle.access_regs.specs.Plan.{cfg_plan, needs_cfg, settle, kept_after_settling}
 use Rattle.access_regs.specs.declared.planner.Planner.{Planner}
 use Rattle.access_calls.specs.Reported.{AccessView, world_from}
 use Rattle.flight_laws.specs.Flying.{IsFlying}
@@ -34,7 +34,7 @@ abbrev pub SmallByCfg : Type 0
 SmallByCfg = (p : Planner) (t : TargetState) (asks : List Ask) (n : Option ℕ) (size : ℕ) (read : Bool) (ap address value : ℕ) (forgive : Bool) → IsFresh t →
     AreAskable asks →
     stop (start_world t n) asks ≡ None → ap < 256 →
-    let k : Kept = settled (kept_by p t asks) in
+    let k : Kept = kept_after_settling (kept_by p t asks) in
     let u : TargetState = after (target_by p t asks) (making (settle (kept_by p t asks))) in
     needs_cfg k (unit.Memory size read ap address value) ≡ true → is_fault (in_order u (making (cfg_plan k ap))).outcome ≡ false →
     small_now (start_world t n) asks (unit_ask (unit.Memory size read ap address value) forgive) ≡ not (has_bit (gives u (cfg_plan k ap)) cfg_la)
@@ -44,7 +44,7 @@ abbrev pub SmallAlone : Type 0
 SmallAlone = (p : Planner) (t : TargetState) (asks : List Ask) (n : Option ℕ) (size : ℕ) (read : Bool) (ap address value : ℕ) (forgive : Bool) → IsFresh t →
     AreAskable asks →
     stop (start_world t n) asks ≡ None → ap < 256 →
-    let k : Kept = settled (kept_by p t asks) in
+    let k : Kept = kept_after_settling (kept_by p t asks) in
     let u : TargetState = after (target_by p t asks) (making (settle (kept_by p t asks))) in
     needs_cfg k (unit.Memory size read ap address value) ≡ true → is_fault (in_order u (cfg_actions ap)).outcome ≡ false →
     small_now (start_world t n) asks (unit_ask (unit.Memory size read ap address value) forgive) ≡ not (has_large u ap)

@@ -17,19 +17,19 @@ use Rattle.sequence_rules.proofs.LateLemmas.{grows_on}
 use Rattle.sequence_rules.proofs.Limits.{limit_cuts}
 use Rattle.sequence_rules.proofs.Made.{are_made}
 use Rattle.sequels.specs.Limits as limits
-use Rattle.sequels.specs.Limits.{CutShort, GoesOnFrom, SameWithin, limited}
+use Rattle.sequels.specs.Limits.{CutShort, GoesOnFrom, SameWithin, limited_world}
 use Rattle.sequels.specs.Sequel.{Comes, Sequel, comes}
 use Rattle.sequels.proofs.LimitLemmas.{from_on, limit_comes}
-use Rattle.followed_runs.specs.Followed.{followed, followed_at, joined_outcome, stopped_by}
+use Rattle.followed_runs.specs.Followed.{followed_outcome, followed_at, joined_outcome, stopped_by}
 use Rattle.followed_runs.specs.Laws.{OutcomeIsCutShort, OutcomeIsLimited}
 
 -- ---- as many calls as are answered
 
-same_skips : (w : World) (m : ℕ) (calls : List Ask) → w.answered ≡ None → length calls ≤ m → skips (limited w m) calls ≡ skips w calls
+same_skips : (w : World) (m : ℕ) (calls : List Ask) → w.answered ≡ None → length calls ≤ m → skips (limited_world w m) calls ≡ skips w calls
 same_skips w m [] free few = refl
 same_skips w zero (a ∷ calls) free few = absurd (omega (arith, few))
 same_skips w (suc m) (a ∷ calls) free few =
-    subst (λ (o : Option ℕ). cond f 0 (n + skips (limited (next_world w a) m) calls) ≡ cond (is_over o || f) 0 (n + skips (next_world w a) calls)) (sym free)
+    subst (λ (o : Option ℕ). cond f 0 (n + skips (limited_world (next_world w a) m) calls) ≡ cond (is_over o || f) 0 (n + skips (next_world w a) calls)) (sym free)
     (ap (λ (k : ℕ). cond f 0 (n + k)) (same_skips (next_world w a) m calls (ap one_fewer free) (omega (arith, few))))
   where
     f : Bool
@@ -38,7 +38,7 @@ same_skips w (suc m) (a ∷ calls) free few =
     n : ℕ
     n = one_if_skipped (done_now w a).end
 
-same_target : (w : World) (m : ℕ) (calls : List Ask) → w.answered ≡ None → length calls ≤ m → (world_after (limited w m) calls).target ≡ (world_after w calls).target
+same_target : (w : World) (m : ℕ) (calls : List Ask) → w.answered ≡ None → length calls ≤ m → (world_after (limited_world w m) calls).target ≡ (world_after w calls).target
 same_target w m [] free few = refl
 same_target w zero (a ∷ calls) free few = absurd (omega (arith, few))
 same_target w (suc m) (a ∷ calls) free few =
@@ -48,8 +48,8 @@ same_target w (suc m) (a ∷ calls) free few =
     f : Bool
     f = is_faulted (done_now w a).end
 
-    one : (b : Bool) → (world_after (limited (next_world w a) m) calls).target ≡ (world_after (next_world w a) calls).target
-        → (cond b (limited (next_world w a) m) (world_after (limited (next_world w a) m) calls)).target ≡ (cond b (next_world w a) (world_after (next_world w a) calls)).target
+    one : (b : Bool) → (world_after (limited_world (next_world w a) m) calls).target ≡ (world_after (next_world w a) calls).target
+        → (cond b (limited_world (next_world w a) m) (world_after (limited_world (next_world w a) m) calls)).target ≡ (cond b (next_world w a) (world_after (next_world w a) calls)).target
     one true h = refl
     one false h = h
 
@@ -63,7 +63,7 @@ grows_by : (old : Option (List ℕ)) (part : List ℕ) → Grows old (option_map
 grows_by old part = record { part = part; same = refl }
 
 -- a run that is cut short is so with what follows it
-cut_followed : {C : Type 0} (s : Sequel C) (m : ℕ) (w wm : World) (whole short : Outcome) → laws.IsCutShort m whole short → OutcomeIsCutShort m (followed (Some s) w whole) (followed (Some s) wm short)
+cut_followed : {C : Type 0} (s : Sequel C) (m : ℕ) (w wm : World) (whole short : Outcome) → laws.IsCutShort m whole short → OutcomeIsCutShort m (followed_outcome (Some s) w whole) (followed_outcome (Some s) wm short)
 cut_followed {C = C} s m w wm whole short h = subst (λ (e : Ending). OutcomeIsCutShort m (followed_at w s whole whole.ending) (followed_at wm s short e)) (sym h.ending) (by_whole whole.ending)
   where
     from : GoesOnFrom short.calls whole.calls
@@ -106,7 +106,7 @@ module _ {C : Type 0} (s : Sequel C) (m : ℕ) (t : TargetState) (o : Outcome) (
   free : u.answered ≡ None
   free = ap (λ (x : World). x.answered) (whole_after w o.calls none)
 
-  there : world_after wm o.calls ≡ limited u k
+  there : world_after wm o.calls ≡ limited_world u k
   there = whole_after wm o.calls (unlimited_whole wm o.calls none few)
 
   count : (c : Comes C) → length (front ++ c.calls) ≡ length o.calls + length c.calls
@@ -149,10 +149,10 @@ module _ {C : Type 0} (s : Sequel C) (m : ℕ) (t : TargetState) (o : Outcome) (
   })
 
   pub done_followed : OutcomeIsLimited m (joined_outcome w o (comes u s)) (joined_outcome wm o (comes (world_after wm o.calls) s))
-  done_followed = subst (λ (x : World). OutcomeIsLimited m (joined_outcome w o (comes u s)) (joined_outcome wm o (comes x s))) (sym there) (by_limit (comes u s) (comes (limited u k) s) (limit_comes u k s free))
+  done_followed = subst (λ (x : World). OutcomeIsLimited m (joined_outcome w o (comes u s)) (joined_outcome wm o (comes x s))) (sym there) (by_limit (comes u s) (comes (limited_world u k) s) (limit_comes u k s free))
 
 pub limits_followed : {C : Type 0} (s : Option (Sequel C)) (m : ℕ) (p : Program) (t : TargetState) (written : Option (List ℕ))
-    → OutcomeIsLimited m (followed s (start_world t None) (outcome p t written)) (followed s (start_world t (Some m)) (outcome_within m p t written))
+    → OutcomeIsLimited m (followed_outcome s (start_world t None) (outcome p t written)) (followed_outcome s (start_world t (Some m)) (outcome_within m p t written))
 limits_followed None m p t written = by_run (limit_cuts m p t written)
   where
     by_run : laws.IsWhole m (outcome p t written) (outcome_within m p t written) ⊎ laws.IsCutShort m (outcome p t written) (outcome_within m p t written) → OutcomeIsLimited m (outcome p t written) (outcome_within m p t written)
@@ -161,8 +161,8 @@ limits_followed None m p t written = by_run (limit_cuts m p t written)
 limits_followed (Some s) m p t written = by_run (limit_cuts m p t written)
   where
     by_run : laws.IsWhole m (outcome p t written) (outcome_within m p t written) ⊎ laws.IsCutShort m (outcome p t written) (outcome_within m p t written)
-        → OutcomeIsLimited m (followed (Some s) (start_world t None) (outcome p t written)) (followed (Some s) (start_world t (Some m)) (outcome_within m p t written))
-    by_run (inl h) = subst (λ (x : Outcome). OutcomeIsLimited m (followed (Some s) (start_world t None) o) (followed (Some s) wm x)) (sym h.same) (by_end o.ending refl)
+        → OutcomeIsLimited m (followed_outcome (Some s) (start_world t None) (outcome p t written)) (followed_outcome (Some s) (start_world t (Some m)) (outcome_within m p t written))
+    by_run (inl h) = subst (λ (x : Outcome). OutcomeIsLimited m (followed_outcome (Some s) (start_world t None) o) (followed_outcome (Some s) wm x)) (sym h.same) (by_end o.ending refl)
       where
         w : World
         w = start_world t None

@@ -16,7 +16,7 @@ use Rattle.sequence_rules.specs.Runs.{Ending, Outcome, meaning, outcome_of}
 use Rattle.sequence_rules.proofs.Made.{are_made}
 use Rattle.sequels.specs.Sequel.{Comes, Sequel, comes}
 use Rattle.sequels.proofs.SequelLemmas.{stops_by_end}
-use Rattle.followed_runs.specs.Followed.{faulted_last, followed, followed_at, joined_outcome, stopped_by}
+use Rattle.followed_runs.specs.Followed.{faulted_last, followed_outcome, followed_at, joined_outcome, stopped_by}
 use Rattle.followed_runs.specs.Laws.{FollowedRunsAreMade}
 
 -- some calls, by those before the last one
@@ -118,7 +118,7 @@ module _ {C : Type 0} (w : World) (s : Sequel C) (o : Outcome) (none : stop w o.
   pub joined_made : IsMadeIn w (joined_outcome w o (comes (world_after w o.calls) s))
   joined_made = record { target = refl; skipped = refl; ending = ending_at (comes (world_after w o.calls) s) (stops_by_end (world_after w o.calls) s).so }
 
-made_with : {C : Type 0} (s : Option (Sequel C)) (w : World) (o : Outcome) → IsMadeIn w o → IsMadeIn w (followed s w o)
+made_with : {C : Type 0} (s : Option (Sequel C)) (w : World) (o : Outcome) → IsMadeIn w o → IsMadeIn w (followed_outcome s w o)
 made_with None w o h = h
 made_with {C = C} (Some s) w o h = by_ending o.ending refl
   where

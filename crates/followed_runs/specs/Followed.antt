@@ -47,13 +47,13 @@ followed_at w s o runs.Done = joined_outcome w o (comes (world_after w o.calls) 
 followed_at w s o other = o
 
 -- The outcome of a run, with what follows it.
-abbrev pub followed : {C : Type 0} → Option (Sequel C) → World → Outcome → Outcome
-followed None w o = o
-followed (Some s) w o = followed_at w s o o.ending
+abbrev pub followed_outcome : {C : Type 0} → Option (Sequel C) → World → Outcome → Outcome
+followed_outcome None w o = o
+followed_outcome (Some s) w o = followed_at w s o o.ending
 
 -- What a task comes to in a world, after what was written before.
 abbrev pub outcome_in_world : World → Task → Option (List ℕ) → Outcome
-outcome_in_world w k written = followed k.sequel w (outcome_of (meaning w k.program written))
+outcome_in_world w k written = followed_outcome k.sequel w (outcome_of (meaning w k.program written))
 
 -- What a task comes to on a target, where all units are answered.
 abbrev pub task_outcome : Task → TargetState → Option (List ℕ) → Outcome

@@ -23,7 +23,7 @@ use Rattle.access_calls.specs.declared.stop.Report.{Report}
 use Rattle.access_calls.specs.declared.stop.Stop.{Stop}
 use Rattle.access_calls.specs.declared.stop.Stop.TheVariants.{Cut, BenchFault, ReplyBad, OutOfMemory}
 use Rattle.access_calls.proofs.KeepLemmas.{goes_same, goes_trans, all_asked}
-use Rattle.sequence_rules.specs.Calls.{Port, use_now, missing, given, global, port_with, port_from, ask, answered, command, numbered, zero_of, if_read, low_and_high, second_half, memory_unit, memory_at, ap_at, dp_at, abort_at}
+use Rattle.sequence_rules.specs.Calls.{Port, use_now, missing, value_or_missing, global, port_with, port_from, ask, counted_answer, command, counted_number, zero_of, if_read, low_and_high, second_half, memory_unit, memory_at, ap_at, dp_at, abort_at}
 use Rattle.sequence_rules.specs.Machine as machine
 use Rattle.sequence_rules.specs.Machine.{Over, State, Out, with_rest, unit_more, end_state}
 use Rattle.sequence_rules.specs.Late.{Late, late_of, asks_with, used_late, late, Later}
@@ -135,21 +135,21 @@ ends_use cost w slot s b st e by is calls stops =
 
 pub ask_slot : (cost : Costs) (w : World) (u : AccessUnit) (forgive : Bool) (s : S) (b : Asks) (slot : Slot) → nat_lt s.units 1000000 ≡ true → small_now w s.rest.asks.calls (unit_ask u forgive) ≡ false
     → slot.index ≡ length s.rest.asks.calls → b ≡ asks_with cost w (unit_ask u forgive) s.rest.asks → ask (late cost w) u forgive s ≡ Ok (Pending slot, unit_more s (late_of b s.rest.written))
-unfolding ask answered late
+unfolding ask counted_answer late
 ask_slot cost w u forgive s b slot some large index is =
     let place : slot ≡ record { index = length s.rest.asks.calls } = ap (λ i. record { index = i }) index in
     rw some (rw large (rw is (rw place refl)))
 
 pub ask_small : (cost : Costs) (w : World) (u : AccessUnit) (forgive : Bool) (s : S) (b : Asks) → nat_lt s.units 1000000 ≡ true → small_now w s.rest.asks.calls (unit_ask u forgive) ≡ true
     → b ≡ asks_with cost w (unit_ask u forgive) s.rest.asks → ask (late cost w) u forgive s ≡ Err (machine.Halted AddressTooLarge, unit_more s (late_of b s.rest.written))
-unfolding ask answered late
+unfolding ask counted_answer late
 ask_small cost w u forgive s b some small is = rw some (rw small (rw is refl))
 
 ask_rest : (cost : Costs) (w : World) (u : AccessUnit) (forgive : Bool) (s : S) → nat_lt s.units 1000000 ≡ true → (end_state (ask (late cost w) u forgive s)).rest ≡ late_of (asks_with cost w (unit_ask u forgive) s.rest.asks) s.rest.written
-unfolding ask answered late
+unfolding ask counted_answer late
 ask_rest cost w u forgive s some = rw some (either (small_now w s.rest.asks.calls (unit_ask u forgive)))
   where
-    either : (c : Bool) → (end_state (answered (late cost w) (cond c (Err (machine.Halted AddressTooLarge, late_of (asks_with cost w (unit_ask u forgive) s.rest.asks) s.rest.written)) (Ok (Pending (record { index = length s.rest.asks.calls }), late_of (asks_with cost w (unit_ask u forgive) s.rest.asks) s.rest.written))) s)).rest
+    either : (c : Bool) → (end_state (counted_answer (late cost w) (cond c (Err (machine.Halted AddressTooLarge, late_of (asks_with cost w (unit_ask u forgive) s.rest.asks) s.rest.written)) (Ok (Pending (record { index = length s.rest.asks.calls }), late_of (asks_with cost w (unit_ask u forgive) s.rest.asks) s.rest.written))) s)).rest
         ≡ late_of (asks_with cost w (unit_ask u forgive) s.rest.asks) s.rest.written
     either true = refl
     either false = refl
@@ -188,11 +188,11 @@ ends_ask cost w u forgive s a b st e by is same some none calls stops =
 
 pub command_on : (cost : Costs) (w : World) (c : ProbeCall) (s : S) (b : Asks) (n : ℕ) → nat_lt s.units 1000000 ≡ true → n ≡ slice_index (results w (s.rest.asks.calls ++ probe_ask c ∷ [])) (length s.rest.asks.calls)
     → b ≡ asks_with cost w (probe_ask c) s.rest.asks → command (late cost w) c s ≡ Ok (Number n, unit_more s (late_of b s.rest.written))
-unfolding command numbered late
+unfolding command counted_number late
 command_on cost w c s b n some value is = rw some (rw is (rw value refl))
 
 command_rest : (cost : Costs) (w : World) (c : ProbeCall) (s : S) → nat_lt s.units 1000000 ≡ true → (end_state (command (late cost w) c s)).rest ≡ late_of (asks_with cost w (probe_ask c) s.rest.asks) s.rest.written
-unfolding command numbered late
+unfolding command counted_number late
 command_rest cost w c s some = rw some refl
 
 pub ends_command : (cost : Costs) (w : World) (c : ProbeCall) (s : S) (a b : AccessView) (st : Stop) (e : End) → e ≡ end_at_stop st → IsEnd b.end st → s.rest.asks ≡ a.asks → nat_lt s.units 1000000 ≡ true → a.end ≡ None
@@ -302,10 +302,10 @@ pub ruleset goes_on = (ends_on, later_bind, later_cond, later_ok, later_halt, la
 
 -- the number of a variable that is used
 global_is : (cost : Costs) (w : World) (name : List ℕ) (s : S) → global (late cost w) name s ≡ use_now (late cost w) (unwrap_or (value_named s.globals name) (Number 0)) s
-unfolding global given missing late
+unfolding global value_or_missing missing late
 global_is cost w name s = one (value_named s.globals name)
   where
-    one : (o : Option Value) → (given (late cost w) ((late cost w).number 0) o s >>= λ v. use_now (late cost w) v.0 v.1) ≡ use_now (late cost w) (unwrap_or o (Number 0)) s
+    one : (o : Option Value) → (value_or_missing (late cost w) ((late cost w).number 0) o s >>= λ v. use_now (late cost w) v.0 v.1) ≡ use_now (late cost w) (unwrap_or o (Number 0)) s
     one None = refl
     one (Some v) = refl
 

@@ -3,7 +3,7 @@ use Rattle.std.proofs.Common.{◌≡◌, ℕ, true, List, [], ◌++◌, take, dr
 use Rattle.std.proofs.lemmas.List.{append_assoc, append-nil, take-append-drop}
 use Rattle.target_calls.specs.declared.calls.Value.{Value}
 use Rattle.target_calls.specs.declared.calls.Value.TheVariants.{Number}
-use Rattle.target_calls.specs.NeedPoints.{Asks, Costs, needed}
+use Rattle.target_calls.specs.NeedPoints.{Asks, Costs, asks_at_need}
 use Rattle.target_calls.specs.World.{World, stop}
 use Rattle.access_calls.specs.Reported.{AccessView}
 use Rattle.sequence_rules.specs.Calls.{line_result}
@@ -31,15 +31,15 @@ whole_line w s line whole = ap (λ o. option_map (line_unless o line) s.written)
     same (Some xs) = refl
 
 -- the line is written
-pub line_on : (cost : Costs) (w : World) (line : List ℕ) (n : ℕ) (s : S) (b : Asks) (written : Option (List ℕ)) → nat_lt s.lines 100000 ≡ true → stop w s.rest.asks.calls ≡ None → b ≡ needed s.rest.asks
+pub line_on : (cost : Costs) (w : World) (line : List ℕ) (n : ℕ) (s : S) (b : Asks) (written : Option (List ℕ)) → nat_lt s.lines 100000 ≡ true → stop w s.rest.asks.calls ≡ None → b ≡ asks_at_need s.rest.asks
     → written ≡ option_map (line_after line) s.rest.written → line_result (late cost w) line n s ≡ Ok (Number n, line_more s (late_of b written))
 unfolding line_result late
 line_on cost w line n s b written some whole is grown = rw some (rw (whole_line w s.rest line whole) (rw (is, grown) refl))
 
 line_rest : (cost : Costs) (w : World) (line : List ℕ) (n : ℕ) (s : S) → nat_lt s.lines 100000 ≡ true → stop w s.rest.asks.calls ≡ None
-    → (end_state (line_result (late cost w) line n s)).rest ≡ late_of (needed s.rest.asks) (option_map (line_after line) s.rest.written)
+    → (end_state (line_result (late cost w) line n s)).rest ≡ late_of (asks_at_need s.rest.asks) (option_map (line_after line) s.rest.written)
 unfolding line_result late
-line_rest cost w line n s some whole = rw some (ap (λ x. late_of (needed s.rest.asks) x) (whole_line w s.rest line whole))
+line_rest cost w line n s some whole = rw some (ap (λ x. late_of (asks_at_need s.rest.asks) x) (whole_line w s.rest line whole))
 
 part_of : (k : ℕ) (line : List ℕ) (o : Option (List ℕ)) → option_map (line_after line) o ≡ option_map (line_after (drop k line)) (option_map (line_after (take k line)) o)
 part_of k line None = refl

@@ -5,7 +5,7 @@ use Rattle.std.proofs.lemmas.List.{append_assoc, append-nil, drop_more}
 use Rattle.dap_base.specs.Outcome.{◌>>=◌}
 use Rattle.target_calls.specs.declared.calls.Value.{Value}
 use Rattle.target_calls.specs.declared.calls.Value.TheVariants.{Number}
-use Rattle.target_calls.specs.NeedPoints.{Asks, Costs, needed}
+use Rattle.target_calls.specs.NeedPoints.{Asks, Costs, asks_at_need}
 use Rattle.target_calls.specs.World.{World}
 use Rattle.access_calls.specs.Reported.{AccessView}
 use Rattle.sequence_rules.specs.Calls.{use_now, low_and_high}
@@ -74,7 +74,7 @@ module _ (cost : Costs) (w : World) where
 pub joined_is : (low high p n : ℕ) → p ≡ (high * 2 ^ 32) % 2 ^ 64 → n ≡ (low + p) % 2 ^ 64 → n ≡ (low + high * 2 ^ 32) % 2 ^ 64
 joined_is low high p n product sum = sum ∙ ap (λ x. (low + x) % 2 ^ 64) product ∙ add-mod-mod low (high * 2 ^ 32) (2 ^ 64)
 
-module _ (cost : Costs) (w : World) (low high : Value) (s : S) (b : Asks) (is : b ≡ needed s.rest.asks) where
+module _ (cost : Costs) (w : World) (low high : Value) (s : S) (b : Asks) (is : b ≡ asks_at_need s.rest.asks) where
   confirmed_as : with_rest s ((late cost w).confirmed s.rest) ≡ with_rest s (late_of b s.rest.written)
   unfolding late
   confirmed_as = ap (λ a. with_rest s (late_of a s.rest.written)) (sym is)

@@ -3,8 +3,8 @@ use Rattle.std.proofs.Common.{◌≡◌, ◌∙◌, ℕ, List, [], ◌++◌, cod
 use Rattle.std.proofs.lemmas.List.{append_assoc, append-nil}
 use Rattle.std.proofs.KnownBytes.{Appends-trans, Appends-nil}
 use Rattle.std.specs.Io.KnownBytes.{Appends}
-use Rattle.text_lines.specs.Shown.{shown}
-use Rattle.sequence_rules.specs.Lines.{formatted, message_line, query_line, value_line, load_line}
+use Rattle.text_lines.specs.Shown.{shown_text}
+use Rattle.sequence_rules.specs.Lines.{formatted_text, message_line, query_line, value_line, load_line}
 use Rattle.function_calls.specs.declared.end.End.{End}
 use Rattle.function_calls.specs.declared.end.End.TheVariants as end
 use Rattle.function_calls.specs.Lines.{AppendsLines, AreWholeLines, WritesLines, empty, ended}
@@ -38,21 +38,21 @@ whole_bytes {E = E} bytes l line is_bytes is whole = subst (λ (x : List ℕ). A
 pub message_whole : {E : Type 0} (r : Result (List ℕ) E) (kind : ℕ) (format numbers : List ℕ) → IfOk r (λ l. l ≡ message_line kind format numbers) → IfOk r AreWholeLines
 unfolding message_line
 message_whole (Err e) kind format numbers h = tt
-message_whole (Ok l) kind format numbers h = ended (codes "message " ++ decimal kind ++ codes " " ++ shown (formatted (length format) format numbers)) h
+message_whole (Ok l) kind format numbers h = ended (codes "message " ++ decimal kind ++ codes " " ++ shown_text (formatted_text (length format) format numbers)) h
 
 pub query_whole : {E : Type 0} (r : Result (List ℕ) E) (kind : ℕ) (text : List ℕ) (default : ℕ) → IfOk r (λ l. l ≡ query_line kind text default) → IfOk r AreWholeLines
 unfolding query_line
 query_whole (Err e) kind text default h = tt
-query_whole (Ok l) kind text default h = ended (codes "query " ++ decimal kind ++ codes " " ++ shown text ++ codes " = " ++ decimal default) h
+query_whole (Ok l) kind text default h = ended (codes "query " ++ decimal kind ++ codes " " ++ shown_text text ++ codes " = " ++ decimal default) h
 
 pub value_whole : {E : Type 0} (r : Result (List ℕ) E) (text : List ℕ) (default : ℕ) → IfOk r (λ l. l ≡ value_line text default) → IfOk r AreWholeLines
 unfolding value_line
 value_whole (Err e) text default h = tt
-value_whole (Ok l) text default h = ended (codes "value " ++ shown text ++ codes " = " ++ decimal default) h
+value_whole (Ok l) text default h = ended (codes "value " ++ shown_text text ++ codes " = " ++ decimal default) h
 
 pub load_whole : {E : Type 0} (r : Result (List ℕ) E) (text : List ℕ) → IfOk r (λ l. l ≡ load_line text) → IfOk r AreWholeLines
 unfolding load_line
 load_whole (Err e) text h = tt
-load_whole (Ok l) text h = ended (codes "load " ++ shown text) h
+load_whole (Ok l) text h = ended (codes "load " ++ shown_text text) h
 
 pub ruleset kept_whole = (lines_none, lines_kept)

@@ -13,7 +13,7 @@ use target_machine::{HaltCause, ProbeCall, Unit};
 
 /// Asks for an access as a unit, which may forgive a fault: the place of its result. Halts with `AccessLimit` where it would be
 /// unit number 1,000,001, and with `AddressTooLarge` where the address is too large for its access port.
-#[tactic(auto, unfolding(sequence_rules::specs::Calls::ask, sequence_rules::specs::Calls::answered, sequence_rules::specs::Late::late), using(crate::proofs::Leaves::leaves))]
+#[tactic(auto, unfolding(sequence_rules::specs::Calls::ask, sequence_rules::specs::Calls::counted_answer, sequence_rules::specs::Late::late), using(crate::proofs::Leaves::leaves))]
 pub fn ask<A: Access>(
     unit: Unit,
     forgive: bool,
@@ -58,7 +58,7 @@ pub(crate) fn ask_for_result<A: Access>(
 }
 
 // A command of the probe as a unit, made at once, unless it would be number 1,000,001.
-#[tactic(auto, unfolding(sequence_rules::specs::Calls::command, sequence_rules::specs::Calls::numbered, sequence_rules::specs::Late::late), using(crate::proofs::Leaves::leaves))]
+#[tactic(auto, unfolding(sequence_rules::specs::Calls::command, sequence_rules::specs::Calls::counted_number, sequence_rules::specs::Late::late), using(crate::proofs::Leaves::leaves))]
 pub(crate) fn command<A: Access>(
     call: ProbeCall,
     held: &mut Held,

@@ -9,7 +9,7 @@ ghost use Rattle.sequence_rules.specs.Locals.{locals_of};
 ghost use Rattle.sequence_rules.specs.Machine.{State, with_locals, with_variables};
 ghost use Rattle.sequence_rules.specs.Shared.{bindings_of};
 ghost use Rattle.sequence_rules.specs.Steps as m;
-ghost use Rattle.sequence_rules.specs.Variables.{bound, set_in, set_visible, visible};
+ghost use Rattle.sequence_rules.specs.Variables.{bound_variable, set_in, set_visible, visible};
 ghost use Rattle.function_calls.specs.Ends.{CountsStep};
 ghost use Rattle.function_calls.specs.Held.{late_state_of};
 
@@ -82,7 +82,7 @@ impl Held {
     ) -> Result<(), OutOfMemory>
         ensures state { (asks : Asks) (written : Option (List ℕ))
             → OnOk result
-            (late_state_of self.new asks written ≡ with_locals (late_state_of self.old asks written) (locals_of self.old.locals ++ bound name.now value ∷ [])) }
+            (late_state_of self.new asks written ≡ with_locals (late_state_of self.old asks written) (locals_of self.old.locals ++ bound_variable name.now value ∷ [])) }
         ensures same { (asks : Asks) (written : Option (List ℕ)) → OnErr result (late_state_of self.new asks written ≡ late_state_of self.old asks written) }
         ensures units { self.new.units ≡ self.old.units }
     {
@@ -164,10 +164,10 @@ impl Held {
     }
 
     /// Counts a step. Halts with `StepLimit` where it would be number 100,000,001.
-    #[tactic(auto, unfolding(sequence_rules::specs::Steps::counted))]
+    #[tactic(auto, unfolding(sequence_rules::specs::Steps::counted_step))]
     pub fn count_step(&mut self) -> Result<(), HaltCause>
         ensures gives { (cost : Costs) (w : World) (asks : Asks) (written : Option (List ℕ))
-            → CountsStep result (late_state_of self.new asks written) (m.counted (late cost w) (late_state_of self.old asks written)) }
+            → CountsStep result (late_state_of self.new asks written) (m.counted_step (late cost w) (late_state_of self.old asks written)) }
         ensures units { self.new.units ≡ self.old.units }
     {
         if self.steps >= MOST_STEPS {

@@ -1,7 +1,7 @@
 //! Values, where they are used.
 ghost use Rattle.std.specs.Prelude.{◌≡◌, ℕ, Option, None, OnOk, IfErr};
 ghost use Rattle.probe_core.specs.Bench.{BenchState};
-ghost use Rattle.target_calls.specs.NeedPoints.{needed};
+ghost use Rattle.target_calls.specs.NeedPoints.{asks_at_need};
 ghost use Rattle.target_calls.specs.World.{stop};
 ghost use Rattle.access_calls.specs.Left.{IsLeft};
 ghost use Rattle.access_calls.specs.Reported.{world_from};
@@ -68,7 +68,7 @@ pub fn use_values<A: Access>(
 #[tactic(auto, using(crate::proofs::Leaves::leaves))]
 pub(crate) fn confirm<A: Access>(access: &mut A) -> Result<(), End>
     requires open { (A.reported access.old).end ≡ None }
-    ensures asks { OnOk result ((A.reported access.new).asks ≡ needed (A.reported access.old).asks) }
+    ensures asks { OnOk result ((A.reported access.new).asks ≡ asks_at_need (A.reported access.old).asks) }
     ensures whole { (m : BenchState) (answered : Option ℕ) → A.begun access.old m → IsLeft (A.reported access.new) answered
         → OnOk result (stop (world_from m answered) (A.reported access.old).asks.calls ≡ None) }
     ensures stops { (m : BenchState) (answered : Option ℕ) → A.begun access.old m → IsLeft (A.reported access.new) answered

@@ -2,6 +2,6 @@
 use Rattle.std.specs.Prelude.{ℕ, List, [], ◌∷◌, codes}
 
 -- the names of the predefined variables, in their order
-abbrev pub predefined : List (List ℕ)
-predefined =
+abbrev pub names_of_predefined : List (List ℕ)
+names_of_predefined =
     codes "__protocol" ∷ codes "__connection" ∷ codes "__dp" ∷ codes "__ap" ∷ codes "__traceout" ∷ codes "__errorcontrol" ∷ codes "__Result" ∷ []

@@ -1,7 +1,7 @@
 -- The image of a text has at most 262,144 bytes.
 use Rattle.std.proofs.Common.{◌≡◌, ℕ, ◌+◌, ◌*◌, ◌%◌, ◌≤◌, ◌==◌, nat_le, Bool, true, false, cond, List, [], ◌∷◌, length, sum, Option, None, Some, Result, Ok, Err, refl, subst, arith, IfOk}
 use Rattle.std.proofs.lemmas.Bool.{leb-true}
-use Rattle.hex_image.specs.Image.{Bytes, FaultAt, Reading, at_start, by_type, image, line_then, placed, read_on, where_length, with_base, with_data, with_end, with_image, with_line, with_record}
+use Rattle.hex_image.specs.Image.{Bytes, FaultAt, Reading, at_start, by_type, image, line_then, image_with_bytes, read_on, where_length, with_base, with_data, with_end, with_image, with_line, with_record}
 use Rattle.hex_image.specs.Records.{Line, address_of, content_of, count_of, data_of, lines_of, record_of, type_of, front_word}
 use Rattle.hex_image.specs.declared.fault.ImageKind.{ImageKind}
 use Rattle.hex_image.specs.declared.fault.ImageKind.TheVariants as kind
@@ -22,7 +22,7 @@ image_few_of r new = by_length (nat_le (length new) 262144) refl
 
 type_few : (r : Reading) (bytes : List ℕ) (t : ℕ) → HasFew r → IfOk (by_type r bytes t) HasFew
 type_few r bytes t h =
-    by_either (t == 0) _ _ (by_either (nat_le (address_of bytes + count_of bytes) 65536) _ (Err kind.BadLength) (image_few_of r (placed (r.base + address_of bytes) (data_of bytes) r.image)) tt)
+    by_either (t == 0) _ _ (by_either (nat_le (address_of bytes + count_of bytes) 65536) _ (Err kind.BadLength) (image_few_of r (image_with_bytes (r.base + address_of bytes) (data_of bytes) r.image)) tt)
     (by_either (t == 1) _ _ (by_either (count_of bytes == 0) (with_end r) (Err kind.BadLength) h tt)
     (by_either (t == 2) _ _ (by_either (count_of bytes == 2) (with_base r (front_word bytes * 16)) (Err kind.BadLength) h tt)
     (by_either (t == 3) _ _ (by_either (count_of bytes == 4) (Ok r) (Err kind.BadLength) h tt)

@@ -5,7 +5,7 @@ use Rattle.std.proofs.Common.{eq-eqb, ne_eqb}
 use Rattle.hex.specs.Hex.{decode_of, decode_sized, decode_pairs}
 use Rattle.hex.specs.declared.error.FromHexError.{FromHexError}
 use Rattle.hex.proofs.HexLemmas.{decode_of-ok}
-use Rattle.hex_image.specs.Records.{decoded, of_its_length, without_return}
+use Rattle.hex_image.specs.Records.{decoded_record, of_its_length, without_return}
 
 -- a carriage return at the end is left out
 pub returned : (xs : List ℕ) (k : ℕ) → length xs ≡ suc k → without_return xs ≡ cond (slice_index xs k == 13) (take k xs) xs
@@ -51,10 +51,10 @@ of_no_length bytes differs = one (length bytes == slice_index bytes 0 + 5) refl
     one false e = refl
 
 -- too few or too many digits
-pub none_long : (s : List ℕ) → (length s < 10) ⊎ (520 < length s) → decoded (decode_of s) ≡ None
+pub none_long : (s : List ℕ) → (length s < 10) ⊎ (520 < length s) → decoded_record (decode_of s) ≡ None
 none_long s h = one (decode_of s) refl
   where
-    one : (r : Result (List ℕ) FromHexError) → decode_of s ≡ r → decoded r ≡ None
+    one : (r : Result (List ℕ) FromHexError) → decode_of s ≡ r → decoded_record r ≡ None
     one (Err e) is = refl
     one (Ok bytes) is =
         let k = decode_of-ok s bytes is in

@@ -11,9 +11,9 @@ abbrev pub Bytes : Type 0
 Bytes = List (ℕ × ℕ)
 
 -- An image with bytes from an address on, each of which replaces the one that was there.
-abbrev pub placed : ℕ → List ℕ → Bytes → Bytes
-placed address [] image = image
-placed address (b ∷ bytes) image = placed (address + 1) bytes (insert_entry nat_cmp image address b)
+abbrev pub image_with_bytes : ℕ → List ℕ → Bytes → Bytes
+image_with_bytes address [] image = image
+image_with_bytes address (b ∷ bytes) image = image_with_bytes (address + 1) bytes (insert_entry nat_cmp image address b)
 
 -- What was read so far: the image, the base of addresses, and whether an end-of-file record was read.
 pub record Reading : Type 0 where
@@ -44,7 +44,7 @@ where_length n bytes result = if count_of bytes == n then result else Err kind.B
 -- Data at the base and the record's address, of which none is after address 0xFFFF of the base.
 abbrev pub with_data : Reading → List ℕ → Result Reading ImageKind
 with_data r bytes =
-    if nat_le (address_of bytes + count_of bytes) 65536 then with_image r (placed (r.base + address_of bytes) (data_of bytes) r.image)
+    if nat_le (address_of bytes + count_of bytes) 65536 then with_image r (image_with_bytes (r.base + address_of bytes) (data_of bytes) r.image)
     else Err kind.BadLength
 
 -- A record by its type: 0 data, 1 end of file, 2 extended segment address, 3 start segment address, 4 extended linear address,

@@ -37,14 +37,14 @@ abbrev pub of_its_length : List ℕ → Option (List ℕ)
 of_its_length bytes = if length bytes == slice_index bytes 0 + 5 then Some bytes else None
 
 -- The record that decoded digits are.
-abbrev pub decoded : Result (List ℕ) FromHexError → Option (List ℕ)
-decoded (Ok bytes) = of_its_length bytes
-decoded (Err e) = None
+abbrev pub decoded_record : Result (List ℕ) FromHexError → Option (List ℕ)
+decoded_record (Ok bytes) = of_its_length bytes
+decoded_record (Err e) = None
 
 -- The record that a line's content is: a colon, and two hexadecimal digits for each byte.
 abbrev pub record_of : List ℕ → Option (List ℕ)
 record_of [] = None
-record_of (c ∷ digits) = if c == 58 then decoded (decode_of digits) else None
+record_of (c ∷ digits) = if c == 58 then decoded_record (decode_of digits) else None
 
 -- The number of bytes of data.
 abbrev pub count_of : List ℕ → ℕ

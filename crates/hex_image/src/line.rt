@@ -1,12 +1,12 @@
 //! The content of a line, and the record that it is.
 ghost use Rattle.std.specs.Prelude.{◌≡◌, ◌/◌, ◌≤◌, Ok, Some, None, take, length, MatchBool, MatchOption};
 ghost use Rattle.hex.specs.Hex.{decode_of};
-ghost use Rattle.hex_image.specs.Records.{decoded, record_of, without_return};
+ghost use Rattle.hex_image.specs.Records.{decoded_record, record_of, without_return};
 
 // Decodes digits into a room of half their length; whether each of them is a hexadecimal digit, and their number even.
 fn is_decoded(digits: &[u8], room: &mut [u8]) -> bool
     requires { length room.old ≡ length digits.now / 2 }
-    ensures { MatchBool result (decode_of digits.now ≡ Ok room.new) (decoded (decode_of digits.now) ≡ None) }
+    ensures { MatchBool result (decode_of digits.now ≡ Ok room.new) (decoded_record (decode_of digits.now) ≡ None) }
 {
     hex::decode_to_slice(digits, room).is_ok()
 }
@@ -14,7 +14,7 @@ fn is_decoded(digits: &[u8], room: &mut [u8]) -> bool
 // Decodes the digits after the colon of a record into the first bytes of a room; how many bytes they are. `None` where they are no record.
 // No record has fewer than 10 digits or more than 520, so a long line is refused before it is decoded.
 fn decode_digits(digits: &[u8], room: &mut [u8; 260]) -> Option<usize>
-    ensures { MatchOption result (decoded (decode_of digits.now) ≡ None) (λ n. (n ≤ 260) × (5 ≤ n) × (decoded (decode_of digits.now) ≡ Some (take n room.new))) }
+    ensures { MatchOption result (decoded_record (decode_of digits.now) ≡ None) (λ n. (n ≤ 260) × (5 ≤ n) × (decoded_record (decode_of digits.now) ≡ Some (take n room.new))) }
 {
     if digits.len() < 10 || digits.len() > 520 {
         return None;

@@ -1,6 +1,6 @@
 //! A text of Intel HEX records, read line by line.
 ghost use Rattle.std.specs.Prelude.{◌≡◌, ◌+◌, ◌*◌, ◌^◌, ◌≤◌, true, Ok, Some, length, sum, OnOk, IfErr};
-ghost use Rattle.hex_image.specs.Image.{at_end, at_start, by_type, image, placed, where_length, with_base, with_data, with_end, with_line, with_record, with_content};
+ghost use Rattle.hex_image.specs.Image.{at_end, at_start, by_type, image, image_with_bytes, where_length, with_base, with_data, with_end, with_line, with_record, with_content};
 ghost use Rattle.hex_image.specs.Reads.{IsFault, IsImage, IsRead};
 ghost use Rattle.hex_image.specs.Records.{count_of, type_of, front_word};
 
@@ -40,7 +40,7 @@ pub(crate) enum LineFault {
 // Places bytes from an address on, each of which replaces the one that was there.
 fn place(image: &mut BTreeMap<u32, u8>, address: u32, bytes: &[u8]) -> Result<(), LineFault>
     requires { address + length bytes.now ≤ 2 ^ 32 }
-    ensures placed { OnOk result (image.new.entries ≡ placed address bytes.now image.old.entries) }
+    ensures placed { OnOk result (image.new.entries ≡ image_with_bytes address bytes.now image.old.entries) }
     ensures memory { IfErr result (λ e. e ≡ LineFault.OutOfMemory) }
 {
     for i in 0..bytes.len() {

@@ -5,10 +5,10 @@ use Rattle.std.specs.Option.{option_map}
 use Rattle.std.proofs.lemmas.Bool.{cond-true, eq-eqb}
 use Rattle.target_machine.proofs.ActionLists.{pass_append, pass_last}
 use Rattle.target_machine.proofs.Maps.{got_inserted}
-use Rattle.target_machine.specs.Attempt.{Attempt, above, acknowledges, advanced, attempt, bus_error, done, drw_address, drw_read, drw_write, lanes, memory_read, memory_write, next_tar, posted, read_through, size_of}
+use Rattle.target_machine.specs.Attempt.{Attempt, above, acknowledges, advanced_target, attempt, bus_error, done_attempt, drw_address, drw_read, drw_write, lanes, memory_read, memory_write, next_tar, posted_attempt, read_through, size_of}
 use Rattle.target_machine.specs.Lists.{PassTo}
-use Rattle.target_machine.specs.Memory.{Cell, Memory, WordWritten, merged, moved_on, read_cell, shown_value, with_values, write_cell}
-use Rattle.target_machine.specs.Plain.{Action, Answered, CallDone, Makes, ap_access_of, call_done, contains, csw_actions, csw_for, drw_of, from_lanes, given, in_order, is_fault, memory_actions, needs_cfg, select_of, to_lanes, transfer_actions}
+use Rattle.target_machine.specs.Memory.{Cell, Memory, WordWritten, merged_word, moved_on, read_cell, shown_value, with_values, write_cell}
+use Rattle.target_machine.specs.Plain.{Action, Answered, CallDone, Makes, ap_access_of, call_done, contains, csw_actions, csw_for, drw_of, from_lanes, given_number, in_order, is_fault, memory_actions, needs_cfg, select_of, to_lanes, transfer_actions}
 use Rattle.target_machine.specs.State.{TargetState}
 use Rattle.target_machine.specs.declared.ap.ApState.{ApState}
 use Rattle.target_machine.specs.declared.unit.Call.TheVariants.{Access}
@@ -57,10 +57,10 @@ module _ (ls : List ℕ) (n : ℕ) (lt : n < 256) (t : TargetState) (aims : Aims
   at_shown : Selects shown n
   at_shown = selected_is shown n lt aims.clear aims.power refl
 
-  first : attempt t (select_of n 0) ≡ done selected
+  first : attempt t (select_of n 0) ≡ done_attempt selected
   first = select_write n 0 lt (omega arith) t aims.clear
 
-  second : attempt selected (ap_access_of true 0 0) ≡ posted csw selected
+  second : attempt selected (ap_access_of true 0 0) ≡ posted_attempt csw selected
   second = read_some selected n at_selected aims.port aims.there
 
   selects : PassTo t (Makes (select_of n 0) ∷ []) selected
@@ -72,8 +72,8 @@ module _ (ls : List ℕ) (n : ℕ) (lt : n < 256) (t : TargetState) (aims : Aims
   passes : PassTo t (csw_actions n) shown
   passes = pass_append t selected shown (Makes (select_of n 0) ∷ []) (Makes (ap_access_of true 0 0) ∷ []) selects shows_csw
 
-  gave : given (in_order t (csw_actions n)).outcome ≡ csw
-  gave = ap (λ (z : Attempt). given z.outcome) (pass_last t selected (Makes (select_of n 0) ∷ []) (Makes (ap_access_of true 0 0)) selects ∙ second)
+  gave : given_number (in_order t (csw_actions n)).outcome ≡ csw
+  gave = ap (λ (z : Attempt). given_number z.outcome) (pass_last t selected (Makes (select_of n 0) ∷ []) (Makes (ap_access_of true 0 0)) selects ∙ second)
 
   -- CSW, the upper word and TAR
   aimed : Part shown n (ready (csw_for csw size) large address) (plain_writes (csw_for csw size) large address)
@@ -126,7 +126,7 @@ module _ (ls : List ℕ) (n : ℕ) (lt : n < 256) (t : TargetState) (aims : Aims
 
   -- the target after an access by DRW, except for the memory
   abbrev after : TargetState
-  after = advanced ready_target ready_port size
+  after = advanced_target ready_target ready_port size
 
   aims_after : (words : Memory) (rdbuff : ℕ) → Aims large n (record after { words = words; rdbuff = rdbuff })
   aims_after words rdbuff = record {
@@ -143,7 +143,7 @@ module _ (ls : List ℕ) (n : ℕ) (lt : n < 256) (t : TargetState) (aims : Aims
 
     -- a read by DRW
     read_done : (value : ℕ) → attempt ready_target (drw_of true address value)
-        ≡ posted (bit_and (shown_value c) mask) (record after { words = map.insert t.words (address / 4 * 4) (moved_on c) })
+        ≡ posted_attempt (bit_and (shown_value c) mask) (record after { words = map.insert t.words (address / 4 * 4) (moved_on c) })
     read_done value =
         drw_some ready_target n at_ready ready_port true (to_lanes address value) ready_there
         ∙ ap (drw_read ready_target ready_port) sized
@@ -153,7 +153,7 @@ module _ (ls : List ℕ) (n : ℕ) (lt : n < 256) (t : TargetState) (aims : Aims
 
     -- a write by DRW
     write_done : (value : ℕ) → c.read_only ≡ false → attempt ready_target (drw_of false address value)
-        ≡ done (record after { words = map.insert t.words (address / 4 * 4) (with_values c (merged (shown_value c) (to_lanes address value) mask ∷ [])) })
+        ≡ done_attempt (record after { words = map.insert t.words (address / 4 * 4) (with_values c (merged_word (shown_value c) (to_lanes address value) mask ∷ [])) })
     write_done value writable =
         drw_some ready_target n at_ready ready_port false (to_lanes address value) ready_there
         ∙ ap (drw_write ready_target ready_port (to_lanes address value)) sized
@@ -161,10 +161,10 @@ module _ (ls : List ℕ) (n : ℕ) (lt : n < 256) (t : TargetState) (aims : Aims
         ∙ ap (λ (x : ℕ). memory_write ready_target after (address / 4 * 4) (lanes size x) (to_lanes address value)) pointed
         ∙ ap (λ (o : Option Cell). by_written (write_cell t.words (address / 4 * 4) mask (to_lanes address value) o)) there
         ∙ ap (λ (b : Bool). by_written (cond b (record { done = false; next = t.words })
-        (record { done = true; next = map.insert t.words (address / 4 * 4) (with_values c (merged (shown_value c) (to_lanes address value) mask ∷ [])) }))) writable
+        (record { done = true; next = map.insert t.words (address / 4 * 4) (with_values c (merged_word (shown_value c) (to_lanes address value) mask ∷ [])) }))) writable
       where
         by_written : WordWritten → Attempt
-        by_written w = cond w.done (done (record after { words = w.next })) (bus_error ready_target)
+        by_written w = cond w.done (done_attempt (record after { words = w.next })) (bus_error ready_target)
 
     narrow : needs_cfg ls n address ≡ false
     narrow = start_narrow large address (inr low)
@@ -180,7 +180,7 @@ module _ (ls : List ℕ) (n : ℕ) (lt : n < 256) (t : TargetState) (aims : Aims
         }
 
     pub write_goes : (value : ℕ) → c.read_only ≡ false → Went ls n (call_done t ls false (Access (unit.Memory size false n address value))) 0
-        (map.insert t.words (address / 4 * 4) (with_values c (merged (shown_value c) (to_lanes address value) mask ∷ [])))
+        (map.insert t.words (address / 4 * 4) (with_values c (merged_word (shown_value c) (to_lanes address value) mask ∷ [])))
     write_goes value writable =
         let all = done_memory t ls size false n address value narrow ∙ ap (memory_done t ls size false n address value) (order false value ∙ write_done value writable) in
         record {
@@ -188,5 +188,5 @@ module _ (ls : List ℕ) (n : ℕ) (lt : n < 256) (t : TargetState) (aims : Aims
           large = ap (λ (d : CallDone). d.large) all;
           words = ap (λ (d : CallDone). d.next.words) all;
           aims = subst (λ (d : CallDone). Aims large n d.next) (sym all)
-              (aims_after (map.insert t.words (address / 4 * 4) (with_values c (merged (shown_value c) (to_lanes address value) mask ∷ []))) aimed.next.rdbuff);
+              (aims_after (map.insert t.words (address / 4 * 4) (with_values c (merged_word (shown_value c) (to_lanes address value) mask ∷ []))) aimed.next.rdbuff);
         }

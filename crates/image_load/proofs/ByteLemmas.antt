@@ -6,9 +6,9 @@ use Rattle.std.proofs.lemmas.Bool.{eqb-true}
 use Rattle.hex_image.specs.Image.{Bytes}
 use Rattle.target_machine.proofs.Maps.{got_inserted}
 use Rattle.target_machine.specs.Attempt.{lanes}
-use Rattle.target_machine.specs.Memory.{Cell, Memory, merged, moved_on, shown_value, with_values}
+use Rattle.target_machine.specs.Memory.{Cell, Memory, merged_word, moved_on, shown_value, with_values}
 use Rattle.target_machine.specs.Plain.{from_lanes, to_lanes}
-use Rattle.image_load.specs.Laid.{HasRisingAddresses, MayLoad, laid, with_byte}
+use Rattle.image_load.specs.Laid.{HasRisingAddresses, MayLoad, laid_memory, with_byte}
 use Rattle.image_load.specs.Pieces.{IsPiece, are_word_addresses, byte_from_bit, byte_piece, pieces, word_piece}
 use Rattle.image_load.specs.declared.piece.WordOrByte.{WordOrByte}
 use Rattle.image_load.proofs.CellLemmas.{WordParts, byte_at_word, got_it, no_word, put, some_same, with_put, word_parts, word_put}
@@ -31,7 +31,7 @@ put_word m p k (Some c) e h = by_key (eqb k at) refl
     at = p.address / 4 * 4
 
     new : Cell
-    new = with_values c (merged (shown_value c) (to_lanes p.address p.value) (lanes p.size p.address) ∷ [])
+    new = with_values c (merged_word (shown_value c) (to_lanes p.address p.value) (lanes p.size p.address) ∷ [])
 
     by_key : (b : Bool) → eqb k at ≡ b → HasWord (map.insert m at new) k
     by_key true same = record {
@@ -123,12 +123,12 @@ keep_there m b d h fits above = by_word (map.get m (d.0 / 4 * 4)) refl
           is = h.is;
         }
 
-keep_all : (image : Bytes) (m n : Memory) (b : ℕ × ℕ) → IsThere m b → AllByRecursion (λ d. b.0 < d.0) image → AllByRecursion (MayLoad n) image → IsThere (laid m image) b
+keep_all : (image : Bytes) (m n : Memory) (b : ℕ × ℕ) → IsThere m b → AllByRecursion (λ d. b.0 < d.0) image → AllByRecursion (MayLoad n) image → IsThere (laid_memory m image) b
 keep_all [] m n b h above may = h
 keep_all (d ∷ image) m n b h above may = keep_all image (with_byte m d) n b (keep_there m b d h may.0.byte above.0) above.1 may.1
 
 -- after an image was laid all its bytes are there
-pub laid_there : (image : Bytes) (m : Memory) → HasRisingAddresses image → AllByRecursion (MayLoad m) image → AllByRecursion (IsThere (laid m image)) image
+pub laid_there : (image : Bytes) (m : Memory) → HasRisingAddresses image → AllByRecursion (MayLoad m) image → AllByRecursion (IsThere (laid_memory m image)) image
 laid_there [] m rising may = tt
 laid_there (b ∷ image) m rising may =
     (keep_all image (with_byte m b) m b (put_there m b may.0) rising.0 may.1, laid_there image (with_byte m b) rising.1 (may_keep_all m b image may.1))

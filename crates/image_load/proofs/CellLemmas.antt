@@ -6,9 +6,9 @@ use Rattle.std.proofs.lemmas.Bool.{cond-true, eq-eqb, eqb-true}
 use Rattle.hex_image.specs.Image.{Bytes}
 use Rattle.target_machine.proofs.Maps.{got_inserted, same_map}
 use Rattle.target_machine.specs.Attempt.{lanes}
-use Rattle.target_machine.specs.Memory.{Cell, Memory, merged, shown_value, with_values}
+use Rattle.target_machine.specs.Memory.{Cell, Memory, merged_word, shown_value, with_values}
 use Rattle.target_machine.specs.Plain.{to_lanes}
-use Rattle.image_load.specs.Laid.{laid, with_byte, word_with}
+use Rattle.image_load.specs.Laid.{laid_memory, with_byte, word_with}
 use Rattle.image_load.specs.Pieces.{are_word_addresses, byte_piece, pieces, word_piece}
 use Rattle.image_load.specs.declared.piece.WordOrByte.{WordOrByte}
 use Rattle.image_load.proofs.LaneLemmas.{four_lanes, replaced, whole_word}
@@ -41,7 +41,7 @@ some_same m k c d x y = (let e : ◌≡◌ {A = Option Cell} (Some c) (Some d) =
 
 abbrev pub word_put : Memory → WordOrByte → Option Cell → Memory
 word_put m p None = m
-word_put m p (Some c) = map.insert m (p.address / 4 * 4) (with_values c (merged (shown_value c) (to_lanes p.address p.value) (lanes p.size p.address) ∷ []))
+word_put m p (Some c) = map.insert m (p.address / 4 * 4) (with_values c (merged_word (shown_value c) (to_lanes p.address p.value) (lanes p.size p.address) ∷ []))
 
 -- the memory after a piece was written
 abbrev pub put : Memory → WordOrByte → Memory
@@ -55,17 +55,17 @@ with_put m b = by_word (map.get m (b.0 / 4 * 4))
     by_word (Some c) = refl
 
 -- the lanes of a byte, by its place in the word
-lane_is : (n a b r : ℕ) → a % 4 ≡ r → merged n (to_lanes a b) (lanes 1 a) ≡ replaced n b r
+lane_is : (n a b r : ℕ) → a % 4 ≡ r → merged_word n (to_lanes a b) (lanes 1 a) ≡ replaced n b r
 lane_is n a b r is =
     let same : a / 1 * 1 ≡ a = omega arith in
-    ap (λ (x : ℕ). merged n (to_lanes a b) ((2 ^ (8 * 1) - 1) * 2 ^ (8 * (x % 4)))) same
-    ∙ ap (λ (x : ℕ). merged n (b * 2 ^ (8 * x)) ((2 ^ (8 * 1) - 1) * 2 ^ (8 * x))) is
+    ap (λ (x : ℕ). merged_word n (to_lanes a b) ((2 ^ (8 * 1) - 1) * 2 ^ (8 * (x % 4)))) same
+    ∙ ap (λ (x : ℕ). merged_word n (b * 2 ^ (8 * x)) ((2 ^ (8 * 1) - 1) * 2 ^ (8 * x))) is
 
 pub byte_at_word : (m : Memory) (k : ℕ) (b : ℕ × ℕ) (r : ℕ) (c : Cell) → b.0 / 4 * 4 ≡ k → b.0 % 4 ≡ r → map.get m k ≡ Some c
     → with_byte m b ≡ map.insert m k (with_values c (replaced (shown_value c) b.1 r ∷ []))
 byte_at_word m k b r c at lane there =
     ap (word_with m b) (ap (map.get m) at ∙ there)
-    ∙ ap (λ (x : ℕ). map.insert m x (with_values c (merged (shown_value c) (to_lanes b.0 b.1) (lanes 1 b.0) ∷ []))) at
+    ∙ ap (λ (x : ℕ). map.insert m x (with_values c (merged_word (shown_value c) (to_lanes b.0 b.1) (lanes 1 b.0) ∷ []))) at
     ∙ ap (λ (x : ℕ). map.insert m k (with_values c (x ∷ []))) (lane_is (shown_value c) b.0 b.1 r lane)
 
 pub no_word : (m : Memory) (k : ℕ) (b : ℕ × ℕ) → b.0 / 4 * 4 ≡ k → map.get m k ≡ None → with_byte m b ≡ m
@@ -127,9 +127,9 @@ module _ (a b c d : ℕ × ℕ) (aligned : a.0 % 4 ≡ 0) (bs : b.0 ≡ a.0 + 1)
             let v2 : ℕ = replaced v1 c.1 2 in
             let fits : W < 2 ^ 32 = omega (arith, al, bl, cl, dl) in
             ap (word_put m (word_piece a.0 a.1 b.1 c.1 d.1)) (ap (map.get m) word_a ∙ there)
-            ∙ ap (λ (x : ℕ). map.insert m x (with_values e (merged (shown_value e) (to_lanes a.0 W) (lanes 4 a.0) ∷ []))) word_a
-            ∙ ap (λ (x : ℕ). map.insert m a.0 (with_values e (merged (shown_value e) (W * 2 ^ (8 * x)) (lanes 4 a.0) ∷ []))) aligned
-            ∙ ap (λ (x : ℕ). map.insert m a.0 (with_values e (merged (shown_value e) (W * 2 ^ (8 * 0)) x ∷ []))) word_lanes
+            ∙ ap (λ (x : ℕ). map.insert m x (with_values e (merged_word (shown_value e) (to_lanes a.0 W) (lanes 4 a.0) ∷ []))) word_a
+            ∙ ap (λ (x : ℕ). map.insert m a.0 (with_values e (merged_word (shown_value e) (W * 2 ^ (8 * x)) (lanes 4 a.0) ∷ []))) aligned
+            ∙ ap (λ (x : ℕ). map.insert m a.0 (with_values e (merged_word (shown_value e) (W * 2 ^ (8 * 0)) x ∷ []))) word_lanes
             ∙ ap (λ (x : ℕ). map.insert m a.0 (with_values e (x ∷ []))) (whole_word (shown_value e) W fits ∙ sym (four_lanes (shown_value e) a.1 b.1 c.1 d.1 al bl cl dl))
             ∙ sym (ap (λ (x : Memory). with_byte (with_byte (with_byte x b) c) d) (byte_at_word m a.0 a 0 e word_a aligned there)
             ∙ ap (λ (x : Memory). with_byte (with_byte x c) d) (next_byte m a.0 b 1 v0 e word_b lane_b)
@@ -164,7 +164,7 @@ word_parts a b c d e = by_first (eqb (a % 4) 0) refl e
     by_first false e h = absurd cc
 
 -- pieces that are written one after the other lay the image over the memory
-pub laid_by_pieces : (image : Bytes) (m : Memory) → AllByRecursion (λ b. b.1 < 2 ^ 8) image → fold put m (pieces image) ≡ laid m image
+pub laid_by_pieces : (image : Bytes) (m : Memory) → AllByRecursion (λ b. b.1 < 2 ^ 8) image → fold put m (pieces image) ≡ laid_memory m image
 laid_by_pieces [] m h = refl
 laid_by_pieces (a ∷ []) m h = with_put m a
 laid_by_pieces (a ∷ b ∷ []) m h = ap (λ (x : Memory). put x (byte_piece b)) (with_put m a) ∙ with_put (with_byte m a) b
@@ -174,9 +174,9 @@ laid_by_pieces (a ∷ b ∷ c ∷ []) m h =
     ∙ with_put (with_byte (with_byte m a) b) c
 laid_by_pieces (a ∷ b ∷ c ∷ d ∷ rest) m h = by_word (are_word_addresses a.0 b.0 c.0 d.0) refl (laid_by_pieces rest (with_byte (with_byte (with_byte (with_byte m a) b) c) d) h.1.1.1.1) (laid_by_pieces (b ∷ c ∷ d ∷ rest) (with_byte m a) h.1)
   where
-    by_word : (t : Bool) → are_word_addresses a.0 b.0 c.0 d.0 ≡ t → fold put (with_byte (with_byte (with_byte (with_byte m a) b) c) d) (pieces rest) ≡ laid (with_byte (with_byte (with_byte (with_byte m a) b) c) d) rest
-        → fold put (with_byte m a) (pieces (b ∷ c ∷ d ∷ rest)) ≡ laid (with_byte m a) (b ∷ c ∷ d ∷ rest)
-        → fold put m (cond t (word_piece a.0 a.1 b.1 c.1 d.1 ∷ pieces rest) (byte_piece a ∷ pieces (b ∷ c ∷ d ∷ rest))) ≡ laid m (a ∷ b ∷ c ∷ d ∷ rest)
+    by_word : (t : Bool) → are_word_addresses a.0 b.0 c.0 d.0 ≡ t → fold put (with_byte (with_byte (with_byte (with_byte m a) b) c) d) (pieces rest) ≡ laid_memory (with_byte (with_byte (with_byte (with_byte m a) b) c) d) rest
+        → fold put (with_byte m a) (pieces (b ∷ c ∷ d ∷ rest)) ≡ laid_memory (with_byte m a) (b ∷ c ∷ d ∷ rest)
+        → fold put m (cond t (word_piece a.0 a.1 b.1 c.1 d.1 ∷ pieces rest) (byte_piece a ∷ pieces (b ∷ c ∷ d ∷ rest))) ≡ laid_memory m (a ∷ b ∷ c ∷ d ∷ rest)
     by_word true e after on =
         let w = word_parts a.0 b.0 c.0 d.0 e in
         ap (λ (x : Memory). fold put x (pieces rest)) (word_at_once a b c d w.aligned w.second w.third w.fourth h.0 h.1.0 h.1.1.0 h.1.1.1.0 m) ∙ after

@@ -1,5 +1,6 @@
 -- The first difference of what was read back, byte by byte and piece by piece.
 use Rattle.std.proofs.Common.{◌≡◌, ◌∙◌, ℕ, zero, suc, ◌+◌, ◌-◌, ◌<◌, ◌≤◌, Bool, cond, List, [], ◌∷◌, length, drop, drop-cons, get_or, Option, None, Some, refl, sym, ap, arith, eq-eqb, ne_eqb}
+use Rattle.std.proofs.Math.Nat.{add-zero}
 use Rattle.image_load.specs.Pieces.{byte_from_bit, difference, first_difference, first_of}
 use Rattle.image_load.specs.declared.piece.Difference.{Difference}
 use Rattle.image_load.specs.declared.piece.WordOrByte.{WordOrByte}
@@ -36,15 +37,12 @@ same_found (p ∷ ps) f h same =
     ap (λ (x : ℕ). first_of (difference p.size 0 p.address p.value x) (first_difference ps (λ i. f (i + 1)))) (same 0)
     ∙ ap (first_of (difference p.size 0 p.address p.value (h 0))) (same_found ps (λ i. f (i + 1)) (λ i. h (i + 1)) (λ i. same (i + 1)))
 
-here : (i : ℕ) → i + 0 ≡ i
-here i = omega arith
-
 -- one piece further
 pub next_piece : (ps : List WordOrByte) (i : ℕ) (d : WordOrByte) (f : ℕ → ℕ) → i < length ps → difference (get_or ps i d).size 0 (get_or ps i d).address (get_or ps i d).value (f i) ≡ None
     → first_difference (drop i ps) (λ k. f (i + k)) ≡ first_difference (drop (i + 1) ps) (λ k. f (i + 1 + k))
 next_piece ps i d f less none =
     ap (λ (l : List WordOrByte). first_difference l (λ k. f (i + k))) (drop-cons ps i d less)
-    ∙ ap (λ (x : ℕ). first_of (difference (get_or ps i d).size 0 (get_or ps i d).address (get_or ps i d).value (f x)) (first_difference (drop (suc i) ps) (λ k. f (i + (k + 1))))) (here i)
+    ∙ ap (λ (x : ℕ). first_of (difference (get_or ps i d).size 0 (get_or ps i d).address (get_or ps i d).value (f x)) (first_difference (drop (suc i) ps) (λ k. f (i + (k + 1))))) (add-zero i)
     ∙ ap (λ (o : Option Difference). first_of o (first_difference (drop (suc i) ps) (λ k. f (i + (k + 1))))) none
     ∙ same_found (drop (suc i) ps) (λ k. f (i + (k + 1))) (λ k. f (i + 1 + k)) (λ k. let same : i + (k + 1) ≡ i + 1 + k = omega arith in ap f same)
     ∙ (let more : suc i ≡ i + 1 = omega arith in ap (λ (n : ℕ). first_difference (drop n ps) (λ k. f (i + 1 + k))) more)
@@ -53,7 +51,7 @@ pub differs_piece : (ps : List WordOrByte) (i : ℕ) (d : WordOrByte) (f : ℕ �
     → first_difference (drop i ps) (λ k. f (i + k)) ≡ Some x
 differs_piece ps i d f x less some =
     ap (λ (l : List WordOrByte). first_difference l (λ k. f (i + k))) (drop-cons ps i d less)
-    ∙ ap (λ (y : ℕ). first_of (difference (get_or ps i d).size 0 (get_or ps i d).address (get_or ps i d).value (f y)) (first_difference (drop (suc i) ps) (λ k. f (i + (k + 1))))) (here i)
+    ∙ ap (λ (y : ℕ). first_of (difference (get_or ps i d).size 0 (get_or ps i d).address (get_or ps i d).value (f y)) (first_difference (drop (suc i) ps) (λ k. f (i + (k + 1))))) (add-zero i)
     ∙ ap (λ (o : Option Difference). first_of o (first_difference (drop (suc i) ps) (λ k. f (i + (k + 1))))) some
 
 pub differs_at : (ps : List WordOrByte) (i : ℕ) (d : WordOrByte) (f : ℕ → ℕ) (x : Difference) (found : ℕ) (r : Option Difference) → i < length ps → found ≡ f i → r ≡ difference (get_or ps i d).size 0 (get_or ps i d).address (get_or ps i d).value found → r ≡ Some x

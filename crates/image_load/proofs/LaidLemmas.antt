@@ -14,7 +14,7 @@ use Rattle.target_calls.specs.World.{World, done_now, end_result, is_faulted, is
 use Rattle.target_calls.specs.declared.calls.Ask.{Ask}
 use Rattle.target_calls.proofs.CallLists.{append_after, append_results, append_stop, count_of}
 use Rattle.access_regs.proofs.Csw.{IsSize}
-use Rattle.image_load.specs.Laid.{CanLoad, Laid, laid}
+use Rattle.image_load.specs.Laid.{CanLoad, Laid, laid_memory}
 use Rattle.image_load.specs.Pieces.{IsPiece, asked_all, difference, first_difference, first_of, load_calls, pieces, read_ask, write_ask}
 use Rattle.image_load.specs.declared.piece.Difference.{Difference}
 use Rattle.image_load.specs.declared.piece.WordOrByte.{WordOrByte}
@@ -182,9 +182,9 @@ pub loads_lay : (w : World) (n : ℕ) (image : Bytes) → CanLoad w n image → 
 loads_lay w n image can =
     let ps : List WordOrByte = pieces image in
     let may = pieces_may image w.target.words can.bytes in
-    let lays : fold put w.target.words ps ≡ laid w.target.words image = laid_by_pieces image w.target.words (bytes_fit image w.target.words can.bytes) in
+    let lays : fold put w.target.words ps ≡ laid_memory w.target.words image = laid_by_pieces image w.target.words (bytes_fit image w.target.words can.bytes) in
     let there = laid_there image w.target.words can.rising can.bytes in
-    let shows = subst (λ (m : Memory). AllByRecursion (Shows m) ps) (sym lays) (pieces_show image (laid w.target.words image) there) in
+    let shows = subst (λ (m : Memory). AllByRecursion (Shows m) ps) (sym lays) (pieces_show image (laid_memory w.target.words image) there) in
     let port = can.port in
     let did = both n (omega (arith, port)) w ps (record { aims = can_parts w.target n (contains w.large n) can.aim can.narrow; free = can.free }) may (sound_all w.target.words ps may) shows in
     let count : length (results w (asked_all false n ps)) ≡ length ps = count_of w (asked_all false n ps) did.before ∙ count_all false n ps in

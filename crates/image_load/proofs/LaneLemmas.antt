@@ -3,14 +3,14 @@ use Rattle.std.proofs.Common.{◌≡◌, ◌≢◌, ◌∙◌, ℕ, zero, suc, �
 use Rattle.std.proofs.lemmas.Nat.{and_assoc, and_block, and_comm, and_mask, and_shr, or_disjoint, pow_pos, shl-shr}
 use Rattle.std.specs.Int.{w32, bit_not}
 use Rattle.std.specs.Int.Bits.{and_zero_r}
-use Rattle.target_machine.specs.Memory.{merged}
+use Rattle.target_machine.specs.Memory.{merged_word}
 use Rattle.image_load.specs.Pieces.{byte_from_bit}
 use Rattle.target_calls.proofs.NeedLemmas.{none_last}
 
 -- ---- sums
 
 -- lanes that a mask keeps, and those that it takes, share no bit
-merged_sum : (old new mask : ℕ) → bit_and mask (bit_not w32 mask) ≡ 0 → merged old new mask ≡ bit_and old (bit_not w32 mask) + bit_and new mask
+merged_sum : (old new mask : ℕ) → bit_and mask (bit_not w32 mask) ≡ 0 → merged_word old new mask ≡ bit_and old (bit_not w32 mask) + bit_and new mask
 merged_sum old new mask apart = or_disjoint (bit_and old keep) (bit_and new mask) (and_assoc (bit_and new mask) old keep ∙ ap (bit_and old) none ∙ and_zero_r old)
   where
     keep : ℕ
@@ -66,7 +66,7 @@ kept_3 n = and_mask n 24
 
 -- a number with one of its four bytes replaced
 abbrev pub replaced : ℕ → ℕ → ℕ → ℕ
-replaced n b lane = merged n (b * 2 ^ (8 * lane)) ((2 ^ (8 * 1) - 1) * 2 ^ (8 * lane))
+replaced n b lane = merged_word n (b * 2 ^ (8 * lane)) ((2 ^ (8 * 1) - 1) * 2 ^ (8 * lane))
 
 with_0 : (n b : ℕ) → b < 256 → replaced n b 0 ≡ (n / 2 ^ 8 % 2 ^ 24) * 2 ^ 8 + b
 with_0 n b lt = merged_sum n (b * 2 ^ 0) 0xFF refl ∙ ap (λ (x : ℕ). x + bit_and (b * 2 ^ 0) 0xFF) (kept_0 n) ∙ ap (λ (x : ℕ). n / 2 ^ 8 % 2 ^ 24 * 2 ^ 8 + x) (in_lane b 0 lt) ∙ omega arith
@@ -130,7 +130,7 @@ four_lanes n a b c d al bl cl dl =
     with_3 x2 d dl ∙ ap (λ (x : ℕ). d * 2 ^ 24 + x) (e2 ∙ ap (λ (x : ℕ). c * 2 ^ 16 + x) (e1 ∙ ap (λ (x : ℕ). b * 2 ^ 8 + x) e0)) ∙ omega arith
 
 -- all at once
-pub whole_word : (n v : ℕ) → v < 2 ^ 32 → merged n (v * 2 ^ (8 * 0)) ((2 ^ (8 * 4) - 1) * 2 ^ (8 * 0)) ≡ v
+pub whole_word : (n v : ℕ) → v < 2 ^ 32 → merged_word n (v * 2 ^ (8 * 0)) ((2 ^ (8 * 4) - 1) * 2 ^ (8 * 0)) ≡ v
 whole_word n v lt =
     let none = and_zero_r n in
     let all : bit_and (v * 2 ^ 0) 0xFFFF_FFFF ≡ v = and_mask (v * 2 ^ 0) 32 ∙ omega (arith, lt) in

@@ -9,8 +9,8 @@ use Rattle.std.proofs.lemmas.Bool.{eqb-false, leb-true, ltb-false, ltb-true}
 use Rattle.hex.specs.Hex.{IsBytes, decode_of}
 use Rattle.hex.specs.declared.error.FromHexError.{FromHexError}
 use Rattle.hex.proofs.HexLemmas.{decode_of-ok}
-use Rattle.hex_image.specs.Image.{Bytes, FaultAt, Reading, at_start, by_type, image, line_then, placed, read_on, where_length, with_base, with_data, with_end, with_image, with_line, with_record}
-use Rattle.hex_image.specs.Records.{Line, address_of, content_of, count_of, data_of, decoded, lines_of, of_its_length, record_of, type_of, front_word}
+use Rattle.hex_image.specs.Image.{Bytes, FaultAt, Reading, at_start, by_type, image, line_then, image_with_bytes, read_on, where_length, with_base, with_data, with_end, with_image, with_line, with_record}
+use Rattle.hex_image.specs.Records.{Line, address_of, content_of, count_of, data_of, decoded_record, lines_of, of_its_length, record_of, type_of, front_word}
 use Rattle.hex_image.specs.declared.fault.ImageKind.{ImageKind}
 use Rattle.hex_image.specs.declared.fault.ImageKind.TheVariants as kind
 use Rattle.image_load.specs.Laid.{HasRisingAddresses}
@@ -58,12 +58,12 @@ insert_fits k v (e ∷ es) low byte h = by_order (nat_cmp k e.0) (insert_fits k 
 
 -- ---- data
 
-placed_rising : (address : ℕ) (bytes : List ℕ) (es : Bytes) → HasRisingAddresses es → HasRisingAddresses (placed address bytes es)
+placed_rising : (address : ℕ) (bytes : List ℕ) (es : Bytes) → HasRisingAddresses es → HasRisingAddresses (image_with_bytes address bytes es)
 placed_rising address [] es h = h
 placed_rising address (b ∷ bytes) es h = placed_rising (address + 1) bytes (insert_entry nat_cmp es address b) (insert_rising address b es h)
 
 placed_fits : (address : ℕ) (bytes : List ℕ) (es : Bytes) → address + length bytes ≤ 2 ^ 32 → AllByRecursion (λ b. b < 256) bytes
-    → AllByRecursion (λ b. (b.0 < 2 ^ 32) × (b.1 < 2 ^ 8)) es → AllByRecursion (λ b. (b.0 < 2 ^ 32) × (b.1 < 2 ^ 8)) (placed address bytes es)
+    → AllByRecursion (λ b. (b.0 < 2 ^ 32) × (b.1 < 2 ^ 8)) es → AllByRecursion (λ b. (b.0 < 2 ^ 32) × (b.1 < 2 ^ 8)) (image_with_bytes address bytes es)
 placed_fits address [] es low all h = h
 placed_fits address (b ∷ bytes) es low all h =
     placed_fits (address + 1) bytes (insert_entry nat_cmp es address b) (omega (arith, low)) all.1 (insert_fits address b es (omega (arith, low)) all.0 h)
@@ -115,7 +115,7 @@ data_sound r bytes h all =
     }) tt) tt
   where
     new : Bytes
-    new = placed (r.base + address_of bytes) (data_of bytes) r.image
+    new = image_with_bytes (r.base + address_of bytes) (data_of bytes) r.image
 
     below : nat_le (address_of bytes + count_of bytes) 65536 ≡ true → r.base + address_of bytes + length (data_of bytes) ≤ 2 ^ 32
     below low =
@@ -149,7 +149,7 @@ length_bytes bytes found e all = by_length (length bytes == slice_index bytes 0 
     by_length true e = (let same : bytes ≡ found = cc in subst (λ (x : List ℕ). IsBytes x) same all)
     by_length false e = absurd cc
 
-decoded_bytes : (digits found : List ℕ) (d : Result (List ℕ) FromHexError) → decode_of digits ≡ d → decoded d ≡ Some found → IsBytes found
+decoded_bytes : (digits found : List ℕ) (d : Result (List ℕ) FromHexError) → decode_of digits ≡ d → decoded_record d ≡ Some found → IsBytes found
 decoded_bytes digits found (Ok bytes) is e = length_bytes bytes found e (decode_of-ok digits bytes is).3
 decoded_bytes digits found (Err x) is e = absurd cc
 
@@ -157,7 +157,7 @@ record_bytes : (line found : List ℕ) → record_of line ≡ Some found → IsB
 record_bytes [] found e = absurd cc
 record_bytes (c ∷ digits) found e = by_colon (c == 58) e
   where
-    by_colon : (b : Bool) → cond b (decoded (decode_of digits)) None ≡ Some found → IsBytes found
+    by_colon : (b : Bool) → cond b (decoded_record (decode_of digits)) None ≡ Some found → IsBytes found
     by_colon true e = decoded_bytes digits found (decode_of digits) refl e
     by_colon false e = absurd cc
 

@@ -5,7 +5,7 @@ use Rattle.std.specs.List.{AllByRecursion}
 use Rattle.hex_image.specs.Image.{Bytes}
 use Rattle.target_machine.specs.Aim.{can_aim}
 use Rattle.target_machine.specs.Attempt.{above, lanes}
-use Rattle.target_machine.specs.Memory.{Cell, Memory, merged, shown_value, with_values}
+use Rattle.target_machine.specs.Memory.{Cell, Memory, merged_word, shown_value, with_values}
 use Rattle.target_machine.specs.Plain.{contains, to_lanes}
 use Rattle.target_machine.specs.declared.ap.ApState.{ApState}
 use Rattle.target_calls.specs.World.{World, results, stop, world_after}
@@ -16,15 +16,15 @@ use Rattle.image_load.specs.Pieces.{first_difference, load_calls, pieces}
 -- A word with the lane of a byte replaced in the value that it shows is a list of one value. Where there is no such word nothing changes.
 abbrev pub word_with : Memory → ℕ × ℕ → Option Cell → Memory
 word_with m b None = m
-word_with m b (Some c) = map.insert m (b.0 / 4 * 4) (with_values c (merged (shown_value c) (to_lanes b.0 b.1) (lanes 1 b.0) ∷ []))
+word_with m b (Some c) = map.insert m (b.0 / 4 * 4) (with_values c (merged_word (shown_value c) (to_lanes b.0 b.1) (lanes 1 b.0) ∷ []))
 
 -- A memory with one byte of an image.
 abbrev pub with_byte : Memory → ℕ × ℕ → Memory
 with_byte m b = word_with m b (map.get m (b.0 / 4 * 4))
 
 -- A memory with an image laid over it. Each word that holds a byte of the image is a list of one value, and all other words stay.
-abbrev pub laid : Memory → Bytes → Memory
-laid m image = fold with_byte m image
+abbrev pub laid_memory : Memory → Bytes → Memory
+laid_memory m image = fold with_byte m image
 
 -- ---- a load
 
@@ -54,5 +54,5 @@ pub record CanLoad (w : World) (ap : ℕ) (image : Bytes) : Type 0 where
 -- The load lays the image over the memory. None of its calls stops, and no byte differs. The words are the old ones with the image over them.
 pub record Laid (w : World) (ap : ℕ) (image : Bytes) : Type 0 where
   pub goes : stop w (load_calls ap (pieces image)) ≡ None
-  pub words : (world_after w (load_calls ap (pieces image))).target.words ≡ laid w.target.words image
+  pub words : (world_after w (load_calls ap (pieces image))).target.words ≡ laid_memory w.target.words image
   pub same : first_difference (pieces image) (λ i. slice_index (results w (load_calls ap (pieces image))) (length (pieces image) + i)) ≡ None

@@ -1,5 +1,6 @@
 -- A job, a selection and a name have one run at most, or one reason why none runs; and so have the bytes of a job.
-use Rattle.std.proofs.Common.{◌≡◌, ◌∙◌, ℕ, Bool, true, false, List, Option, Result, Ok, Err, ap, sym, subst}
+use Rattle.std.proofs.Common.{◌≡◌, ◌∙◌, ℕ, true, false, List, Option, Result, Ok, Err, ap, sym, subst}
+use Rattle.std.proofs.lemmas.Bool.{both_ways}
 use Rattle.std.specs.List.{list_any}
 use Rattle.std.specs.Str.{bytes_eq}
 use Rattle.sequence_resolve.specs.declared.selection.Selection.{Selection}
@@ -74,13 +75,10 @@ module _ (job : Job) (s : Selection) where
       (subst (λ (l : List ConfItem). NoValues job.dbgconf l a q) values (subst (λ (z : SeqSet). NoValues job.dbgconf y z q) same too))
 
   module _ (name : List ℕ) where
-    is_both : (b : Bool) → b ≡ true → b ≡ false → ⊥
-    is_both b p q = (let e : true ≡ false = sym p ∙ q in cc)
-
     -- a set with a sequence of the name, and the same without
     plains_differ : (x y : List ConfItem) (a b : SeqSet) → HasPlain job s x a → HasPlain job s y b → has_sequence a name ≡ true → has_sequence b name ≡ false → ⊥
     plains_differ x y a b p q with_name none_too =
-        is_both (has_sequence a name) with_name (ap (λ (z : SeqSet). has_sequence z name) (same_plain x y a b p q) ∙ none_too)
+        both_ways (has_sequence a name) (ap (λ (z : SeqSet). has_sequence z name) (same_plain x y a b p q) ∙ none_too) with_name
 
     named_and_not : (set plain : SeqSet) (items : List ConfItem) → IsSetOfJob job s set → HasPlain job s items plain → has_sequence set name ≡ true → has_sequence plain name ≡ false → ⊥
     named_and_not set plain items is p with_name none_too =

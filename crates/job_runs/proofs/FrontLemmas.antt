@@ -1,12 +1,13 @@
 -- The journal of the calls that were asked, and that of the outcome's calls: they have a front in common, in which all lies that a
 -- stop speaks of.
 use Rattle.std.proofs.Common.{◌≡◌, ◌∙◌, ◌⊎◌, inl, inr, ℕ, zero, suc, ◌+◌, ◌-◌, ◌<◌, ◌≤◌, Bool, true, false, cond, List, [], ◌∷◌, ◌++◌, append-nil, append_assoc, length, take, Option, None, Some, refl, sym, ap, subst, arith}
+use Rattle.target_calls.proofs.WorldLemmas.{first_is_positive}
 use Rattle.std.specs.List.{AllByRecursion}
 use Rattle.std.specs.Prelude.{option_map, slice_get}
 use Rattle.std.proofs.lemmas.Bool.{cases_lt}
 use Rattle.std.proofs.lemmas.List.{length-append, take-append-le}
 use Rattle.std.proofs.lemmas.Option.{same_Some, slice_get_within}
-use Rattle.target_machine.specs.Plain.{acted}
+use Rattle.target_machine.specs.Plain.{action_attempt}
 use Rattle.target_machine.specs.State.{Agree, TargetState}
 use Rattle.target_machine.specs.declared.unit.Call.{Call}
 use Rattle.probe_core.specs.Bench.{BenchState}
@@ -212,19 +213,14 @@ in_front calls (suc i) (x ∷ front) rest e is later less = (let there = in_fron
 -- the number of a first fault is none of nothing
 fault_some : (t : TargetState) (es : List Entry) → first_fault t es ≡ Some 0 → ⊥
 fault_some t [] is = cc
-fault_some t (e ∷ es) is = one (is_unforgiven t e) (first_fault (acted t e.action).next es) is
-  where
-    one : (b : Bool) (n : Option ℕ) → cond b (Some 1) (later_by 1 n) ≡ Some 0 → ⊥
-    one true n is = (let no : 1 ≡ 0 = same_Some 1 0 is in omega (arith, no))
-    one false None is = cc
-    one false (Some n) is = (let no : 1 + n ≡ 0 = same_Some (1 + n) 0 is in omega (arith, no))
+fault_some t (e ∷ es) is = first_is_positive (is_unforgiven t e) (first_fault (action_attempt t e.action).next es) is
 
 -- a first fault among those that come first is the first whatever comes after them
 fault_of_front : (t : TargetState) (xs ys zs : List Entry) (f : ℕ) → first_fault t (xs ++ ys) ≡ Some f → f ≤ length xs → first_fault t (xs ++ zs) ≡ Some f
 fault_of_front t [] ys zs f is le =
     let none : f ≡ 0 = omega (arith, le) in absurd (fault_some t ys (is ∙ ap Some none))
 fault_of_front t (x ∷ xs) ys zs f is le =
-    let u : TargetState = (acted t x.action).next in one (is_unforgiven t x) (first_fault u (xs ++ ys)) (first_fault u (xs ++ zs)) (fault_of_front u xs ys zs) is
+    let u : TargetState = (action_attempt t x.action).next in one (is_unforgiven t x) (first_fault u (xs ++ ys)) (first_fault u (xs ++ zs)) (fault_of_front u xs ys zs) is
   where
     one : (b : Bool) (o n : Option ℕ) → ((k : ℕ) → o ≡ Some k → k ≤ length xs → n ≡ Some k) → cond b (Some 1) (later_by 1 o) ≡ Some f → cond b (Some 1) (later_by 1 n) ≡ Some f
     one true o n h e = e

@@ -13,7 +13,7 @@ use Rattle.probe_core.specs.declared.job.Limits.{Limits}
 use Rattle.target_calls.specs.Asks.{is_settled, settled_last}
 use Rattle.target_calls.specs.Journal.{Entry, lines_before, target_after}
 use Rattle.target_calls.specs.Journal.{settles as is_settling}
-use Rattle.target_calls.specs.NeedPoints.{Asks, finished, needed}
+use Rattle.target_calls.specs.NeedPoints.{Asks, asks_at_finish, asks_at_need}
 use Rattle.target_calls.specs.Weights.{commands_in, registers_in, weight_in}
 use Rattle.target_calls.specs.World.{start_world, world_after}
 use Rattle.target_calls.specs.World.{stop as call_stop}
@@ -111,9 +111,9 @@ module _ (access : AccessKind) (grows : JournalGoesOn access.journal) (settles :
   all_needs ending a end h = subst (λ (x : Option Stop). HasNeeds ending a.asks (late_meaning access.cost (world_from first (answered_at_end x a.lines)) k.program before)) end h
 
   -- the lines before do not count
-  counted_needs : (a : AccessView) → a.asks ≡ needed (finished (end_state (late_meaning access.cost (world_from first None) k.program before)).rest.asks) → a.asks.needs ≡ needs_in run
+  counted_needs : (a : AccessView) → a.asks ≡ asks_at_need (asks_at_finish (end_state (late_meaning access.cost (world_from first None) k.program before)).rest.asks) → a.asks.needs ≡ needs_in run
   counted_needs a is = ap (λ (x : Asks). x.needs) is
-      ∙ ap (λ (x : Asks). (needed (finished x)).needs) (sym (only_written access.cost (world_from first None) k.program before None).asks)
+      ∙ ap (λ (x : Asks). (asks_at_need (asks_at_finish x)).needs) (sym (only_written access.cost (world_from first None) k.program before None).asks)
 
   -- the bounds of the access are those of the run
   is_few : (answered : Option ℕ) (a : AccessView) (l : Left) → a.bench.limits ≡ limits → first.starting ≡ 0 → a.asks.calls ≡ settled_last whole.calls → a.asks.needs ≡ needs_in run

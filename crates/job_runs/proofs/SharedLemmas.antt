@@ -6,7 +6,7 @@ use Rattle.std.proofs.lemmas.List.{length-append, length-drop, length-take-le, t
 use Rattle.target_machine.specs.State.{TargetState}
 use Rattle.probe_core.specs.declared.job.Limits.{Limits}
 use Rattle.target_calls.specs.Journal.{Entry, Passes}
-use Rattle.target_calls.specs.Weights.{performed, weight_in}
+use Rattle.target_calls.specs.Weights.{entries_performed, weight_in}
 use Rattle.target_calls.proofs.EntryLemmas.{performed_fits, performed_most}
 use Rattle.access_calls.specs.Standing.{AreTogether, IsMade, flight_accesses}
 
@@ -62,7 +62,7 @@ near_by limits theirs issued confirmed low within both = by_kind both
 
 -- ---- work
 
-module _ (t : TargetState) (theirs : List Entry) (count work : ℕ) (is : count ≡ performed t theirs work) where
+module _ (t : TargetState) (theirs : List Entry) (count work : ℕ) (is : count ≡ entries_performed t theirs work) where
   -- they weigh no more than the work
   pub work_least : (ours : List Entry) → take count theirs ≡ take count ours → weight_in t (take count ours) ≤ work
   work_least ours same =

@@ -1,6 +1,6 @@
 //! A run of a job over a bench.
 ghost use Rattle.std.specs.Prelude.{◌≡◌, ◌≤◌, Some, take};
-ghost use Rattle.probe_core.specs.Bench.{BenchState, fresh, seen};
+ghost use Rattle.probe_core.specs.Bench.{BenchState, fresh, seen_bench};
 ghost use Rattle.access_calls.specs.Endings.{ending_of};
 ghost use Rattle.access_calls.specs.declared.ended.Ending.TheVariants as ends;
 ghost use Rattle.control_flow.specs.Answers.{HasLines, RunHasSinkCause};
@@ -106,7 +106,7 @@ pub fn run_whole<B: Bench, K: Sink, A: OverBench<B>>(
     ensures closes { result.ended.ending ≡ ends.Done → ClosesAs followed.now result.close }
     ensures unclosed { (result.ended.ending ≡ ends.Done → ⊥) → result.close ≡ Close.Nothing }
     // What becomes of any bench.
-    ensures goes { GoesOnTo (seen B.reported B.state bench) (B.reported result.bench) (B.state result.bench) }
+    ensures goes { GoesOnTo (seen_bench B.reported B.state bench) (B.reported result.bench) (B.state result.bench) }
     ensures identity { B.identity result.bench ≡ B.identity bench }
     // Each fault has its cause.
     ensures bench { HasBenchCause result.ended.ending (B.reported bench).faults (B.reported result.bench).faults }
@@ -169,7 +169,7 @@ pub fn run_on<B: Bench, K: Sink, A: OverBench<B>>(
         (record { ended = result.ended; written = known_after (K.written sink.old) (K.written sink.new); bench = n }) }
     ensures close { result.close ≡ Close.Nothing }
     // What becomes of any bench.
-    ensures goes { GoesOnTo (seen B.reported B.state bench) (B.reported result.bench) (B.state result.bench) }
+    ensures goes { GoesOnTo (seen_bench B.reported B.state bench) (B.reported result.bench) (B.state result.bench) }
     ensures identity { B.identity result.bench ≡ B.identity bench }
     // Each fault has its cause.
     ensures bench { HasBenchCause result.ended.ending (B.reported bench).faults (B.reported result.bench).faults }

@@ -1,7 +1,7 @@
 //! What is written after a run.
 ghost use Rattle.std.specs.Prelude.{◌≡◌, ◌≢◌, ◌++◌, ◌&&◌, Ok, false, IfErr, IfSome};
 ghost use Rattle.dap_base.specs.Streams.{PutAppends};
-ghost use Rattle.probe_core.specs.Bench.{IsAsBefore, seen};
+ghost use Rattle.probe_core.specs.Bench.{IsAsBefore, seen_bench};
 ghost use Rattle.report_lines.specs.Closes.{loaded_line};
 ghost use Rattle.report_lines.specs.Endings.{ending_lines, shows_target};
 ghost use Rattle.report_lines.specs.Frame.{EndsShowing, KeepsBench, PutsFirst};
@@ -106,7 +106,7 @@ pub fn write_run<K: Sink, B: Bench>(
     ensures silent { has_report ran.old.ended.ending ≡ false → result ≡ Ok tt }
     ensures ended { ran.new.ended ≡ ran.old.ended }
     ensures close { ran.new.close ≡ ran.old.close }
-    ensures same { IsAsBefore (seen B.reported B.state ran.old.bench) (seen B.reported B.state ran.new.bench) }
+    ensures same { IsAsBefore (seen_bench B.reported B.state ran.old.bench) (seen_bench B.reported B.state ran.new.bench) }
     ensures identity { B.identity ran.new.bench ≡ B.identity ran.old.bench }
     ensures bench { NamesFault TextEnd.BenchFault (B.reported ran.old.bench).faults (B.reported ran.new.bench).faults result }
     ensures sink { NamesFault TextEnd.WriteFault (K.faults sink.old) (K.faults sink.new) result }
@@ -135,7 +135,7 @@ fn write_loaded<K: Sink, B: Bench>(
         (K.written sink.old) (K.written sink.new) result }
     ensures ended { ran.new.ended ≡ ran.old.ended }
     ensures close { ran.new.close ≡ ran.old.close }
-    ensures same { IsAsBefore (seen B.reported B.state ran.old.bench) (seen B.reported B.state ran.new.bench) }
+    ensures same { IsAsBefore (seen_bench B.reported B.state ran.old.bench) (seen_bench B.reported B.state ran.new.bench) }
     ensures identity { B.identity ran.new.bench ≡ B.identity ran.old.bench }
     ensures bench { NamesFault TextEnd.BenchFault (B.reported ran.old.bench).faults (B.reported ran.new.bench).faults result }
     ensures sink { NamesFault TextEnd.WriteFault (K.faults sink.old) (K.faults sink.new) result }
@@ -166,7 +166,7 @@ pub fn write_whole<K: Sink, B: Bench>(
     ensures silent { ran.old.close ≡ Close.Nothing → has_report ran.old.ended.ending ≡ false → result ≡ Ok tt }
     ensures ended { ran.new.ended ≡ ran.old.ended }
     ensures close { ran.new.close ≡ ran.old.close }
-    ensures same { IsAsBefore (seen B.reported B.state ran.old.bench) (seen B.reported B.state ran.new.bench) }
+    ensures same { IsAsBefore (seen_bench B.reported B.state ran.old.bench) (seen_bench B.reported B.state ran.new.bench) }
     ensures identity { B.identity ran.new.bench ≡ B.identity ran.old.bench }
     ensures bench { NamesFault TextEnd.BenchFault (B.reported ran.old.bench).faults (B.reported ran.new.bench).faults result }
     ensures sink { NamesFault TextEnd.WriteFault (K.faults sink.old) (K.faults sink.new) result }

@@ -5,7 +5,7 @@ use Rattle.serde_json.specs.Data.{Data}
 use Rattle.json_form.specs.declared.fault.JobFault.{JobFault}
 use Rattle.json_form.specs.declared.fault.JobFault.TheVariants.{Missing, WrongKind, UnknownKey, Repeated, BadNumber, TooMany, OutOfMemory}
 use Rattle.json_form.specs.Faults.{Fails, Gives}
-use Rattle.json_form.specs.Reading.{only_keys, required, or_else}
+use Rattle.json_form.specs.Reading.{only_keys, required_value, or_else}
 use Rattle.dap_base.specs.Outcome.{◌>>=◌}
 use Rattle.device_tree.specs.declared.pack.Pack.{Pack}
 use Rattle.device_tree.specs.PackReading.{pack_in}
@@ -32,7 +32,7 @@ gives_fault fault (Ok x) read is h = absurd is
 gives_fault fault (Err f) read is h = subst (λ (g : JobFault). Fails g read) (sym is) h
 
 pub own_fails : (d : Data) (r : Result JobParts JobFault) (known : Unit {0}) (pack : Pack) (settings : Settings) (bench : BenchJob) (fault : JobFault) → only_keys job_keys d ≡ Ok known
-    → required (codes "pack") pack_in d ≡ Ok pack → or_else (codes "run") run_in default_settings d ≡ Ok settings → required (codes "bench") bench_in d ≡ Ok bench
+    → required_value (codes "pack") pack_in d ≡ Ok pack → or_else (codes "run") run_in default_settings d ≡ Ok settings → required_value (codes "bench") bench_in d ≡ Ok bench
     → Fails fault (optional_in bench.target.memory d) → IsErrAnd r (λ f. f ≡ fault) → Gives r (job_in d)
 unfolding job_in
 own_fails d r known pack settings bench fault k p s b h is = gives_fault fault r _ is (rw (k, p, s, b) (fails_bind fault (optional_in bench.target.memory d) _ h))

@@ -1,10 +1,11 @@
 -- Reading a job gives exactly the job that the value stands for.
 use Rattle.std.proofs.Common.{◌≡◌, ℕ, codes, Bool, true, false, cond, List, [], Some, Ok, Err, refl, subst}
+use Rattle.dap_base.proofs.Basics.{same_Ok}
 use Rattle.serde_json.specs.Data.{Data}
 use Rattle.json_form.specs.declared.fault.JobFault.TheVariants.{WrongKind}
 use Rattle.json_form.specs.Reading.{never}
 use Rattle.json_form.specs.Form.{IsText, HasOr, MayHave, IsListOf, Alone}
-use Rattle.json_form.proofs.ReadingLaws.{Reads, done, bind_ok, ok_is}
+use Rattle.json_form.proofs.ReadingLaws.{Reads, done, bind_ok}
 use Rattle.json_form.proofs.LeafLaws.{text_reads, number_reads, such_reads}
 use Rattle.json_form.proofs.ObjectLaws.{only_keys_sound, only_keys_complete, required_reads, optional_reads, or_else_reads}
 use Rattle.json_form.proofs.ListLaws.{list_reads, alone_reads}
@@ -30,7 +31,7 @@ watch_item_reads regions =
           let a = bind_ok _ _ x e in
           let b = bind_ok _ _ x a.2 in
           let c = bind_ok _ _ x b.2 in
-          subst (IsWatchItem regions d) (ok_is _ x c.2) (record {
+          subst (IsWatchItem regions d) (same_Ok _ x c.2) (record {
             known = only_keys_sound _ d a.0 a.1;
             address = address.sound d b.0 b.1;
             words = (required_reads (codes "words") _ _ (such_reads (are_words_in regions b.0) _ _ (number_reads 1 65536))).sound d c.0 c.1;
@@ -56,7 +57,7 @@ image_job_reads =
           let a = bind_ok _ _ x e in
           let b = bind_ok _ _ x a.2 in
           let c = bind_ok _ _ x b.2 in
-          subst (IsImageJob d) (ok_is _ x c.2) (record { known = only_keys_sound _ d a.0 a.1; ap = ap.sound d b.0 b.1; hex = hex.sound d c.0 c.1 }));
+          subst (IsImageJob d) (same_Ok _ x c.2) (record { known = only_keys_sound _ d a.0 a.1; ap = ap.sound d b.0 b.1; hex = hex.sound d c.0 c.1 }));
       complete = λ d x p. rw (only_keys_complete _ d p.known, ap.complete d x.ap p.ap, hex.complete d x.hex p.hex) refl;
     }
 
@@ -101,7 +102,7 @@ optional_law regions = record {
       let i = bind_ok _ _ x w.2 in
       let c = bind_ok _ _ x i.2 in
       let t = bind_ok _ _ x c.2 in
-      subst (HasOptional regions d) (ok_is _ x t.2)
+      subst (HasOptional regions d) (same_Ok _ x t.2)
       (record { watch = (watch_law regions).sound d w.0 w.1; image = image_reads.sound d i.0 i.1; dbgconf = dbgconf_reads.sound d c.0 c.1; trace = trace_reads.sound d t.0 t.1 }));
   complete = λ d x p. rw ((watch_law regions).complete d x.watch p.watch, image_reads.complete d x.image p.image, dbgconf_reads.complete d x.dbgconf p.dbgconf, trace_reads.complete d x.trace p.trace) refl;
 }
@@ -123,7 +124,7 @@ job_reads =
           let b = bind_ok _ _ x r.2 in
           let o = bind_ok _ _ x b.2 in
           let own = (optional_law b.0.target.memory).sound d o.0 o.1 in
-          subst (AreParts d) (ok_is _ x o.2) (record {
+          subst (AreParts d) (same_Ok _ x o.2) (record {
             known = only_keys_sound _ d a.0 a.1;
             pack = pack.sound d p.0 p.1;
             settings = run.sound d r.0 r.1;

@@ -1,13 +1,14 @@
 -- Reading settings gives exactly the settings that the value stands for.
 use Rattle.std.proofs.Common.{◌≡◌, ℕ, ◌-◌, ◌^◌, codes, List, [], ◌∷◌, ◌++◌, Ok, refl, ap, sym, subst, ◌∙◌, append_assoc}
+use Rattle.dap_base.proofs.Basics.{same_Ok}
 use Rattle.std.proofs.lemmas.List.{append-nil}
 use Rattle.serde_json.specs.Data.{Data}
 use Rattle.json_form.specs.Reading.{number, or_else}
 use Rattle.json_form.specs.Form.{IsNumber, HasOr}
-use Rattle.json_form.proofs.ReadingLaws.{Reads, done, bind_ok, ok_is}
+use Rattle.json_form.proofs.ReadingLaws.{Reads, done, bind_ok}
 use Rattle.json_form.proofs.LeafLaws.{number_reads}
 use Rattle.json_form.proofs.ObjectLaws.{only_keys_sound, only_keys_complete, or_else_reads}
-use Rattle.function_table.specs.Variables.{predefined}
+use Rattle.function_table.specs.Variables.{names_of_predefined}
 use Rattle.target_machine.specs.declared.unit.Variable.{Variable}
 use Rattle.job_text.specs.RunReading.{with_value, variable_in, values_after, variables_in, zeros, run_in}
 use Rattle.job_text.specs.RunForm.{HasValues, AreVariables, IsRun}
@@ -20,7 +21,7 @@ IsVariable name d x = (value : ℕ) × (with_value value name ≡ x) × HasOr na
 
 variable_sound : (name : List ℕ) (d : Data) (x : Variable) → variable_in name d ≡ Ok x → IsVariable name d x
 unfolding variable_in
-variable_sound name d x e = (let a = bind_ok _ _ x e in (a.0, ok_is _ x a.2, (value_reads name).sound d a.0 a.1))
+variable_sound name d x e = (let a = bind_ok _ _ x e in (a.0, same_Ok _ x a.2, (value_reads name).sound d a.0 a.1))
 
 variable_complete : (name : List ℕ) (d : Data) (value : ℕ) → HasOr name (IsNumber 0 (2 ^ 64 - 1)) 0 d value → variable_in name d ≡ Ok (with_value value name)
 unfolding variable_in
@@ -31,7 +32,7 @@ abbrev After : List Variable → List (List ℕ) → Data → List Variable → 
 After earlier names d variables = (more : List Variable) × (variables ≡ earlier ++ more) × HasValues names d more
 
 no_more : (earlier variables : List Variable) → done earlier ≡ Ok variables → variables ≡ earlier ++ []
-no_more earlier variables e = rw append-nil (sym (ok_is earlier variables e))
+no_more earlier variables e = rw append-nil (sym (same_Ok earlier variables e))
 
 values_sound : (earlier : List Variable) (names : List (List ℕ)) (d : Data) (variables : List Variable) → values_after earlier names d ≡ Ok variables → After earlier names d variables
 unfolding values_after
@@ -55,9 +56,9 @@ unfolding variables_in
 variables_reads = record {
   sound = λ d x e. (
       let a = bind_ok _ _ x e in
-      let b = values_sound [] predefined d x a.2 in
-      record { known = only_keys_sound _ d a.0 a.1; values = subst (HasValues predefined d) (sym b.1) b.2 });
-  complete = λ d x p. rw (only_keys_complete _ d p.known) (values_complete [] predefined d x p.values);
+      let b = values_sound [] names_of_predefined d x a.2 in
+      record { known = only_keys_sound _ d a.0 a.1; values = subst (HasValues names_of_predefined d) (sym b.1) b.2 });
+  complete = λ d x p. rw (only_keys_complete _ d p.known) (values_complete [] names_of_predefined d x p.values);
 }
 
 pub run_reads : Reads run_in IsRun
@@ -74,7 +75,7 @@ run_reads =
           let r = bind_ok _ _ x t.2 in
           let i = bind_ok _ _ x r.2 in
           let s = bind_ok _ _ x i.2 in
-          subst (IsRun d) (ok_is _ x s.2) (record {
+          subst (IsRun d) (same_Ok _ x s.2) (record {
             known = only_keys_sound _ d a.0 a.1;
             turn_us = turn.sound d t.0 t.1;
             retry = retry.sound d r.0 r.1;

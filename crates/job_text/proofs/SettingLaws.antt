@@ -13,7 +13,7 @@ use Rattle.target_machine.specs.declared.unit.Variable.{Variable}
 use Rattle.job_text.specs.declared.job.Job.{Job}
 use Rattle.job_text.specs.declared.job.WatchItem.{WatchItem}
 use Rattle.job_text.specs.RunReading.{zeros, default_settings}
-use Rattle.function_table.specs.Variables.{predefined}
+use Rattle.function_table.specs.Variables.{names_of_predefined}
 use Rattle.job_text.specs.RunForm.{HasValues, AreVariables, IsRun}
 use Rattle.job_text.specs.JobForm.{IsWatchItem, IsEntryOf, IsJob}
 use Rattle.job_text.specs.Ranges.{AreSettings, IsWatched, AreWatched, AreEntryTexts}
@@ -32,7 +32,7 @@ run_settings d x is =
     record {
       some = turn.0;
       few = turn.1;
-      names = or_default (codes "variables") AreVariables zeros d x.start (λ vs. map (λ variable. variable.name) vs ≡ predefined) (λ v vs h. names-values predefined v vs h.values) refl is.start;
+      names = or_default (codes "variables") AreVariables zeros d x.start (λ vs. map (λ variable. variable.name) vs ≡ names_of_predefined) (λ v vs h. names-values names_of_predefined v vs h.values) refl is.start;
     }
 
 pub settings_in_range : (d : Data) (job : Job) → IsJob d job → AreSettings job.settings

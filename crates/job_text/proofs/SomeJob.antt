@@ -11,7 +11,7 @@ use Rattle.json_form.specs.Faults.{IsDecided, IsValueFault}
 use Rattle.json_form.specs.Reading.{number, such, never, repeats_by}
 use Rattle.json_form.proofs.FaultLaws.{bind_decided, cond_decided, text_decided, flag_decided, choice_decided, number_decided, such_decided, only_keys_decided, required_decided, optional_decided, or_else_decided, list_decided}
 use Rattle.device_tree.proofs.FaultLaws.{pack_decided}
-use Rattle.function_table.specs.Variables.{predefined}
+use Rattle.function_table.specs.Variables.{names_of_predefined}
 use Rattle.target_machine.specs.declared.job.RegionJob.{RegionJob}
 use Rattle.target_machine.specs.declared.job.WordJob.{WordJob}
 use Rattle.target_machine.specs.declared.unit.Variable.{Variable}
@@ -39,7 +39,7 @@ values_decided earlier (name ∷ names) d = bind_decided (variable_in name d) _ 
 
 variables_decided : (d : Data) → IsDecided (variables_in d)
 unfolding variables_in
-variables_decided d = bind_decided _ _ (only_keys_decided _ d) (λ known. values_decided [] predefined d)
+variables_decided d = bind_decided _ _ (only_keys_decided _ d) (λ known. values_decided [] names_of_predefined d)
 
 run_decided : (d : Data) → IsDecided (run_in d)
 unfolding run_in

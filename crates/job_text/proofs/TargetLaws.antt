@@ -1,10 +1,11 @@
 -- Reading a bench gives exactly the bench that the value stands for.
 use Rattle.std.proofs.Common.{◌≡◌, ℕ, ◌-◌, ◌^◌, codes, Bool, true, false, cond, List, [], Some, Ok, Err, refl, subst}
+use Rattle.dap_base.proofs.Basics.{same_Ok}
 use Rattle.serde_json.specs.Data.{Data}
 use Rattle.json_form.specs.declared.fault.JobFault.TheVariants.{Missing}
 use Rattle.json_form.specs.Reading.{such, list_of, alone, never, repeats_by}
 use Rattle.json_form.specs.Form.{IsFlag, IsChoice, IsNumber, Such, Has, HasOr, IsListOf, Alone}
-use Rattle.json_form.proofs.ReadingLaws.{Reads, done, bind_ok, ok_is}
+use Rattle.json_form.proofs.ReadingLaws.{Reads, done, bind_ok}
 use Rattle.json_form.proofs.LeafLaws.{flag_reads, choice_reads, number_reads, such_reads}
 use Rattle.json_form.proofs.ObjectLaws.{only_keys_sound, only_keys_complete, required_reads, or_else_reads}
 use Rattle.json_form.proofs.ListLaws.{list_reads, alone_reads}
@@ -42,7 +43,7 @@ ap_reads =
           let b = bind_ok _ _ x i.2 in
           let c = bind_ok _ _ x b.2 in
           let l = bind_ok _ _ x c.2 in
-          subst (IsAp d) (ok_is _ x l.2) (record {
+          subst (IsAp d) (same_Ok _ x l.2) (record {
             known = only_keys_sound _ d a.0 a.1;
             ap = ap_law.sound d n.0 n.1;
             idr = idr.sound d i.0 i.1;
@@ -71,7 +72,7 @@ region_reads earlier =
           let b = bind_ok _ _ x a.2 in
           let c = bind_ok _ _ x b.2 in
           let k = bind_ok _ _ x c.2 in
-          subst (IsRegionAfter earlier d) (ok_is _ x k.2) (record {
+          subst (IsRegionAfter earlier d) (same_Ok _ x k.2) (record {
             known = only_keys_sound _ d a.0 a.1;
             address = address.sound d b.0 b.1;
             length = (required_reads (codes "length") _ _ (such_reads (is_length_after earlier b.0) _ _ (number_reads 4 4194304))).sound d c.0 c.1;
@@ -95,7 +96,7 @@ word_job_reads regions =
           let a = bind_ok _ _ x e in
           let b = bind_ok _ _ x a.2 in
           let c = bind_ok _ _ x b.2 in
-          subst (IsWordJob regions d) (ok_is _ x c.2) (record {
+          subst (IsWordJob regions d) (same_Ok _ x c.2) (record {
             known = only_keys_sound _ d a.0 a.1;
             address = address.sound d b.0 b.1;
             value = value.sound d c.0 c.1;
@@ -129,7 +130,7 @@ script_reads regions =
           let a = bind_ok _ _ x e in
           let b = bind_ok _ _ x a.2 in
           let c = bind_ok _ _ x b.2 in
-          subst (IsScriptJob regions d) (ok_is _ x c.2) (record {
+          subst (IsScriptJob regions d) (same_Ok _ x c.2) (record {
             known = only_keys_sound _ d a.0 a.1;
             address = address.sound d b.0 b.1;
             values = values.sound d c.0 c.1;
@@ -164,7 +165,7 @@ port_reads =
           let c = bind_ok _ _ x b.2 in
           let p = bind_ok _ _ x c.2 in
           let k = bind_ok _ _ x p.2 in
-          subst (HasPort d) (ok_is _ x k.2) (record {
+          subst (HasPort d) (same_Ok _ x k.2) (record {
             dpidr = dpidr.sound d a.0 a.1;
             powered = powered.sound d b.0 b.1;
             power_reads = power_reads_reads.sound d c.0 c.1;
@@ -221,7 +222,7 @@ target_reads = record {
       let s = bind_ok _ _ x w.2 in
       let r = bind_ok _ _ x s.2 in
       let port = port_reads.sound d o.0 o.1 in
-      subst (IsTarget d) (ok_is _ x r.2) (record {
+      subst (IsTarget d) (same_Ok _ x r.2) (record {
         known = only_keys_sound _ d a.0 a.1;
         dpidr = port.dpidr;
         powered = port.powered;
@@ -265,7 +266,7 @@ limits_reads = record {
   sound = λ d x e. (
       let a = bind_ok _ _ x e in
       let b = bind_ok _ _ x a.2 in
-      subst (HasLimits d) (ok_is _ x b.2) (record { packet_size = packet_size_reads.sound d a.0 a.1; packet_count = packet_count_reads.sound d b.0 b.1 }));
+      subst (HasLimits d) (same_Ok _ x b.2) (record { packet_size = packet_size_reads.sound d a.0 a.1; packet_count = packet_count_reads.sound d b.0 b.1 }));
   complete = λ d x p. rw (packet_size_reads.complete d x.packet_size p.packet_size, packet_count_reads.complete d x.packet_count p.packet_count) refl;
 }
 
@@ -281,7 +282,7 @@ bench_reads =
           let s = bind_ok _ _ x l.2 in
           let t = bind_ok _ _ x s.2 in
           let limits = limits_reads.sound d l.0 l.1 in
-          subst (IsBench d) (ok_is _ x t.2) (record {
+          subst (IsBench d) (same_Ok _ x t.2) (record {
             known = only_keys_sound _ d a.0 a.1;
             packet_size = limits.packet_size;
             packet_count = limits.packet_count;

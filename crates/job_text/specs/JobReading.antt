@@ -4,7 +4,7 @@ use Rattle.serde_json.specs.Data.{Data}
 use Rattle.json_form.specs.declared.fault.JobFault.{JobFault}
 use Rattle.json_form.specs.declared.fault.JobFault.TheVariants.{WrongKind}
 use Rattle.dap_base.specs.Outcome.{◌>>=◌}
-use Rattle.json_form.specs.Reading.{text, number, such, only_keys, required, optional, or_else, list_of, alone, never}
+use Rattle.json_form.specs.Reading.{text, number, such, only_keys, required_value, optional, or_else, list_of, alone, never}
 use Rattle.device_tree.specs.PackReading.{pack_in}
 use Rattle.target_machine.specs.declared.job.RegionJob.{RegionJob}
 use Rattle.trace_audit.specs.Texts.{is_entry_text}
@@ -21,8 +21,8 @@ use Rattle.job_text.specs.TargetReading.{address_number, bench_in}
 unfoldable pub watch_item_in : List RegionJob → Data → Result WatchItem JobFault
 watch_item_in regions d = do
   known ← only_keys watch_keys d
-  address ← required (codes "address") (such is_aligned address_number) d
-  words ← required (codes "words") (such (are_words_in regions address) (number 1 65536)) d
+  address ← required_value (codes "address") (such is_aligned address_number) d
+  words ← required_value (codes "words") (such (are_words_in regions address) (number 1 65536)) d
   Ok (record { address = address; words = words })
 
 -- the value of `watch`: at most 1,024 watched stretches, none where the key is absent
@@ -34,7 +34,7 @@ unfoldable pub image_job_in : Data → Result ImageJob JobFault
 image_job_in d = do
   known ← only_keys image_keys d
   ap ← or_else (codes "ap") (number 0 255) 0 d
-  hex ← required (codes "hex") text d
+  hex ← required_value (codes "hex") text d
   Ok (record { ap = ap; hex = hex })
 
 -- the image of memory, where the job has the key `image`
@@ -68,8 +68,8 @@ optional_in regions d = do
 unfoldable pub job_in : Data → Result JobParts JobFault
 job_in d = do
   known ← only_keys job_keys d
-  pack ← required (codes "pack") pack_in d
+  pack ← required_value (codes "pack") pack_in d
   settings ← or_else (codes "run") run_in default_settings d
-  bench ← required (codes "bench") bench_in d
+  bench ← required_value (codes "bench") bench_in d
   own ← optional_in bench.target.memory d
   Ok (record { pack = pack; settings = settings; bench = bench; watch = own.watch; image = own.image; dbgconf = own.dbgconf; trace = own.trace })

@@ -4,7 +4,7 @@ use Rattle.std.specs.List.{All}
 use Rattle.target_machine.specs.declared.job.RegionJob.{RegionJob}
 use Rattle.target_machine.specs.declared.unit.Settings.{Settings}
 use Rattle.job_text.specs.declared.job.WatchItem.{WatchItem}
-use Rattle.function_table.specs.Variables.{predefined}
+use Rattle.function_table.specs.Variables.{names_of_predefined}
 use Rattle.trace_audit.specs.Texts.{IsEntry}
 use Rattle.job_text.specs.Tests.{are_words_in}
 
@@ -12,7 +12,7 @@ use Rattle.job_text.specs.Tests.{are_words_in}
 pub record AreSettings (settings : Settings) : Type 0 where
   pub some : 1 ≤ settings.turn_us
   pub few : settings.turn_us ≤ 60000000
-  pub names : map (λ variable. variable.name) settings.start ≡ predefined
+  pub names : map (λ variable. variable.name) settings.start ≡ names_of_predefined
 
 -- 1 to 65,536 words, each in one of the regions
 pub record IsWatched (regions : List RegionJob) (item : WatchItem) : Type 0 where

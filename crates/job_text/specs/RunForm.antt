@@ -2,7 +2,7 @@
 use Rattle.std.specs.Prelude.{◌≡◌, ℕ, ◌-◌, ◌^◌, codes, List, [], ◌∷◌}
 use Rattle.serde_json.specs.Data.{Data}
 use Rattle.json_form.specs.Form.{IsNumber, HasOnly, HasOr}
-use Rattle.function_table.specs.Variables.{predefined}
+use Rattle.function_table.specs.Variables.{names_of_predefined}
 use Rattle.target_machine.specs.declared.unit.Variable.{Variable}
 use Rattle.target_machine.specs.declared.unit.Settings.{Settings}
 use Rattle.job_text.specs.RunReading.{with_value, zeros}
@@ -15,8 +15,8 @@ HasValues (name ∷ names) d variables =
 
 -- the value of `variables` has no keys other than the predefined variables, which start at its numbers, or at 0
 pub record AreVariables (d : Data) (variables : List Variable) : Type 0 where
-  pub known : HasOnly predefined d
-  pub values : HasValues predefined d variables
+  pub known : HasOnly names_of_predefined d
+  pub values : HasValues names_of_predefined d variables
 
 -- the value of `run` stands for the settings: each key has its number, or its default where it is absent
 pub record IsRun (d : Data) (settings : Settings) : Type 0 where

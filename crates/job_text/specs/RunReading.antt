@@ -6,7 +6,7 @@ use Rattle.dap_base.specs.Outcome.{◌>>=◌}
 use Rattle.json_form.specs.Reading.{number, only_keys, or_else}
 use Rattle.target_machine.specs.declared.unit.Variable.{Variable}
 use Rattle.target_machine.specs.declared.unit.Settings.{Settings}
-use Rattle.function_table.specs.Variables.{predefined}
+use Rattle.function_table.specs.Variables.{names_of_predefined}
 use Rattle.job_text.specs.Keys.{run_keys}
 
 -- the variable of this name starts at this value
@@ -29,12 +29,12 @@ values_after earlier (name ∷ names) d = do
 -- the value of `variables`: a starting value for each predefined variable, in their order
 unfoldable pub variables_in : Data → Result (List Variable) JobFault
 variables_in d = do
-  known ← only_keys predefined d
-  values_after [] predefined d
+  known ← only_keys names_of_predefined d
+  values_after [] names_of_predefined d
 
 -- each predefined variable at 0
 abbrev pub zeros : List Variable
-zeros = map (with_value 0) predefined
+zeros = map (with_value 0) names_of_predefined
 
 -- the value of `run`: how sequences are run
 unfoldable pub run_in : Data → Result Settings JobFault

@@ -4,7 +4,7 @@ use Rattle.serde_json.specs.Data.{Data}
 use Rattle.json_form.specs.declared.fault.JobFault.{JobFault}
 use Rattle.json_form.specs.declared.fault.JobFault.TheVariants.{Missing}
 use Rattle.dap_base.specs.Outcome.{◌>>=◌}
-use Rattle.json_form.specs.Reading.{flag, one_of_two, number, such, only_keys, required, or_else, list_of, alone, never, repeats_by}
+use Rattle.json_form.specs.Reading.{flag, one_of_two, number, such, only_keys, required_value, or_else, list_of, alone, never, repeats_by}
 use Rattle.target_machine.specs.declared.job.ApJob.{ApJob}
 use Rattle.target_machine.specs.declared.job.RegionJob.{RegionJob}
 use Rattle.target_machine.specs.declared.job.WordJob.{WordJob}
@@ -28,7 +28,7 @@ address_number = number 0 (2 ^ 64 - 1)
 unfoldable pub ap_in : Data → Result ApJob JobFault
 ap_in d = do
   known ← only_keys ap_keys d
-  ap ← required (codes "ap") (number 0 255) d
+  ap ← required_value (codes "ap") (number 0 255) d
   idr ← or_else (codes "idr") word_number 0x24770011 d
   base ← or_else (codes "base") word_number 0xE00FF003 d
   csw ← or_else (codes "csw") word_number 0 d
@@ -39,8 +39,8 @@ ap_in d = do
 unfoldable pub region_in : List RegionJob → Data → Result RegionJob JobFault
 region_in earlier d = do
   known ← only_keys region_keys d
-  address ← required (codes "address") (such is_aligned address_number) d
-  length ← required (codes "length") (such (is_length_after earlier address) (number 4 4194304)) d
+  address ← required_value (codes "address") (such is_aligned address_number) d
+  length ← required_value (codes "length") (such (is_length_after earlier address) (number 4 4194304)) d
   read_only ← or_else (codes "kind") (one_of_two (codes "rw") (codes "ro")) false d
   Ok (record { address = address; length = length; read_only = read_only })
 
@@ -48,8 +48,8 @@ region_in earlier d = do
 unfoldable pub word_in : List RegionJob → Data → Result WordJob JobFault
 word_in regions d = do
   known ← only_keys word_keys d
-  address ← required (codes "address") (such (is_word_in regions) address_number) d
-  value ← required (codes "value") word_number d
+  address ← required_value (codes "address") (such (is_word_in regions) address_number) d
+  value ← required_value (codes "value") word_number d
   Ok (record { address = address; value = value })
 
 -- a list of values that is not empty
@@ -62,8 +62,8 @@ values_in d = do
 unfoldable pub script_in : List RegionJob → Data → Result ScriptJob JobFault
 script_in regions d = do
   known ← only_keys script_keys d
-  address ← required (codes "address") (such (is_word_in regions) address_number) d
-  values ← required (codes "values") values_in d
+  address ← required_value (codes "address") (such (is_word_in regions) address_number) d
+  values ← required_value (codes "values") values_in d
   Ok (record { address = address; values = values })
 
 -- the value of `power_reads`: how many reads of CTRL/STAT after a power request show no acknowledgement
@@ -82,11 +82,11 @@ port_in d = do
 
 -- the value of `aps`: at most 16 access ports of different numbers
 unfoldable pub aps_in : Data → Result (List ApJob) JobFault
-aps_in d = required (codes "aps") (list_of (Some 16) (alone ap_in) (repeats_by same_ap)) d
+aps_in d = required_value (codes "aps") (list_of (Some 16) (alone ap_in) (repeats_by same_ap)) d
 
 -- the value of `memory`: at most 64 regions, none of which overlap
 unfoldable pub regions_in : Data → Result (List RegionJob) JobFault
-regions_in d = required (codes "memory") (list_of (Some 64) region_in (repeats_by overlap)) d
+regions_in d = required_value (codes "memory") (list_of (Some 64) region_in (repeats_by overlap)) d
 
 -- the words of a member, `words` or `reset`
 unfoldable pub words_in : List ℕ → ℕ → List RegionJob → Data → Result (List WordJob) JobFault
@@ -129,11 +129,11 @@ target_in d = do
 
 -- the value of `packet_size`: the bytes of a packet
 unfoldable pub packet_size_in : Data → Result ℕ JobFault
-packet_size_in d = required (codes "packet_size") (number 64 1024) d
+packet_size_in d = required_value (codes "packet_size") (number 64 1024) d
 
 -- the value of `packet_count`: how many packets the probe takes before a reply is read
 unfoldable pub packet_count_in : Data → Result ℕ JobFault
-packet_count_in d = required (codes "packet_count") (number 1 64) d
+packet_count_in d = required_value (codes "packet_count") (number 1 64) d
 
 -- the limits of the probe: the bytes of a packet, and the number of packets
 unfoldable pub limits_in : Data → Result Limits JobFault
@@ -148,5 +148,5 @@ bench_in d = do
   known ← only_keys bench_keys d
   limits ← limits_in d
   stalls ← or_else (codes "stalls") (list_of (Some 65536) (alone (number 0 100000)) never) [] d
-  target ← required (codes "target") target_in d
+  target ← required_value (codes "target") target_in d
   Ok (record { limits = limits; stalls = stalls; target = target })

@@ -3,7 +3,7 @@ ghost use Rattle.std.specs.Prelude.{◌≡◌, [], codes, map, IfOk};
 ghost use Rattle.serde_json.specs.View.{view};
 ghost use Rattle.json_form.specs.Faults.{Gives};
 ghost use Rattle.json_form.specs.Reading.{or_else, only_keys};
-ghost use Rattle.function_table.specs.Variables.{predefined};
+ghost use Rattle.function_table.specs.Variables.{names_of_predefined};
 ghost use Rattle.job_text.specs.RunReading.{with_value, zeros, variable_in, values_after, variables_in, run_in, default_settings};
 
 use dap_base::{ItemList, NameText, OutOfMemory};
@@ -57,14 +57,14 @@ fn values_of(alloc: Global, value: &Value, names: &[&str]) -> Result<Variables, 
 
 // That the value has no other keys than the names of the predefined variables.
 fn only_predefined(alloc: Global, value: &Value) -> Result<(), JobFault>
-    ensures { Gives result (only_keys predefined (view value.now)) }
+    ensures { Gives result (only_keys names_of_predefined (view value.now)) }
 {
     only_keys_of(alloc, value, &PREDEFINED)
 }
 
 // A value for each predefined variable, in their order.
 fn predefined_of(alloc: Global, value: &Value) -> Result<Variables, JobFault>
-    ensures { Gives result (values_after [] predefined (view value.now)) }
+    ensures { Gives result (values_after [] names_of_predefined (view value.now)) }
 {
     values_of(alloc, value, &PREDEFINED)
 }

@@ -13,7 +13,7 @@ use Rattle.json_form.specs.declared.path.PathStep.TheVariants.{Key, Index}
 use Rattle.json_form.specs.Faults.{at, fault_at, IsValueFault, IsDecided}
 use Rattle.dap_base.specs.Outcome.{◌>>=◌}
 use Rattle.json_form.specs.Names.{names, least_unknown}
-use Rattle.json_form.specs.Reading.{text, flag, one_of_two, any_number, number, such, only_keys, required, some_of, optional, or_else, item_after, items_after, items_len, has_room, list_of, alone}
+use Rattle.json_form.specs.Reading.{text, flag, one_of_two, any_number, number, such, only_keys, required_value, some_of, optional, or_else, item_after, items_after, items_len, has_room, list_of, alone}
 
 -- ---- steps of a reading
 
@@ -79,8 +79,8 @@ pub only_keys_decided : (known : List (List ℕ)) (d : Data) → IsDecided (only
 unfolding only_keys
 only_keys_decided known d = map_or_decided _ (as_object d) _ (λ members. map_or_decided _ (least_unknown known (names members)) _ (λ name. tt) tt) tt
 
-pub required_decided : {A : Type 0} (key : List ℕ) (reads : Data → Result A JobFault) → ((d : Data) → IsDecided (reads d)) → (d : Data) → IsDecided (required key reads d)
-unfolding required
+pub required_decided : {A : Type 0} (key : List ℕ) (reads : Data → Result A JobFault) → ((d : Data) → IsDecided (reads d)) → (d : Data) → IsDecided (required_value key reads d)
+unfolding required_value
 required_decided key reads law d = map_or_decided _ (get key d) _ (λ v. at_decided (Key key) (reads v) (law v)) tt
 
 some_decided : {A : Type 0} (r : Result A JobFault) → IsDecided r → IsDecided (some_of r)

@@ -8,7 +8,7 @@ use Rattle.json_form.specs.declared.fault.JobFault.TheVariants.{Missing, Unknown
 use Rattle.json_form.specs.declared.path.PathStep.TheVariants.{Key}
 use Rattle.json_form.specs.Faults.{at}
 use Rattle.json_form.specs.Names.{names, is_among, lesser, least_unknown}
-use Rattle.json_form.specs.Reading.{only_keys, required, optional, or_else, some_of}
+use Rattle.json_form.specs.Reading.{only_keys, required_value, optional, or_else, some_of}
 use Rattle.json_form.specs.Form.{NamesAmong, HasOnly, Has, HasOr, MayHave}
 use Rattle.json_form.proofs.ReadingLaws.{Reads, done, at_ok}
 
@@ -18,8 +18,8 @@ required_at : {A : Type 0} (key : List ℕ) (reads : Data → Result A JobFault)
 required_at key reads None x e = absurd cc
 required_at key reads (Some v) x e = (v, refl, at_ok (Key key) (reads v) x e)
 
-pub required_reads : {A : Type 0} (key : List ℕ) (reads : Data → Result A JobFault) (R : Data → A → Type 0) → Reads reads R → Reads (required key reads) (Has key R)
-unfolding required
+pub required_reads : {A : Type 0} (key : List ℕ) (reads : Data → Result A JobFault) (R : Data → A → Type 0) → Reads reads R → Reads (required_value key reads) (Has key R)
+unfolding required_value
 required_reads key reads R law = record {
   sound = λ d x e. (let a = required_at key reads (get key d) x e in (a.0, a.1, law.sound a.0 x a.2));
   complete = λ d x p. rw (p.1, law.complete p.0 x p.2) refl;

@@ -34,9 +34,6 @@ pub bind_ok : {A B : Type 0} (r : Result A JobFault) (next : A → Result B JobF
 bind_ok (Ok x) next y e = (x, refl, e)
 bind_ok (Err fault) next y e = absurd cc
 
-pub ok_is : {A : Type 0} (x y : A) → done x ≡ done y → x ≡ y
-ok_is x y e = cc
-
 pub at_ok : {A : Type 0} (step : PathStep) (r : Result A JobFault) (y : A) → at step r ≡ Ok y → r ≡ Ok y
 at_ok step (Ok x) y e = e
 at_ok step (Err fault) y e = absurd cc

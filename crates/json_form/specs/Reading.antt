@@ -54,8 +54,8 @@ only_keys known d =
     option_map_or (λ members. option_map_or (λ name. Err (UnknownKey (Key name ∷ []))) (least_unknown known (names members)) (Ok tt)) (as_object d) (Err (WrongKind []))
 
 -- the value of a key that the object has to have; without the key it is `Missing`
-unfoldable pub required : {A : Type 0} → List ℕ → (Data → Result A JobFault) → Data → Result A JobFault
-required key reads d = option_map_or (λ v. at (Key key) (reads v)) (get key d) (Err (Missing (Key key ∷ [])))
+unfoldable pub required_value : {A : Type 0} → List ℕ → (Data → Result A JobFault) → Data → Result A JobFault
+required_value key reads d = option_map_or (λ v. at (Key key) (reads v)) (get key d) (Err (Missing (Key key ∷ [])))
 
 -- what a key that is there reads as, as the value of a key that may be absent
 abbrev pub some_of : {A : Type 0} → Result A JobFault → Result (Option A) JobFault

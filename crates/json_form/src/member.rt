@@ -2,7 +2,7 @@
 ghost use Rattle.std.specs.Prelude.{◌≡◌};
 ghost use Rattle.serde_json.specs.View.{view};
 ghost use Rattle.json_form.specs.Faults.{Gives, at};
-ghost use Rattle.json_form.specs.Reading.{required, optional, or_else};
+ghost use Rattle.json_form.specs.Reading.{required_value, optional, or_else};
 ghost use Rattle.json_form.specs.declared.path.PathStep.TheVariants.{Key};
 
 use crate::fault::JobFault;
@@ -26,14 +26,14 @@ fn member_of<R: Reader>(
 }
 
 /// A member that has to be there. `Missing` where it is not.
-#[tactic(auto, unfolding(crate::specs::Reading::required))]
+#[tactic(auto, unfolding(crate::specs::Reading::required_value))]
 pub fn required_of<R: Reader>(
     alloc: Global,
     object: &Value,
     key: &str,
     reader: &R,
 ) -> Result<R::Item, JobFault>
-    ensures { Gives result (required key.now (R.reads reader.now) (view object.now)) }
+    ensures { Gives result (required_value key.now (R.reads reader.now) (view object.now)) }
 {
     match object.get(key) {
         Some(member) => member_of(alloc, member, key, reader),

@@ -7,7 +7,7 @@ use Rattle.expr_grammar.specs.declared.code.BinaryOp.TheVariants as b
 use Rattle.expr_grammar.specs.Tree as t
 use Rattle.expr_grammar.specs.Tree.{Tree, ArgTree, ArgTrees, StmtTree}
 use Rattle.text_lines.specs.Hex.{hex}
-use Rattle.text_lines.specs.Shown.{shown}
+use Rattle.text_lines.specs.Shown.{shown_text}
 
 -- an operator before its operand
 abbrev pub unary_mark : UnaryOp → List ℕ
@@ -60,7 +60,7 @@ unfoldable mutual
   -- an argument
   pub arg_text : ArgTree → List ℕ
   arg_text (t.ExprArg at e) = expr_text e
-  arg_text (t.TextArg a) = codes "\"" ++ shown a.text ++ codes "\""
+  arg_text (t.TextArg a) = codes "\"" ++ shown_text a.text ++ codes "\""
 
   -- arguments, with commas between them
   pub args_text : Bool → ArgTrees → List ℕ

@@ -1,7 +1,7 @@
 -- Events as lines of text.
 use Rattle.std.specs.Prelude.{ℕ, zero, suc, ◌+◌, ◌-◌, nat_eq, List, [], ◌++◌, fold, codes, decimal, if◌then◌else◌}
 use Rattle.text_lines.specs.Hex.{hex}
-use Rattle.text_lines.specs.Shown.{shown}
+use Rattle.text_lines.specs.Shown.{shown_text}
 use Rattle.run_events.specs.Events.{Event, Begins, Tests, Chooses, Loops, Turns, Finds, Leaves, TimesOut, Matches, Assigns, Makes, Writes, Calls, Returns}
 use Rattle.log_lines.specs.CodeText.{expr_text, stmt_text}
 use Rattle.log_lines.specs.Places.{spot_words}
@@ -42,7 +42,7 @@ event_line depth (Matches spot) = below_line depth (codes "matched")
 event_line depth (Assigns name n) = below_line depth (name ++ codes " = " ++ hex n)
 event_line depth (Makes u) = below_line depth (made_text u)
 event_line depth (Writes line) = margin depth ++ codes "  " ++ line
-event_line depth (Calls name) = below_line depth (codes "call " ++ shown name)
+event_line depth (Calls name) = below_line depth (codes "call " ++ shown_text name)
 event_line depth Returns = below_line (depth - 1) (codes "return")
 
 -- how deep the sequence is after an event

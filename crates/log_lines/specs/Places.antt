@@ -4,12 +4,12 @@ use Rattle.dap_base.specs.declared.text.Place.{Place}
 use Rattle.sequence_trees.specs.declared.spot.Part.{Part}
 use Rattle.sequence_trees.specs.declared.spot.Part.TheVariants as parts
 use Rattle.sequence_trees.specs.declared.spot.Spot.{Spot}
-use Rattle.text_lines.specs.Shown.{shown, dotted}
+use Rattle.text_lines.specs.Shown.{shown_text, dotted_numbers}
 
 -- the sequence and the path of a step; the debug variables have none
 abbrev pub step_place_words : Option (List ℕ) → List ℕ → List ℕ
 step_place_words None path = []
-step_place_words (Some name) path = shown name ++ codes " " ++ dotted path ++ codes " "
+step_place_words (Some name) path = shown_text name ++ codes " " ++ dotted_numbers path ++ codes " "
 
 -- a part of a step
 abbrev pub part_word : Part → List ℕ

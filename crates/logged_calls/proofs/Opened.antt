@@ -1,15 +1,15 @@
 -- Definitions that the proofs of a function open together: each name here stands for those on its line.
-use Rattle.sequence_rules.specs.Calls.{abort, abort_at, answered, ask, command, function_result, if_read, line_result, low_and_high, memory_at, numbered, one_unit, or_halt, second_half, use_now, zero_of}
-use Rattle.sequence_rules.specs.Direct.{direct, made}
+use Rattle.sequence_rules.specs.Calls.{abort, abort_at, counted_answer, ask, command, function_result, if_read, line_result, low_and_high, memory_at, counted_number, one_unit, or_halt, second_half, use_now, zero_of}
+use Rattle.sequence_rules.specs.Direct.{direct, made_call}
 
 -- an access as a unit
 unfoldable pub units : Unit {0}
-unfolding ask answered direct made
+unfolding ask counted_answer direct made_call
 units = tt
 
 -- a command of the probe as a unit
 unfoldable pub commands : Unit {0}
-unfolding command numbered direct made
+unfolding command counted_number direct made_call
 commands = tt
 
 -- what a unit answers

@@ -9,7 +9,7 @@ use Rattle.direct_calls.specs.declared.made.Made.{Made}
 use Rattle.direct_calls.specs.declared.made.Made.TheVariants as made
 use Rattle.sequence_trees.specs.declared.spot.Spot.{Spot}
 use Rattle.target_calls.specs.declared.calls.Ask.{Ask}
-use Rattle.target_machine.specs.Plain.{Action, CallEnd, Answered, Skipped, Faulted, Small, call_done, call_actions, ended, given, in_order, is_fault, is_small, issued, large_after, result_of}
+use Rattle.target_machine.specs.Plain.{Action, CallEnd, Answered, Skipped, Faulted, Small, call_done, call_actions, ended_call, given_number, in_order, is_fault, is_small, issued_actions, large_after, result_of}
 use Rattle.target_machine.specs.State.{TargetState}
 use Rattle.target_machine.specs.declared.unit.Call.{Call}
 use Rattle.sequence_rules.specs.Direct.{Now}
@@ -22,7 +22,7 @@ use Rattle.logged_calls.specs.Held.{Noted, SeenAsPoll}
 use Rattle.logged_calls.proofs.NotedLemmas.{all_on, between_is, no_units, noted_none, noted_one}
 
 -- a call that forgives nothing is not skipped
-over : (faulted small : Bool) (n : ℕ) (t : TargetState) (large : List ℕ) (actions : List Action) → (ended faulted false small n t large actions).end ≡ Skipped → ⊥
+over : (faulted small : Bool) (n : ℕ) (t : TargetState) (large : List ℕ) (actions : List Action) → (ended_call faulted false small n t large actions).end ≡ Skipped → ⊥
 over true small n t large actions h = cc
 over false true n t large actions h = cc
 over false false n t large actions h = cc
@@ -30,7 +30,7 @@ over false false n t large actions h = cc
 not_skipped : (t : TargetState) (large : List ℕ) (forgive : Bool) (call : Call) → forgive ≡ false → (call_done t large forgive call).end ≡ Skipped → ⊥
 unfolding call_done
 not_skipped t large false call e h =
-    over (is_fault (in_order t (call_actions t large call)).outcome) (is_small t large call) (result_of call (given (in_order t (call_actions t large call)).outcome)) (in_order t (call_actions t large call)).next (large_after t large call) (issued t (call_actions t large call)) h
+    over (is_fault (in_order t (call_actions t large call)).outcome) (is_small t large call) (result_of call (given_number (in_order t (call_actions t large call)).outcome)) (in_order t (call_actions t large call)).next (large_after t large call) (issued_actions t (call_actions t large call)) h
 not_skipped t large true call e h = absurd cc
 
 units_one : (s r : State ℕ Now) (ask : Ask) (e : CallEnd) (u : TargetState) (large : List ℕ) → s.rest.world.answered ≡ None → r.rest.calls ≡ s.rest.calls ++ ask ∷ []

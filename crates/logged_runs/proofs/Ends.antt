@@ -6,20 +6,20 @@ use Rattle.expr_grammar.specs.declared.code.UnaryOp.{UnaryOp}
 use Rattle.expr_grammar.specs.Tree.{Tree, ArgTrees}
 use Rattle.function_table.specs.declared.function.Function.TheVariants.{Sequence}
 use Rattle.sequence_trees.specs.Trees.{CodeSteps}
-use Rattle.sequence_rules.specs.Calls.{guarded, use_now}
+use Rattle.sequence_rules.specs.Calls.{guarded_rest, use_now}
 use Rattle.sequence_rules.specs.Direct.{Now, direct}
 use Rattle.sequence_rules.specs.Machine.{State, Out, with_locals}
-use Rattle.sequence_rules.specs.Steps.{counted, after_counted, declared, dropped, inside, turn, condition, controlled, steps_result}
-use Rattle.sequence_rules.specs.Values.{used_now, of_unary, operands, strict_binary, truth_of, conjunction, disjunction, choice, assigned, stored, appended, numbers_of, call_result, call_of, value}
+use Rattle.sequence_rules.specs.Steps.{counted_step, after_counted, declared_variable, dropped_value, inside, turn, condition, control_result, steps_result}
+use Rattle.sequence_rules.specs.Values.{used_now, of_unary, operands, strict_binary, truth_of, conjunction, disjunction, choice, assigned_value, stored_value, appended_values, numbers_of, call_result, call_of, value}
 use Rattle.logged_calls.specs.Held.{CodeEndsAs, Means}
 use Rattle.logged_calls.specs.declared.held.LoggedEnd.{LoggedEnd}
 use Rattle.logged_calls.specs.declared.held.LoggedEnd.TheVariants as end
 use Rattle.logged_calls.specs.declared.held.Stopped.{Stopped}
-use Rattle.sequence_rules.specs.Variables.{bound, set_visible}
+use Rattle.sequence_rules.specs.Variables.{bound_variable, set_visible}
 use Rattle.sequence_rules.proofs.LoopLemmas as l
 use Rattle.logged_calls.proofs.EndLemmas.{ends_on}
 use Rattle.logged_runs.specs.declared.runner.LoggedRunner.{LoggedRunner}
-use Rattle.logged_runs.specs.Walk.{calls_in_walk, tested}
+use Rattle.logged_runs.specs.Walk.{calls_in_walk, tested_turn}
 
 abbrev S : Type 0
 S = State ℕ Now
@@ -84,52 +84,52 @@ module _ (runner : LoggedRunner) (depth : ℕ) where
   ends_condition e now s test h = ends_on e now _ _ (ends_used e now _ h)
 
   pub ends_control : (e : LoggedEnd) (now s : S) (o p : Option Tree) (timeout : Option ℕ) (steps : CodeSteps) → CodeEndsAs e now (condition (direct false) runner.turn_us (calls_in_walk runner depth) o s)
-      → CodeEndsAs e now (controlled (direct false) runner.turn_us (calls_in_walk runner depth) o p timeout steps (steps_result (direct false) runner.turn_us (calls_in_walk runner depth) steps) s)
-  unfolding controlled
+      → CodeEndsAs e now (control_result (direct false) runner.turn_us (calls_in_walk runner depth) o p timeout steps (steps_result (direct false) runner.turn_us (calls_in_walk runner depth) steps) s)
+  unfolding control_result
   ends_control e now s o p timeout steps h = ends_on e now _ _ h
 
-pub ends_assigned : (e : LoggedEnd) (now : S) (name : Name) (out : O ℕ) → CodeEndsAs e now out → CodeEndsAs e now (assigned (direct false) name out)
-unfolding assigned
+pub ends_assigned : (e : LoggedEnd) (now : S) (name : Name) (out : O ℕ) → CodeEndsAs e now out → CodeEndsAs e now (assigned_value (direct false) name out)
+unfolding assigned_value
 ends_assigned e now name out h = ends_on e now out _ h
 
-pub ends_appended : (e : LoggedEnd) (now : S) (got : List ℕ) (out : O ℕ) → CodeEndsAs e now out → CodeEndsAs e now (appended (direct false) got out)
-unfolding appended
+pub ends_appended : (e : LoggedEnd) (now : S) (got : List ℕ) (out : O ℕ) → CodeEndsAs e now out → CodeEndsAs e now (appended_values (direct false) got out)
+unfolding appended_values
 ends_appended e now got out h = ends_on e now out _ h
 
-pub ends_counted : (e : LoggedEnd) (now s : S) (rest : S → O (Unit {0})) → CodeEndsAs e now (counted (direct false) s) → CodeEndsAs e now (after_counted (direct false) rest s)
+pub ends_counted : (e : LoggedEnd) (now s : S) (rest : S → O (Unit {0})) → CodeEndsAs e now (counted_step (direct false) s) → CodeEndsAs e now (after_counted (direct false) rest s)
 unfolding after_counted
 ends_counted e now s rest h = ends_on e now _ _ h
 
-pub ends_after : (e : LoggedEnd) (now s r : S) (rest : S → O (Unit {0})) → counted (direct false) s ≡ Ok (tt, r) → CodeEndsAs e now (rest r) → CodeEndsAs e now (after_counted (direct false) rest s)
+pub ends_after : (e : LoggedEnd) (now s r : S) (rest : S → O (Unit {0})) → counted_step (direct false) s ≡ Ok (tt, r) → CodeEndsAs e now (rest r) → CodeEndsAs e now (after_counted (direct false) rest s)
 unfolding after_counted
 ends_after e now s r rest is h = rw is h
 
 module _ (runner : LoggedRunner) (depth : ℕ) (test : Tree) where
-  pub declare_value : (e : LoggedEnd) (now s r : S) (name : Name) → counted (direct false) s ≡ Ok (tt, r) → CodeEndsAs e now (value (direct false) (calls_in_walk runner depth) test r)
-      → CodeEndsAs e now (after_counted (direct false) (λ q. declared (direct false) name (value (direct false) (calls_in_walk runner depth) test q)) s)
-  unfolding declared
+  pub declare_value : (e : LoggedEnd) (now s r : S) (name : Name) → counted_step (direct false) s ≡ Ok (tt, r) → CodeEndsAs e now (value (direct false) (calls_in_walk runner depth) test r)
+      → CodeEndsAs e now (after_counted (direct false) (λ q. declared_variable (direct false) name (value (direct false) (calls_in_walk runner depth) test q)) s)
+  unfolding declared_variable
   declare_value e now s r name is h = ends_after e now s r _ is (ends_on e now (value (direct false) (calls_in_walk runner depth) test r) _ h)
 
-  pub plain_value : (e : LoggedEnd) (now s r : S) → counted (direct false) s ≡ Ok (tt, r) → CodeEndsAs e now (value (direct false) (calls_in_walk runner depth) test r)
-      → CodeEndsAs e now (after_counted (direct false) (λ q. dropped (direct false) (value (direct false) (calls_in_walk runner depth) test q)) s)
-  unfolding dropped
+  pub plain_value : (e : LoggedEnd) (now s r : S) → counted_step (direct false) s ≡ Ok (tt, r) → CodeEndsAs e now (value (direct false) (calls_in_walk runner depth) test r)
+      → CodeEndsAs e now (after_counted (direct false) (λ q. dropped_value (direct false) (value (direct false) (calls_in_walk runner depth) test q)) s)
+  unfolding dropped_value
   plain_value e now s r is h = ends_after e now s r _ is (ends_on e now (value (direct false) (calls_in_walk runner depth) test r) _ h)
 
 -- ---- turns
 
 module _ (test : S → O ℕ) (body : S → O (Unit {0})) where
-  pub ends_turn : (e : LoggedEnd) (now s : S) → CodeEndsAs e now (counted (direct false) s) → CodeEndsAs e now (turn (direct false) test body s)
+  pub ends_turn : (e : LoggedEnd) (now s : S) → CodeEndsAs e now (counted_step (direct false) s) → CodeEndsAs e now (turn (direct false) test body s)
   unfolding turn
   ends_turn e now s h = ends_on e now _ _ h
 
-  pub ends_tested : (e : LoggedEnd) (now s : S) → CodeEndsAs e now (test s) → CodeEndsAs e now (tested test body s)
+  pub ends_tested : (e : LoggedEnd) (now s : S) → CodeEndsAs e now (test s) → CodeEndsAs e now (tested_turn test body s)
   ends_tested e now s h = ends_on e now _ _ (ends_used e now _ h)
 
-  pub ends_body : (e : LoggedEnd) (now s r : S) (n : ℕ) → test s ≡ Ok (n, r) → nat_eq n 0 ≡ false → CodeEndsAs e now (body r) → CodeEndsAs e now (tested test body s)
+  pub ends_body : (e : LoggedEnd) (now s r : S) (n : ℕ) → test s ≡ Ok (n, r) → nat_eq n 0 ≡ false → CodeEndsAs e now (body r) → CodeEndsAs e now (tested_turn test body s)
   unfolding used_now use_now direct
   ends_body e now s r n is some h = rw (is, some) (ends_on e now _ _ h)
 
-  pub turn_is : (s r : S) → counted (direct false) s ≡ Ok (tt, r) → turn (direct false) test body s ≡ tested test body r
+  pub turn_is : (s r : S) → counted_step (direct false) s ≡ Ok (tt, r) → turn (direct false) test body s ≡ tested_turn test body r
   unfolding turn
   turn_is s r is = rw is refl
 
@@ -139,11 +139,11 @@ ends_inside e now s body h = ends_on e now _ _ h
 
 -- ---- what a part comes to
 
-pub assigned_on : (name : Name) (out : O ℕ) (n : ℕ) (r k q : S) → out ≡ Ok (n, r) → k ≡ set_visible name.text n r → q ≡ k → assigned (direct false) name out ≡ Ok (n, q)
-unfolding assigned stored guarded direct
+pub assigned_on : (name : Name) (out : O ℕ) (n : ℕ) (r k q : S) → out ≡ Ok (n, r) → k ≡ set_visible name.text n r → q ≡ k → assigned_value (direct false) name out ≡ Ok (n, q)
+unfolding assigned_value stored_value guarded_rest direct
 assigned_on name out n r k q is set same = rw is (ap (λ x. Ok (n, x)) (sym (same ∙ set)))
 
-pub declared_gives : (name : Name) (f : S → O ℕ) (s k r o q : S) (v : ℕ) (e : LoggedEnd) (result : Result (Unit {0}) Stopped) → counted (direct false) s ≡ Ok (tt, k) → f k ≡ Ok (v, r) → o ≡ with_locals r (r.locals ++ bound name.text v ∷ [])
-    → OnOk result (q ≡ o) → OnErr result (e ≡ end.OutOfMemory) → Means e result q (after_counted (direct false) (λ p. declared (direct false) name (f p)) s)
+pub declared_gives : (name : Name) (f : S → O ℕ) (s k r o q : S) (v : ℕ) (e : LoggedEnd) (result : Result (Unit {0}) Stopped) → counted_step (direct false) s ≡ Ok (tt, k) → f k ≡ Ok (v, r) → o ≡ with_locals r (r.locals ++ bound_variable name.text v ∷ [])
+    → OnOk result (q ≡ o) → OnErr result (e ≡ end.OutOfMemory) → Means e result q (after_counted (direct false) (λ p. declared_variable (direct false) name (f p)) s)
 declared_gives name f s k r o q v e (Ok x) is it so same none = l.declared_on (direct false) name f s k r o v is it so ∙ ap (λ y. Ok (tt, y)) (sym same)
-declared_gives name f s k r o q v e (Err stopped) is it so same none = subst (λ y. CodeEndsAs y q (after_counted (direct false) (λ p. declared (direct false) name (f p)) s)) (sym none) tt
+declared_gives name f s k r o q v e (Err stopped) is it so same none = subst (λ y. CodeEndsAs y q (after_counted (direct false) (λ p. declared_variable (direct false) name (f p)) s)) (sym none) tt

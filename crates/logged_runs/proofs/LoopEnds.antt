@@ -8,7 +8,7 @@ use Rattle.sequence_trees.specs.declared.steps.CheckedStep.{CheckedStep}
 use Rattle.sequence_trees.specs.Trees.{CodeSteps, NoSteps, step_tree, steps_tree, steps_named}
 use Rattle.sequence_rules.specs.Direct.{Now, direct}
 use Rattle.sequence_rules.specs.Machine.{State, Out, with_locals}
-use Rattle.sequence_rules.specs.Values.{argument, arguments, chained}
+use Rattle.sequence_rules.specs.Values.{argument, arguments, chained_values}
 use Rattle.sequence_rules.specs.Steps.{in_order, statement, block, step, steps_result, turn, turns, sequence_result}
 use Rattle.sequence_rules.proofs.LoopLemmas as l
 use Rattle.logged_calls.specs.Held.{CodeEndsAs, Means}
@@ -31,7 +31,7 @@ module _ (runner : LoggedRunner) (depth : ℕ) where
 
   pub args_fail : (total : O (List ℕ)) (xs : List Arg) (i : ℕ) (d : Arg) (got : List ℕ) (s r : S) (end : LoggedEnd) → total ≡ arguments (direct false) (calls_in_walk runner depth) (arg_trees (drop i xs)) got s → i < length xs
       → CodeEndsAs end r (argument (direct false) (calls_in_walk runner depth) (arg_tree (get_or xs i d)) got s) → CodeEndsAs end r total
-  unfolding chained
+  unfolding chained_values
   args_fail total xs i d got s r end same h is = rw (same ∙ l.args_more (direct false) (calls_in_walk runner depth) xs i d got s h) (ends_on end r (argument (direct false) (calls_in_walk runner depth) (arg_tree (get_or xs i d)) got s) _ is)
 
   pub args_over : (total : O (List ℕ)) (xs : List Arg) (i : ℕ) (got : List ℕ) (s : S) → total ≡ arguments (direct false) (calls_in_walk runner depth) (arg_trees (drop i xs)) got s → length xs ≤ i → total ≡ Ok (got, s)

@@ -1,15 +1,15 @@
 -- Definitions that the proofs of a function open together: each name here stands for those on its line, what is meant and what is seen.
-use Rattle.sequence_rules.specs.Calls.{given, guarded, missing, use_now}
+use Rattle.sequence_rules.specs.Calls.{value_or_missing, guarded_rest, missing, use_now}
 use Rattle.sequence_rules.specs.Direct.{direct}
-use Rattle.sequence_rules.specs.Steps.{after_counted, condition, declared, dropped, repeat_result, sequence_at}
-use Rattle.sequence_rules.specs.Values.{assigned, both, call_of, call_result, choice, conjunction, disjunction, named, numbers_of, of_unary, operands, result_of, stored, strict_binary, truth_of, used_now, value}
+use Rattle.sequence_rules.specs.Steps.{after_counted, condition, declared_variable, dropped_value, repeat_result, sequence_at}
+use Rattle.sequence_rules.specs.Values.{assigned_value, both, call_of, call_result, choice, conjunction, disjunction, named_value, numbers_of, of_unary, operands, result_of, stored_value, strict_binary, truth_of, used_now, value}
 use Rattle.run_events.specs.OfRuns.{sequence_events}
 use Rattle.run_events.specs.OfSteps.{condition_events, repeat_events, tested_events}
 use Rattle.run_events.specs.OfValues.{call_events, called_events, value_events}
 
 -- an expression, and a name in it
 unfoldable pub expressions : Unit {0}
-unfolding value named given missing direct value_events
+unfolding value named_value value_or_missing missing direct value_events
 expressions = tt
 
 -- an operator before its operand
@@ -39,12 +39,12 @@ choices = tt
 
 -- an assignment
 unfoldable pub assignments : Unit {0}
-unfolding assigned stored guarded direct
+unfolding assigned_value stored_value guarded_rest direct
 assignments = tt
 
 -- a call by its name
 unfoldable pub calls : Unit {0}
-unfolding call_of guarded numbers_of direct
+unfolding call_of guarded_rest numbers_of direct
 calls = tt
 
 -- a call by its function
@@ -69,7 +69,7 @@ conditions = tt
 
 -- the steps of a control, once or in turns
 unfoldable pub repeats : Unit {0}
-unfolding repeat_result given missing direct repeat_events
+unfolding repeat_result value_or_missing missing direct repeat_events
 repeats = tt
 
 -- a turn that was counted
@@ -79,10 +79,10 @@ tested_turns = tt
 
 -- a declaration
 unfoldable pub declarations : Unit {0}
-unfolding after_counted declared
+unfolding after_counted declared_variable
 declarations = tt
 
 -- an expression whose value is dropped
 unfoldable pub dropped_values : Unit {0}
-unfolding after_counted dropped
+unfolding after_counted dropped_value
 dropped_values = tt

@@ -18,7 +18,7 @@ use Rattle.logged_calls.specs.declared.held.LoggedEnd.TheVariants as end
 use Rattle.logged_calls.specs.declared.held.Stopped.{Stopped}
 use Rattle.logged_calls.proofs.NotedLemmas.{all_on}
 use Rattle.logged_runs.specs.Seen.{NotesByTurns, SeenSoFar, ShownEvents}
-use Rattle.logged_runs.specs.Walk.{kept}
+use Rattle.logged_runs.specs.Walk.{kept_log}
 use Rattle.logged_runs.proofs.NoteLemmas.{all_then, notes_as, notes_then, unless_map}
 
 abbrev S : Type 0
@@ -30,7 +30,7 @@ with_log a log = record { log = log; places = a.places; coverage = a.coverage; t
 
 -- from where a loop goes on, where so many turns are left and so many were made
 abbrev pub going : ℕ → ℕ → ℕ → LogMark → SeenSoFar → SeenSoFar
-going turns left made mark a = with_log a (cond (nat_eq left 0) a.log (kept turns made mark a.log))
+going turns left made mark a = with_log a (cond (nat_eq left 0) a.log (kept_log turns made mark a.log))
 
 cond_same : {A : Type 0} (b : Bool) (x : A) → cond b x x ≡ x
 cond_same true x = refl
@@ -45,8 +45,8 @@ going_first turns left mark a = ap (with_log a) (ap (λ b. cond (nat_eq left 0) 
 some_left : (left : ℕ) → 0 < left → nat_eq left 0 ≡ false
 some_left left h = ne_eqb left 0 (omega arith)
 
-pub going_on : (turns left made : ℕ) (mark : LogMark) (a : SeenSoFar) → 0 < left → going turns left made mark a ≡ with_log a (kept turns made mark a.log)
-going_on turns left made mark a h = ap (λ b. with_log a (cond b a.log (kept turns made mark a.log))) (some_left left h)
+pub going_on : (turns left made : ℕ) (mark : LogMark) (a : SeenSoFar) → 0 < left → going turns left made mark a ≡ with_log a (kept_log turns made mark a.log)
+going_on turns left made mark a h = ap (λ b. with_log a (cond b a.log (kept_log turns made mark a.log))) (some_left left h)
 
 module _ (turns : ℕ) (spot : Spot) (test : S → Out ℕ Now ℕ) (test_seen : (ℕ → Bool) → S → List Event) (body : S → Out ℕ Now (Unit {0})) (body_seen : (ℕ → Bool) → S → List Event) where
   -- what is seen of the turn of a number, and of so many turns after so many
@@ -129,7 +129,7 @@ module _ (turns : ℕ) (spot : Spot) (test : S → Out ℕ Now ℕ) (test_seen :
       let same : count - 0 ≡ count = omega arith in
       notes_as turns a c (rest 0 (count - 0) s) (rest 0 count s) (λ shows. ap (λ n. rest 0 n s shows) same) (subst (λ (x : SeenSoFar). NotesByTurns turns x c (rest 0 (count - 0) s)) (going_first turns (count - 0) mark a) h)
 
-  module _ (count made : ℕ) (mark : LogMark) (f l : SeenSoFar) (log : LogLines) (s : S) (all : ShownEvents) (kept_is : log ≡ kept turns made mark l.log)
+  module _ (count made : ℕ) (mark : LogMark) (f l : SeenSoFar) (log : LogLines) (s : S) (all : ShownEvents) (kept_is : log ≡ kept_log turns made mark l.log)
       (so : (c : SeenSoFar) → NotesByTurns turns (going turns (count - made) made mark l) c (rest made (count - made) s) → NotesByTurns turns f c all) where
     -- from where the turn begins
     begun : made < count → with_log l log ≡ going turns (count - made) made mark l

@@ -9,7 +9,7 @@ use Rattle.function_table.specs.declared.function.Function.{Function}
 use Rattle.sequence_rules.specs.Calls.{ask, function_result, global}
 use Rattle.sequence_rules.specs.Machine as machine
 use Rattle.sequence_rules.specs.Machine.{State, Out, end_state, halt, step_more}
-use Rattle.sequence_rules.specs.Steps.{counted, dropped, poll_result, poll_result_at}
+use Rattle.sequence_rules.specs.Steps.{counted_step, dropped_value, poll_result, poll_result_at}
 use Rattle.target_machine.specs.declared.unit.HaltCause.TheVariants.{StepLimit, Unsupported}
 use Rattle.target_machine.specs.declared.unit.Unit.TheVariants as unit
 use Rattle.run_events.specs.Events.{Event, MadeUnit, Makes, Writes, all_made, places_after, units_between, units_from}
@@ -75,18 +75,18 @@ module _ (a m : SeenSoFar) (s r : S) (spot : Spot) (turns : ℕ) (p : m.places �
   poll_stopped_all stopped k = subst (NotesAll a m) (sym (k.seen spot turns ∙ append-nil (all_made (units_between s r)))) (units_all a m (units_between s r) p c t e)
 
 poll_by : (form : ℕ × ℕ) (n : ℕ) (x : ℕ × S) (b : Bool)
-    → cond b (dropped (direct false) (ask (direct false) (unit.Poll form.0 form.1 n) false x.1)) (halt Unsupported x.1) ≡ dropped (direct false) (cond b (ask (direct false) (unit.Poll form.0 form.1 n) false x.1) (halt Unsupported x.1))
-unfolding dropped
+    → cond b (dropped_value (direct false) (ask (direct false) (unit.Poll form.0 form.1 n) false x.1)) (halt Unsupported x.1) ≡ dropped_value (direct false) (cond b (ask (direct false) (unit.Poll form.0 form.1 n) false x.1) (halt Unsupported x.1))
+unfolding dropped_value
 poll_by form n x true = refl
 poll_by form n x false = refl
 
 poll_at : (form : ℕ × ℕ) (n : ℕ) (o : Out ℕ Now ℕ)
-    → (o >>= λ d. poll_result_at (direct false) form n d.0 d.1) ≡ dropped (direct false) (o >>= λ d. cond (nat_eq d.0 0) (ask (direct false) (unit.Poll form.0 form.1 n) false d.1) (halt Unsupported d.1))
-unfolding dropped poll_result_at
+    → (o >>= λ d. poll_result_at (direct false) form n d.0 d.1) ≡ dropped_value (direct false) (o >>= λ d. cond (nat_eq d.0 0) (ask (direct false) (unit.Poll form.0 form.1 n) false d.1) (halt Unsupported d.1))
+unfolding dropped_value poll_result_at
 poll_at form n (Ok x) = poll_by form n x (nat_eq x.0 0)
 poll_at form n (Err e) = refl
 
-pub poll_is : (form : ℕ × ℕ) (n : ℕ) (s k : S) → counted (direct false) s ≡ Ok (tt, k) → poll_result (direct false) form n s ≡ dropped (direct false) (poll_value form n k)
+pub poll_is : (form : ℕ × ℕ) (n : ℕ) (s k : S) → counted_step (direct false) s ≡ Ok (tt, k) → poll_result (direct false) form n s ≡ dropped_value (direct false) (poll_value form n k)
 unfolding poll_result
 poll_is form n s k is = rw is (poll_at form n (global (direct false) (codes "__dp") k))
 
@@ -98,34 +98,34 @@ rest_by : (s k : S) (b : Bool) → count_by s b ≡ Ok (tt, k) → s.rest ≡ k.
 rest_by s k true h = ap (λ (o : Out ℕ Now (Unit {0})). (end_state o).rest) h
 rest_by s k false h = absurd cc
 
-counted_rest : (s k : S) → counted (direct false) s ≡ Ok (tt, k) → s.rest ≡ k.rest
-unfolding counted
+counted_rest : (s k : S) → counted_step (direct false) s ≡ Ok (tt, k) → s.rest ≡ k.rest
+unfolding counted_step
 counted_rest s k is = rest_by s k (nat_lt s.steps 100000000) is
 
 same_by : (s r : S) (x : machine.Over) (b : Bool) → count_by s b ≡ Err (x, r) → r ≡ s
 same_by s r x true h = absurd cc
 same_by s r x false h = sym (ap (λ (o : Out ℕ Now (Unit {0})). end_state o) h)
 
-not_counted : (s r : S) (x : machine.Over) → counted (direct false) s ≡ Err (x, r) → r ≡ s
-unfolding counted
+not_counted : (s r : S) (x : machine.Over) → counted_step (direct false) s ≡ Err (x, r) → r ≡ s
+unfolding counted_step
 not_counted s r x is = same_by s r x (nat_lt s.steps 100000000) is
 
-pub between_counted : (s k r : S) → counted (direct false) s ≡ Ok (tt, k) → units_between k r ≡ units_between s r
+pub between_counted : (s k r : S) → counted_step (direct false) s ≡ Ok (tt, k) → units_between k r ≡ units_between s r
 between_counted s k r is = ap (λ (x : Now). units_from x.world (suc (length x.calls)) (drop (length x.calls) r.rest.calls)) (sym (counted_rest s k is))
 
 -- what is seen of a poll that was counted
-pub poll_seen_as : (P : List Event → Type 0) (e : LoggedEnd) (result : Result (Unit {0}) Stopped) (form : ℕ × ℕ) (spot : Spot) (n : ℕ) (s k r : S) → counted (direct false) s ≡ Ok (tt, k)
-    → Means e result r (dropped (direct false) (poll_value form n k)) → Unless e result (P (polled_events spot n (units_between k r))) → Unless e result (P (poll_events spot form n s))
+pub poll_seen_as : (P : List Event → Type 0) (e : LoggedEnd) (result : Result (Unit {0}) Stopped) (form : ℕ × ℕ) (spot : Spot) (n : ℕ) (s k r : S) → counted_step (direct false) s ≡ Ok (tt, k)
+    → Means e result r (dropped_value (direct false) (poll_value form n k)) → Unless e result (P (polled_events spot n (units_between k r))) → Unless e result (P (poll_events spot form n s))
 unfolding poll_events
 poll_seen_as P e result form spot n s k r is h q = by e result h q
   where
     events_are : end_state (poll_result (direct false) form n s) ≡ r → polled_events spot n (units_between k r) ≡ polled_events spot n (units_between s (end_state (poll_result (direct false) form n s)))
     events_are ends = ap (λ u. polled_events spot n u) (between_counted s k r is) ∙ ap (λ x. polled_events spot n (units_between s x)) (sym ends)
 
-    ends_at : (o : Out ℕ Now (Unit {0})) → dropped (direct false) (poll_value form n k) ≡ o → end_state (poll_result (direct false) form n s) ≡ end_state o
+    ends_at : (o : Out ℕ Now (Unit {0})) → dropped_value (direct false) (poll_value form n k) ≡ o → end_state (poll_result (direct false) form n s) ≡ end_state o
     ends_at o h = ap (λ x. end_state x) (poll_is form n s k is ∙ h)
 
-    by : (e : LoggedEnd) (result : Result (Unit {0}) Stopped) → Means e result r (dropped (direct false) (poll_value form n k)) → Unless e result (P (polled_events spot n (units_between k r)))
+    by : (e : LoggedEnd) (result : Result (Unit {0}) Stopped) → Means e result r (dropped_value (direct false) (poll_value form n k)) → Unless e result (P (polled_events spot n (units_between k r)))
         → Unless e result (P (polled_events spot n (units_between s (end_state (poll_result (direct false) form n s)))))
     by e (Ok x) h q = subst P (events_are (ends_at _ h)) q
     by (end.Halted cause) (Err stopped) h q = subst P (events_are (ends_at _ h)) q
@@ -133,13 +133,13 @@ poll_seen_as P e result form spot n s k r is h q = by e result h q
     by end.OutOfMemory (Err stopped) h q = tt
 
 -- a poll that was not counted
-nothing_polled : (form : ℕ × ℕ) (spot : Spot) (n : ℕ) (s r : S) (x : machine.Over) → counted (direct false) s ≡ Err (x, r) → [] ≡ poll_events spot form n s
+nothing_polled : (form : ℕ × ℕ) (spot : Spot) (n : ℕ) (s r : S) (x : machine.Over) → counted_step (direct false) s ≡ Err (x, r) → [] ≡ poll_events spot form n s
 unfolding poll_events poll_result
 nothing_polled form spot n s r x is =
     let out : poll_result (direct false) form n s ≡ Err (x, r) = rw is refl in
     sym (ap (λ (q : S). polled_events spot n (units_between s q)) (ap (λ (o : Out ℕ Now (Unit {0})). end_state o) out ∙ not_counted s r x is) ∙ ap (λ u. polled_events spot n u) (no_units s s refl))
 
-pub poll_not_counted : (e : LoggedEnd) (stopped : Stopped) (turns : ℕ) (a : SeenSoFar) (form : ℕ × ℕ) (spot : Spot) (n : ℕ) (s r : S) → CodeEndsAs e r (counted (direct false) s) → Unless {A = Unit {0}} e (Err stopped) (NotesByTurns turns a a (λ shows. poll_events spot form n s))
+pub poll_not_counted : (e : LoggedEnd) (stopped : Stopped) (turns : ℕ) (a : SeenSoFar) (form : ℕ × ℕ) (spot : Spot) (n : ℕ) (s r : S) → CodeEndsAs e r (counted_step (direct false) s) → Unless {A = Unit {0}} e (Err stopped) (NotesByTurns turns a a (λ shows. poll_events spot form n s))
 poll_not_counted (end.Halted cause) stopped turns a form spot n s r k = notes_as turns a a (λ shows. []) (λ shows. poll_events spot form n s) (λ shows. nothing_polled form spot n s r _ k) (notes_none turns a)
 poll_not_counted (end.Faulted u) stopped turns a form spot n s r k = notes_as turns a a (λ shows. []) (λ shows. poll_events spot form n s) (λ shows. nothing_polled form spot n s r _ k) (notes_none turns a)
 poll_not_counted end.OutOfMemory stopped turns a form spot n s r k = tt
@@ -225,14 +225,14 @@ module _ (turns : ℕ) (a b : SeenSoFar) (function : Function) (text n : List �
 
 -- ---- what a poll comes to
 
-pub ends_dropped : (e : LoggedEnd) (now : S) (out : Out ℕ Now ℕ) → CodeEndsAs e now out → CodeEndsAs e now (dropped (direct false) out)
-unfolding dropped
+pub ends_dropped : (e : LoggedEnd) (now : S) (out : Out ℕ Now ℕ) → CodeEndsAs e now out → CodeEndsAs e now (dropped_value (direct false) out)
+unfolding dropped_value
 ends_dropped e now out h = ends_on e now out _ h
 
-pub poll_gives : (e : LoggedEnd) (result : Result (Unit {0}) Stopped) (r q : S) (out : Out ℕ Now ℕ) (v : ℕ) → out ≡ Ok (v, r) → OnOk result (q ≡ r) → OnErr result (e ≡ end.OutOfMemory) → Means e result q (dropped (direct false) out)
-unfolding dropped
+pub poll_gives : (e : LoggedEnd) (result : Result (Unit {0}) Stopped) (r q : S) (out : Out ℕ Now ℕ) (v : ℕ) → out ≡ Ok (v, r) → OnOk result (q ≡ r) → OnErr result (e ≡ end.OutOfMemory) → Means e result q (dropped_value (direct false) out)
+unfolding dropped_value
 poll_gives e (Ok x) r q out v is same none = rw is (ap (λ k. Ok (tt, k)) (sym same))
-poll_gives e (Err stopped) r q out v is same none = refused_ends e q (dropped (direct false) out) none
+poll_gives e (Err stopped) r q out v is same none = refused_ends e q (dropped_value (direct false) out) none
 
 module _ (turns : ℕ) (a m : SeenSoFar) (s r : S) (spot : Spot) (count : ℕ) (p : m.places ≡ a.places) (c : m.coverage ≡ a.coverage) (t : m.timed_out ≡ a.timed_out) (e : m.error_shown ≡ a.error_shown) where
   pub poll_stops : (end : LoggedEnd) (stopped : Stopped) → Unless {A = ℕ} end (Err stopped) (m.log ≡ lines_after_events a.log (polled_events spot count (units_between s r))) → Unless {A = ℕ} end (Err stopped) (SeenAsPoll s r (Err stopped))

@@ -11,11 +11,11 @@ use Rattle.function_table.specs.declared.function.Function.{Function}
 use Rattle.function_table.specs.declared.function.Function.TheVariants as f
 use Rattle.seq_check.specs.Answers.{checked_trees}
 use Rattle.sequence_trees.specs.Trees.{CodeSteps, NoSteps, steps_named}
-use Rattle.sequence_rules.specs.Calls.{function_result, given, missing, use_now}
+use Rattle.sequence_rules.specs.Calls.{function_result, value_or_missing, missing, use_now}
 use Rattle.sequence_rules.specs.Direct.{Now, direct}
 use Rattle.sequence_rules.specs.Machine.{State, Out, with_locals}
-use Rattle.sequence_rules.specs.Steps.{condition, counted, turn}
-use Rattle.sequence_rules.specs.Values.{call_result, named, of_binary, strict_binary, used_now, value}
+use Rattle.sequence_rules.specs.Steps.{condition, counted_step, turn}
+use Rattle.sequence_rules.specs.Values.{call_result, named_value, of_binary, strict_binary, used_now, value}
 use Rattle.run_events.specs.Events.{Event, events_after}
 use Rattle.run_events.specs.OfRuns.{sequence_events}
 use Rattle.run_events.specs.OfSteps.{steps_events}
@@ -25,7 +25,7 @@ use Rattle.logged_calls.specs.declared.held.LoggedEnd.{LoggedEnd}
 use Rattle.logged_calls.specs.declared.held.LoggedEnd.TheVariants as end
 use Rattle.logged_calls.specs.declared.held.Stopped.{Stopped}
 use Rattle.logged_runs.specs.Seen.{NotesByTurns, SeenSoFar}
-use Rattle.logged_runs.specs.Walk.{calls_in_walk, events_in_walk, step_on_path, tested}
+use Rattle.logged_runs.specs.Walk.{calls_in_walk, events_in_walk, step_on_path, tested_turn}
 use Rattle.logged_runs.specs.declared.runner.LoggedRunner.{LoggedRunner}
 use Rattle.logged_runs.proofs.Ends.{ends_body, ends_condition, ends_sequence, ends_turn, turn_is}
 use Rattle.logged_runs.proofs.NoteLemmas.{always, notes_as, notes_none, notes_to, refused_ends}
@@ -50,13 +50,13 @@ quiet_only turns a b e result out same = always (NotesByTurns turns a b (λ show
     (notes_as turns a b (λ shows. []) (λ shows. events_after out (λ y q. [])) (λ shows. nothing_after out) (notes_to turns a a b (λ shows. []) same (notes_none turns a)))
 
 -- a variable
-given_is : (o : Option ℕ) (s : S) → given (direct false) 0 o s ≡ Ok (unwrap_or o 0, s)
-unfolding given missing direct
+given_is : (o : Option ℕ) (s : S) → value_or_missing (direct false) 0 o s ≡ Ok (unwrap_or o 0, s)
+unfolding value_or_missing missing direct
 given_is None s = refl
 given_is (Some n) s = refl
 
 pub named_is : (seq : List ℕ → S → O (Unit {0})) (name : Name) (s : S) (n : ℕ) → n ≡ unwrap_or (visible name.text s) 0 → value (direct false) seq (t.Named name) s ≡ Ok (n, s)
-unfolding value named direct
+unfolding value named_value direct
 named_is seq name s n is = given_is (visible name.text s) s ∙ ap (λ k. Ok (k, s)) (sym is)
 
 -- ---- operators
@@ -122,21 +122,21 @@ module _ (runner : LoggedRunner) (depth : ℕ) where
 -- ---- turns
 
 module _ (test : S → O ℕ) (body : S → O (Unit {0})) where
-  pub tested_false : (s r k : S) (n : ℕ) → test s ≡ Ok (n, r) → nat_eq n 0 ≡ true → k ≡ r → tested test body s ≡ Ok (false, k)
+  pub tested_false : (s r k : S) (n : ℕ) → test s ≡ Ok (n, r) → nat_eq n 0 ≡ true → k ≡ r → tested_turn test body s ≡ Ok (false, k)
   unfolding used_now use_now direct
   tested_false s r k n is none back = rw (is, none) (ap (λ x. Ok (false, x)) (sym back))
 
-  pub tested_true : (s r q k : S) (n : ℕ) → test s ≡ Ok (n, r) → nat_eq n 0 ≡ false → q ≡ r → body q ≡ Ok (tt, k) → tested test body s ≡ Ok (true, k)
+  pub tested_true : (s r q k : S) (n : ℕ) → test s ≡ Ok (n, r) → nat_eq n 0 ≡ false → q ≡ r → body q ≡ Ok (tt, k) → tested_turn test body s ≡ Ok (true, k)
   unfolding used_now use_now direct
   tested_true s r q k n is some same so = rw (is, some) (ap (λ x. body x >>= λ y. Ok (true, y.1)) (sym same) ∙ ap (λ o. o >>= λ y. Ok (true, y.1)) so)
 
-  pub tested_ends : (e : LoggedEnd) (now s r q : S) (n : ℕ) → test s ≡ Ok (n, r) → nat_eq n 0 ≡ false → q ≡ r → CodeEndsAs e now (body q) → CodeEndsAs e now (tested test body s)
+  pub tested_ends : (e : LoggedEnd) (now s r q : S) (n : ℕ) → test s ≡ Ok (n, r) → nat_eq n 0 ≡ false → q ≡ r → CodeEndsAs e now (body q) → CodeEndsAs e now (tested_turn test body s)
   tested_ends e now s r q n is some same h = ends_body test body e now s r n is some (subst (λ x. CodeEndsAs e now (body x)) same h)
 
-  pub turn_ends : (e : LoggedEnd) (now s q : S) → q ≡ s → CodeEndsAs e now (counted (direct false) q) → CodeEndsAs e now (turn (direct false) test body s)
+  pub turn_ends : (e : LoggedEnd) (now s q : S) → q ≡ s → CodeEndsAs e now (counted_step (direct false) q) → CodeEndsAs e now (turn (direct false) test body s)
   turn_ends e now s q same h = subst (λ x. CodeEndsAs e now (turn (direct false) test body x)) same (ends_turn test body e now q h)
 
-  pub turn_gives : (e : LoggedEnd) (result : Result Bool Stopped) (s q r k : S) → q ≡ s → counted (direct false) q ≡ Ok (tt, r) → Means e result k (tested test body r) → Means e result k (turn (direct false) test body s)
+  pub turn_gives : (e : LoggedEnd) (result : Result Bool Stopped) (s q r k : S) → q ≡ s → counted_step (direct false) q ≡ Ok (tt, r) → Means e result k (tested_turn test body r) → Means e result k (turn (direct false) test body s)
   turn_gives e result s q r k same is h = subst (λ x. Means e result k (turn (direct false) test body x)) same (subst (λ o. Means e result k o) (sym (turn_is test body q r is)) h)
 
 pub count_is : (count : ℕ) → count ≡ count - 0

@@ -21,7 +21,7 @@ use Rattle.sequence_trees.specs.declared.steps.CheckedStep.{CheckedStep}
 use Rattle.logged_runs.specs.declared.runner.LoggedRunner.{LoggedRunner}
 use Rattle.logged_runs.specs.OfValues.{assigned_seen, value_in_walk, value_seen}
 use Rattle.logged_runs.specs.Seen.{ShownEvents}
-use Rattle.logged_runs.specs.Walk.{calls_in_walk, events_in_walk, step_on_path, tested}
+use Rattle.logged_runs.specs.Walk.{calls_in_walk, events_in_walk, step_on_path, tested_turn}
 
 -- the `while` of the step of a path in the sequence of a name
 abbrev pub while_spot : List ℕ → List ℕ → Spot
@@ -47,24 +47,24 @@ module _ (runner : LoggedRunner) (depth : ℕ) where
   -- what is seen of it after its place is noted
   abbrev pub done_seen : Stmt → State ℕ Now → ShownEvents
   done_seen one s = λ shows.
-      events_after (m.counted (direct false) s)
+      events_after (m.counted_step (direct false) s)
       (λ done r. os.done_events shows runner.turn_us (calls_in_walk runner depth) (events_in_walk shows runner depth) (stmt_tree one) r)
 
   -- a declaration
   abbrev pub declaration_in_walk : Name → Expr → State ℕ Now → Out ℕ Now (Unit {0})
-  declaration_in_walk name e = m.after_counted (direct false) (λ r. m.declared (direct false) name (value_in_walk runner depth e r))
+  declaration_in_walk name e = m.after_counted (direct false) (λ r. m.declared_variable (direct false) name (value_in_walk runner depth e r))
 
   -- what is seen of it
   abbrev pub declared_seen : Name → Expr → State ℕ Now → ShownEvents
-  declared_seen name e s = λ shows. events_after (m.counted (direct false) s) (λ done r. assigned_seen runner depth name e r shows)
+  declared_seen name e s = λ shows. events_after (m.counted_step (direct false) s) (λ done r. assigned_seen runner depth name e r shows)
 
   -- an expression whose value is dropped
   abbrev pub dropped_in_walk : Expr → State ℕ Now → Out ℕ Now (Unit {0})
-  dropped_in_walk e = m.after_counted (direct false) (λ r. m.dropped (direct false) (value_in_walk runner depth e r))
+  dropped_in_walk e = m.after_counted (direct false) (λ r. m.dropped_value (direct false) (value_in_walk runner depth e r))
 
   -- what is seen of it
   abbrev pub dropped_seen : Expr → State ℕ Now → ShownEvents
-  dropped_seen e s = λ shows. events_after (m.counted (direct false) s) (λ done r. value_seen runner depth e r shows)
+  dropped_seen e s = λ shows. events_after (m.counted_step (direct false) s) (λ done r. value_seen runner depth e r shows)
 
   -- the statements of a block, in order
   abbrev pub block_in_walk : List Stmt → State ℕ Now → Out ℕ Now (Unit {0})
@@ -127,7 +127,7 @@ module _ (runner : LoggedRunner) (depth : ℕ) where
   -- a control
   abbrev pub control_in_walk : Option Expr → Option Expr → Option ℕ → List CheckedStep → State ℕ Now → Out ℕ Now (Unit {0})
   control_in_walk cond repeat timeout steps =
-      m.controlled (direct false) runner.turn_us (calls_in_walk runner depth) (option_map tree cond) (option_map tree repeat) timeout (steps_tree steps)
+      m.control_result (direct false) runner.turn_us (calls_in_walk runner depth) (option_map tree cond) (option_map tree repeat) timeout (steps_tree steps)
       (steps_in_walk steps)
 
   -- what is seen of it
@@ -188,7 +188,7 @@ module _ (runner : LoggedRunner) (depth : ℕ) where
 
   -- a turn that was counted
   abbrev pub tested_in_walk : Expr → List CheckedStep → State ℕ Now → Out ℕ Now Bool
-  tested_in_walk e steps = tested (value_in_walk runner depth e) (inside_in_walk steps)
+  tested_in_walk e steps = tested_turn (value_in_walk runner depth e) (inside_in_walk steps)
 
   -- what is seen of it
   abbrev pub tested_seen : List ℕ → List ℕ → Expr → List CheckedStep → State ℕ Now → ShownEvents
@@ -199,7 +199,7 @@ module _ (runner : LoggedRunner) (depth : ℕ) where
 
 -- the debug variables of a runner's set get their values, in order
 abbrev pub debug_variables_in_walk : LoggedRunner → List Stmt → State ℕ Now → Out ℕ Now (Unit {0})
-debug_variables_in_walk runner code = m.debugged (direct false) runner.turn_us (checked_trees runner.set.now) (code_trees code)
+debug_variables_in_walk runner code = m.debug_result (direct false) runner.turn_us (checked_trees runner.set.now) (code_trees code)
 
 -- what is seen of it
 abbrev pub debugged_seen : LoggedRunner → List Stmt → State ℕ Now → ShownEvents

@@ -79,7 +79,7 @@ module _ (runner : LoggedRunner) (depth : ℕ) where
 
   -- the variable gets the value
   abbrev pub assignment_in_walk : Name → Expr → State ℕ Now → Out ℕ Now ℕ
-  assignment_in_walk name e s = v.assigned (direct false) name (value_in_walk e s)
+  assignment_in_walk name e s = v.assigned_value (direct false) name (value_in_walk e s)
 
   -- what is seen of it
   abbrev pub assigned_seen : Name → Expr → State ℕ Now → ShownEvents
@@ -97,7 +97,7 @@ module _ (runner : LoggedRunner) (depth : ℕ) where
 
   -- a value after others
   abbrev pub appended_in_walk : List ℕ → Expr → State ℕ Now → Out ℕ Now (List ℕ)
-  appended_in_walk got e s = v.appended (direct false) got (value_in_walk e s)
+  appended_in_walk got e s = v.appended_values (direct false) got (value_in_walk e s)
 
   -- arguments in order, after the values of the earlier ones
   abbrev pub arguments_in_walk : List Arg → List ℕ → State ℕ Now → Out ℕ Now (List ℕ)

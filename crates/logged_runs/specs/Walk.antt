@@ -8,7 +8,7 @@ use Rattle.seq_check.specs.Answers.{checked_trees}
 use Rattle.sequence_rules.specs.Direct.{Now, direct}
 use Rattle.sequence_rules.specs.Machine.{State, Out}
 use Rattle.sequence_rules.specs.Steps.{sequence_at}
-use Rattle.sequence_rules.specs.Values.{stored, used_now, value}
+use Rattle.sequence_rules.specs.Values.{stored_value, used_now, value}
 use Rattle.sequence_trees.specs.Order.{SetStep}
 use Rattle.sequence_trees.specs.declared.spot.Part.TheVariants as part
 use Rattle.target_machine.specs.State.{TargetState}
@@ -89,16 +89,16 @@ abbrev pub CollectsAs : {A B : Type 0} → Walked → TargetState → Walked →
 CollectsAs old before new after x result meaning = MeansAs new.held.end x result (now new after) (meaning (now old before))
 
 -- a turn after it is counted: its condition, and where that is not 0 what is done
-abbrev pub tested : (State ℕ Now → Out ℕ Now ℕ) → (State ℕ Now → Out ℕ Now (Unit {0})) → State ℕ Now → Out ℕ Now Bool
-tested test body s = used_now (direct false) (test s) >>= λ x. if nat_eq x.0 0 then Ok (false, x.1) else (body x.1 >>= λ y. Ok (true, y.1))
+abbrev pub tested_turn : (State ℕ Now → Out ℕ Now ℕ) → (State ℕ Now → Out ℕ Now (Unit {0})) → State ℕ Now → Out ℕ Now Bool
+tested_turn test body s = used_now (direct false) (test s) >>= λ x. if nat_eq x.0 0 then Ok (false, x.1) else (body x.1 >>= λ y. Ok (true, y.1))
 
 -- the log where another turn begins after so many: the last of them is taken back, unless it is shown
-abbrev pub kept : ℕ → ℕ → LogMark → LogLines → LogLines
-kept turns made mark log = if nat_lt turns made then record { lines = take mark.len log.lines; depth = mark.depth } else log
+abbrev pub kept_log : ℕ → ℕ → LogMark → LogLines → LogLines
+kept_log turns made mark log = if nat_lt turns made then record { lines = take mark.len log.lines; depth = mark.depth } else log
 
 -- a debug variable gets its value
 abbrev pub definition_in_walk : LoggedRunner → Name → Tree → State ℕ Now → Out ℕ Now (Unit {0})
-definition_in_walk runner name e s = value (direct false) (calls_in_walk runner 0) e s >>= λ x. stored (direct false) name x.0 x.1 >>= λ y. Ok (tt, y.1)
+definition_in_walk runner name e s = value (direct false) (calls_in_walk runner 0) e s >>= λ x. stored_value (direct false) name x.0 x.1 >>= λ y. Ok (tt, y.1)
 
 -- one statement of the debug variables
 abbrev pub debug_statement_in_walk : LoggedRunner → StmtTree → State ℕ Now → Out ℕ Now (Unit {0})

@@ -40,7 +40,7 @@ impl<'a> LoggedRunner<'a> {
 
     // A value after others.
     #[cycle(walk)]
-    #[tactic(auto, unfolding(sequence_rules::specs::Values::appended), using(crate::proofs::Ends::ends_appended))]
+    #[tactic(auto, unfolding(sequence_rules::specs::Values::appended_values), using(crate::proofs::Ends::ends_appended))]
     fn push_value(
         &self,
         expr: &'a Expr,

@@ -5,7 +5,7 @@ ghost use Rattle.sequence_rules.specs.Steps as m;
 ghost use Rattle.logged_runs.specs.OfSteps.{begun_seen, condition_in_walk, condition_seen, control_in_walk, control_seen, inside_in_walk};
 ghost use Rattle.logged_runs.specs.OfSteps.{loop_in_walk, loop_seen, poll_seen, repeat_in_walk, repeat_seen, steps_seen, tested_in_walk};
 ghost use Rattle.logged_runs.specs.OfSteps.{tested_seen, turn_in_walk, turn_seen, turns_in_walk, turns_seen};
-ghost use Rattle.logged_runs.specs.Walk.{SeesWalk, WalksAs, kept};
+ghost use Rattle.logged_runs.specs.Walk.{SeesWalk, WalksAs, kept_log};
 
 use crate::runner::LoggedRunner;
 use crate::steps::count_step;
@@ -20,7 +20,7 @@ use target_machine::Target;
 impl<'a> LoggedRunner<'a> {
     // A control.
     #[cycle(walk)]
-    #[tactic(auto, unfolding(sequence_rules::specs::Steps::controlled, run_events::specs::OfSteps::controlled_events), using(crate::proofs::Ends::ends_control))]
+    #[tactic(auto, unfolding(sequence_rules::specs::Steps::control_result, run_events::specs::OfSteps::controlled_events), using(crate::proofs::Ends::ends_control))]
     pub(crate) fn run_control(
         &self,
         sequence: &'a str,
@@ -203,7 +203,7 @@ impl<'a> LoggedRunner<'a> {
 
     // Takes the last of so many turns back from the log, unless it is shown.
     fn drop_turn(&self, made: u32, mark: LogMark, log: &mut EventLog)
-        ensures { log.new ≡ kept self.now.turns made mark log.old }
+        ensures { log.new ≡ kept_log self.now.turns made mark log.old }
     {
         if made > self.turns {
             log.cut(mark);
@@ -280,7 +280,7 @@ impl<'a> LoggedRunner<'a> {
 }
 
 // A poll of CTRL/STAT: it is counted as one step, and is one unit.
-#[tactic(auto, unfolding(sequence_rules::specs::Steps::poll_result, sequence_rules::specs::Steps::poll_result_at, sequence_rules::specs::Steps::dropped))]
+#[tactic(auto, unfolding(sequence_rules::specs::Steps::poll_result, sequence_rules::specs::Steps::poll_result_at, sequence_rules::specs::Steps::dropped_value))]
 fn run_poll(
     sequence: &str,
     path: &[u64],

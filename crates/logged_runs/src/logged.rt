@@ -1,6 +1,6 @@
 //! The logged runner.
 ghost use Rattle.std.specs.Prelude.{◌≡◌, ◌<◌, ℕ, List, IfOk, None, map};
-ghost use Rattle.function_table.specs.Variables.{predefined};
+ghost use Rattle.function_table.specs.Variables.{names_of_predefined};
 ghost use Rattle.logged_calls.specs.Held.{Means, Unless};
 ghost use Rattle.run_events.specs.Events.{Event, places_reached};
 ghost use Rattle.run_events.specs.OfRuns.{events_in};
@@ -139,7 +139,7 @@ pub fn run_logged(
     target: &mut Target,
 ) -> Result<Logged, OutOfMemory>
     requires turn { 0 < settings.now.turn_us }
-    requires names { map (λ variable. variable.name) settings.now.start ≡ predefined }
+    requires names { map (λ variable. variable.name) settings.now.start ≡ names_of_predefined }
     // How it ended, the variables, the calls, the skips and the target are those of the outcome.
     ensures answer { IfOk result (λ run. IsLoggedRun (program_of (checked_trees checked.now) start.now settings.now) target.old target.new run) }
     // The log is the text of the events that are shown; the rest is what all events say.

@@ -10,7 +10,7 @@ ghost use Rattle.run_events.specs.OfSteps.{poll_end, polled_events, statement_pl
 ghost use Rattle.run_events.specs.OfValues.{function_events};
 ghost use Rattle.sequence_rules.specs.Calls.{function_result};
 ghost use Rattle.sequence_rules.specs.Direct.{direct};
-ghost use Rattle.sequence_rules.specs.Steps.{dropped};
+ghost use Rattle.sequence_rules.specs.Steps.{dropped_value};
 ghost use Rattle.sequence_trees.specs.declared.spot.Part.TheVariants as part;
 ghost use Rattle.sequence_trees.specs.declared.spot.Spot.{Spot};
 ghost use Rattle.target_machine.specs.Plain.{Answered};
@@ -290,7 +290,7 @@ impl<'a> Walked<'a> {
     ) -> Result<(), Stopped>
         requires least { 1 ≤ count }
         requires most { count ≤ 60000000 }
-        ensures gives { WalksAs self.old target.old self.new target.new result (λ s. dropped (direct false) (poll_value (mask, requested) count s)) }
+        ensures gives { WalksAs self.old target.old self.new target.new result (λ s. dropped_value (direct false) (poll_value (mask, requested) count s)) }
         ensures noted { (turns : ℕ) → SeesWalk turns self.old target.old self.new result
             (λ s shows. polled_events (while_spot sequence.now path.now) count (units_between s (now self.new target.new))) }
     {

@@ -13,7 +13,7 @@ use target_machine::Target;
 
 impl<'a> LoggedRunner<'a> {
     // A debug variable gets its value.
-    #[tactic(auto, unfolding(sequence_rules::specs::Values::stored, sequence_rules::specs::Calls::guarded, sequence_rules::specs::Direct::direct))]
+    #[tactic(auto, unfolding(sequence_rules::specs::Values::stored_value, sequence_rules::specs::Calls::guarded_rest, sequence_rules::specs::Direct::direct))]
     fn define(
         &self,
         name: &'a Name,

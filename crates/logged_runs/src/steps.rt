@@ -212,9 +212,9 @@ fn inner_path(alloc: Global, path: &[u64], number: u64) -> Result<SmallVec<u64, 
 }
 
 // Counts a step.
-#[tactic(auto, unfolding(sequence_rules::specs::Steps::counted))]
+#[tactic(auto, unfolding(sequence_rules::specs::Steps::counted_step))]
 pub(crate) fn count_step(walked: &mut Walked) -> Result<(), Stopped>
-    ensures gives { (target : TargetState) → WalksAs walked.old target walked.new target result (m.counted (direct false)) }
+    ensures gives { (target : TargetState) → WalksAs walked.old target walked.new target result (m.counted_step (direct false)) }
     ensures seen { seen_so_far walked.new ≡ seen_so_far walked.old }
 {
     if walked.held.steps >= MOST_STEPS {

@@ -7,7 +7,7 @@ ghost use Rattle.sequence_rules.specs.Direct.{now_at};
 ghost use Rattle.sequence_rules.specs.Locals.{locals_of};
 ghost use Rattle.sequence_rules.specs.Machine.{with_locals, with_variables};
 ghost use Rattle.sequence_rules.specs.Shared.{bindings_of};
-ghost use Rattle.sequence_rules.specs.Variables.{bound, set_in, set_visible, value_named, visible};
+ghost use Rattle.sequence_rules.specs.Variables.{bound_variable, set_in, set_visible, value_named, visible};
 ghost use Rattle.logged_runs.specs.Walk.{ChangesWalk, now};
 
 use crate::places::Places;
@@ -94,7 +94,7 @@ impl<'a> Walked<'a> {
 
     /// Declares a variable of the running sequence.
     pub fn declare(&mut self, alloc: Global, name: &NameText, value: u64) -> Result<(), OutOfMemory>
-        ensures { OnOk result (ChangesWalk self.old self.new (λ s. with_locals s (s.locals ++ bound name.now value ∷ []))) }
+        ensures { OnOk result (ChangesWalk self.old self.new (λ s. with_locals s (s.locals ++ bound_variable name.now value ∷ []))) }
     {
         self.held.locals.add(alloc, name.as_str(), value)
     }

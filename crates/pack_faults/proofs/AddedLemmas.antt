@@ -1,5 +1,6 @@
 -- Sets that are added, those of one device after another.
 use Rattle.std.proofs.Common.{◌≡◌, ◌∙◌, ℕ, zero, suc, ◌+◌, ◌<◌, ◌≤◌, nat_lt, ltb-true, Bool, true, false, cond, List, [], ◌∷◌, ◌++◌, map, filter, length, take, get_or, Option, Some, None, option_map, Bor, Result, Ok, Err, OnOk, append_assoc, append-nil, refl, ap, sym, subst, arith}
+use Rattle.std.proofs.Math.Nat.{add-zero, zero-add}
 use Rattle.std.specs.Prelude.{count_by}
 use Rattle.std.specs.List.{All, flat_map}
 use Rattle.std.proofs.lemmas.List.{length-append, length-map}
@@ -23,7 +24,7 @@ use Rattle.pack_faults.specs.declared.sets.SetRef.{SetRef}
 use Rattle.pack_faults.specs.declared.sets.DeviceSets.{DeviceSets}
 use Rattle.pack_faults.specs.Sets.{SetAt, is_requested, sets_at, sets_with, device_sets, devices_sets, has_set}
 use Rattle.pack_faults.specs.Known.{IsKnown}
-use Rattle.pack_faults.specs.Shared.{trimmed, places_in_group, set_ref, AreSetsOf, AreShared, Grown, AreFine, IsFineWithShared, AreAdded, DevicesAreCounted}
+use Rattle.pack_faults.specs.Shared.{trimmed_levels, places_in_group, set_ref, AreSetsOf, AreShared, Grown, AreFine, IsFineWithShared, AreAdded, DevicesAreCounted}
 use Rattle.pack_faults.specs.Views.{set_view}
 use Rattle.pack_faults.proofs.SetLemmas.{variants_none, variants_some, has_grown}
 use Rattle.pack_faults.proofs.SharedLemmas.{to_trimmed, from_trimmed, grown_itself, grown_then, shared_grown, found_grown, pushed_sets, pushed_found}
@@ -62,13 +63,13 @@ pub added_shared : (pack : Pack) (r : PackRequest) (place : code.DevicePlace) (v
     (record { sets = new; devices = old.devices; known = old.known })
 added_shared pack r place variant shared each old new ready is e =
     let levels = path_of pack (place_view place) (option_map (λ v. v.now) variant) in
-    let are : AreSetsOf r old.known (trimmed levels) each = subst (λ (s : Option (List PnameSet)). AreShared r old.known (trimmed levels) s) is ready.along in
+    let are : AreSetsOf r old.known (trimmed_levels levels) each = subst (λ (s : Option (List PnameSet)). AreShared r old.known (trimmed_levels levels) s) is ready.along in
     subst (λ (s : Option (List PnameSet)). AreAdded pack r levels (sets_at pack r (place_view place) (option_map (λ v. v.now) variant)) old s (record { sets = new; devices = old.devices; known = old.known })) (sym is)
     (added_new pack r place variant each old old.known new ready.fine ready.fine.known (grown_itself old.known) (from_trimmed r old.known levels each are) e)
 
 -- ---- along other levels
 
-pub ready_along : (pack : Pack) (r : PackRequest) (levels other : List LevelAt) (shared : Option (List PnameSet)) (f : DeviceSets) → trimmed levels ≡ trimmed other
+pub ready_along : (pack : Pack) (r : PackRequest) (levels other : List LevelAt) (shared : Option (List PnameSet)) (f : DeviceSets) → trimmed_levels levels ≡ trimmed_levels other
     → IsFineWithShared pack r levels shared f → IsFineWithShared pack r other shared f
 ready_along pack r levels other shared f same ready = record {
   fine = ready.fine;
@@ -76,7 +77,7 @@ ready_along pack r levels other shared f same ready = record {
 }
 
 pub added_along : (pack : Pack) (r : PackRequest) (levels other : List LevelAt) (added : List SetAt) (old : DeviceSets) (shared : Option (List PnameSet)) (new : DeviceSets)
-    → trimmed levels ≡ trimmed other → AreAdded pack r levels added old shared new → AreAdded pack r other added old shared new
+    → trimmed_levels levels ≡ trimmed_levels other → AreAdded pack r levels added old shared new → AreAdded pack r other added old shared new
 added_along pack r levels other added old shared new same are = record {
   sets = are.sets;
   devices = are.devices;
@@ -91,7 +92,7 @@ added_apart pack r levels other added old own shared new ready are = record {
   sets = are.sets;
   devices = are.devices;
   grown = are.grown;
-  ready = record { fine = are.ready.fine; along = shared_grown r old.known new.known (trimmed other) shared are.grown ready.along };
+  ready = record { fine = are.ready.fine; along = shared_grown r old.known new.known (trimmed_levels other) shared are.grown ready.along };
 }
 
 -- ---- one after another
@@ -159,9 +160,7 @@ few_counted true d n m is le most = let less : n < m = ltb-true n m is in omega 
 few_counted false d n m is le most = omega arith
 
 count_one : (p : DevicePlace → Bool) (x : DevicePlace) → count_by p (x ∷ []) ≡ cond (p x) 1 0
-count_one p x = let e = sum_by-cons (λ y. cond (p y) 1 0) x [] in e ∙ plus (cond (p x) 1 0) where
-  plus : (n : ℕ) → n + 0 ≡ n
-  plus n = omega arith
+count_one p x = let e = sum_by-cons (λ y. cond (p y) 1 0) x [] in e ∙ add-zero (cond (p x) 1 0)
 
 -- a device was counted where the sets have grown
 pub counted_one : (pack : Pack) (r : PackRequest) (levels : List LevelAt) (place : DevicePlace) (old new : DeviceSets) (shared : Option (List PnameSet)) (n before after : ℕ)
@@ -197,9 +196,7 @@ devices_sets-append pack r (p ∷ ps) qs =
     ap (λ ss. device_sets pack r p ++ ss) (devices_sets-append pack r ps qs) ∙ sym (append_assoc (device_sets pack r p) (devices_sets pack r ps) (devices_sets pack r qs))
 
 pub count_append : (p : DevicePlace → Bool) (xs ys : List DevicePlace) → count_by p (xs ++ ys) ≡ count_by p xs + count_by p ys
-count_append p [] ys = plus (count_by p ys) where
-  plus : (n : ℕ) → n ≡ 0 + n
-  plus n = omega arith
+count_append p [] ys = sym (zero-add (count_by p ys))
 count_append p (x ∷ xs) ys =
     let new = sum_by-cons (λ y. cond (p y) 1 0) x (xs ++ ys) in
     let old = sum_by-cons (λ y. cond (p y) 1 0) x xs in

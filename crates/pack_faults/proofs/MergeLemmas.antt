@@ -3,7 +3,7 @@ use Rattle.std.proofs.Common.{◌≡◌, ◌∙◌, ℕ, suc, ◌+◌, ◌-◌, 
 use Rattle.std.specs.List.{AllByRecursion, list_any}
 use Rattle.std.proofs.lemmas.List.{map-append}
 use Rattle.std.proofs.lemmas.List.Folds.{list_any-append}
-use Rattle.std.proofs.Math.Bool.{or-false}
+use Rattle.std.proofs.Math.Bool.{or-false, or_assoc}
 use Rattle.std.proofs.lemmas.Bool.{or_parts}
 use Rattle.pack_faults.specs.declared.answer.Found.{Found}
 use Rattle.pack_faults.specs.Merged.{same_found, all_found, found_added, each_once, sets_having, with_sets, merged_faults}
@@ -21,10 +21,6 @@ has x fs = list_any (same_found x) fs
 
 false_or : (a b : Bool) → a ≡ false → b ≡ false → a || b ≡ false
 false_or a b p q = rw (p, q) refl
-
-or_right : (a b c : Bool) → (a || (b || c)) ≡ ((a || b) || c)
-or_right true b c = refl
-or_right false b c = refl
 
 or_self : (a b : Bool) → (b ≡ true → a ≡ true) → (a || b) ≡ a
 or_self true b h = refl
@@ -62,7 +58,7 @@ has_added seen f x = has_added_at seen f x (has f seen) refl
 pub has-each_once : (seen fs : List Found) (x : Found) → has x (each_once seen fs) ≡ (has x seen || has x fs)
 has-each_once seen [] x = sym (or-false (has x seen))
 has-each_once seen (f ∷ fs) x =
-    has-each_once (found_added seen f) fs x ∙ ap (λ b. b || has x fs) (has_added seen f x) ∙ sym (or_right (has x seen) (same_found x f) (has x fs))
+    has-each_once (found_added seen f) fs x ∙ ap (λ b. b || has x fs) (has_added seen f x) ∙ or_assoc (has x seen) (same_found x f) (has x fs)
 
 -- none is the same as one after it
 abbrev Apart : List Found → Type 0

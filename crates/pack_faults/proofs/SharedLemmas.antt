@@ -25,7 +25,7 @@ use Rattle.pack_faults.specs.declared.shared.PnameSet.{PnameSet}
 use Rattle.pack_faults.specs.declared.sets.SetRef.{SetRef}
 use Rattle.pack_faults.specs.Sets.{is_empty, pnames_after, pnames_along, processors_of, set_at, sets_at}
 use Rattle.pack_faults.specs.Equal.{same_set}
-use Rattle.pack_faults.specs.Shared.{is_bare, trimmed, levels_above, IsSetOf, IsThere, IsKnownSetOf, pname_view, AreSetsOf, AreShared, set_ref, HasNumberOfSet, Grown}
+use Rattle.pack_faults.specs.Shared.{is_bare, trimmed_levels, levels_above, IsSetOf, IsThere, IsKnownSetOf, pname_view, AreSetsOf, AreShared, set_ref, HasNumberOfSet, Grown}
 use Rattle.pack_faults.specs.Views.{set_view}
 use Rattle.pack_faults.proofs.EqualLemmas.{set_equal}
 
@@ -55,10 +55,10 @@ candidates_at_first pname depth l rest ls true is e =
     sym (ap (λ cs. cs ++ candidates pname (depth + 1) ls) own ∙ below)
 candidates_at_first pname depth l rest ls false is e = ap (λ cs. candidates_at pname l.kind depth l.level.sequences ++ cs) e
 
-candidates_trimmed : (pname : Option (List ℕ)) (depth : ℕ) (ls : List LevelAt) → candidates pname depth (trimmed ls) ≡ candidates pname depth ls
+candidates_trimmed : (pname : Option (List ℕ)) (depth : ℕ) (ls : List LevelAt) → candidates pname depth (trimmed_levels ls) ≡ candidates pname depth ls
 candidates_trimmed pname depth [] = refl
 candidates_trimmed pname depth (l ∷ ls) =
-    candidates_at_first pname depth l (trimmed ls) ls (is_bare l.level && is_empty (trimmed ls)) refl (candidates_trimmed pname (depth + 1) ls)
+    candidates_at_first pname depth l (trimmed_levels ls) ls (is_bare l.level && is_empty (trimmed_levels ls)) refl (candidates_trimmed pname (depth + 1) ls)
 
 deepest_at_first : (found : List ℕ) (l : LevelAt) (rest ls : List LevelAt) (b : Bool) → (is_bare l.level && is_empty rest) ≡ b
     → ((text : List ℕ) → deepest text rest ≡ deepest text ls) → deepest found (cond b [] (l ∷ rest)) ≡ deepest found (l ∷ ls)
@@ -67,9 +67,9 @@ deepest_at_first found l rest ls true is e =
     sym (ap (λ text. deepest (unwrap_or text found) ls) (debugvars_of l.level parts.0) ∙ sym (e found) ∙ ap (deepest found) (none_left rest parts.1))
 deepest_at_first found l rest ls false is e = e (unwrap_or l.level.debugvars found)
 
-deepest_trimmed : (found : List ℕ) (ls : List LevelAt) → deepest found (trimmed ls) ≡ deepest found ls
+deepest_trimmed : (found : List ℕ) (ls : List LevelAt) → deepest found (trimmed_levels ls) ≡ deepest found ls
 deepest_trimmed found [] = refl
-deepest_trimmed found (l ∷ ls) = deepest_at_first found l (trimmed ls) ls (is_bare l.level && is_empty (trimmed ls)) refl (λ text. deepest_trimmed text ls)
+deepest_trimmed found (l ∷ ls) = deepest_at_first found l (trimmed_levels ls) ls (is_bare l.level && is_empty (trimmed_levels ls)) refl (λ text. deepest_trimmed text ls)
 
 pnames_at_first : (names : List (List ℕ)) (l : LevelAt) (rest ls : List LevelAt) (b : Bool) → (is_bare l.level && is_empty rest) ≡ b
     → ((more : List (List ℕ)) → pnames_along more rest ≡ pnames_along more ls) → pnames_along names (cond b [] (l ∷ rest)) ≡ pnames_along names (l ∷ ls)
@@ -78,27 +78,27 @@ pnames_at_first names l rest ls true is e =
     sym (ap (λ ss. pnames_along (pnames_after names ss) ls) (sequences_of l.level parts.0) ∙ sym (e names) ∙ ap (pnames_along names) (none_left rest parts.1))
 pnames_at_first names l rest ls false is e = e (pnames_after names l.level.sequences)
 
-pnames_trimmed : (names : List (List ℕ)) (ls : List LevelAt) → pnames_along names (trimmed ls) ≡ pnames_along names ls
+pnames_trimmed : (names : List (List ℕ)) (ls : List LevelAt) → pnames_along names (trimmed_levels ls) ≡ pnames_along names ls
 pnames_trimmed names [] = refl
-pnames_trimmed names (l ∷ ls) = pnames_at_first names l (trimmed ls) ls (is_bare l.level && is_empty (trimmed ls)) refl (λ more. pnames_trimmed more ls)
+pnames_trimmed names (l ∷ ls) = pnames_at_first names l (trimmed_levels ls) ls (is_bare l.level && is_empty (trimmed_levels ls)) refl (λ more. pnames_trimmed more ls)
 
 -- a last level with nothing of its own
-trimmed_bare : (ls : List LevelAt) (l : LevelAt) → is_bare l.level ≡ true → trimmed (ls ++ l ∷ []) ≡ trimmed ls
+trimmed_bare : (ls : List LevelAt) (l : LevelAt) → is_bare l.level ≡ true → trimmed_levels (ls ++ l ∷ []) ≡ trimmed_levels ls
 trimmed_bare [] l bare = ap (λ b. cond (b && true) [] (l ∷ [])) bare
 trimmed_bare (x ∷ ls) l bare = ap (λ rest. cond (is_bare x.level && is_empty rest) [] (x ∷ rest)) (trimmed_bare ls l bare)
 
 -- a variant with nothing of its own has the levels of its device
-pub variant_trimmed : (pack : Pack) (place : DevicePlace) (v : Variant) → is_bare v.level ≡ true → trimmed (path_of pack place (Some v)) ≡ trimmed (path_of pack place None)
+pub variant_trimmed : (pack : Pack) (place : DevicePlace) (v : Variant) → is_bare v.level ≡ true → trimmed_levels (path_of pack place (Some v)) ≡ trimmed_levels (path_of pack place None)
 variant_trimmed pack place v bare =
     let path = path_of pack place None in
     let whole : path_of pack place (Some v) ≡ path ++ record { kind = kinds.Variant; level = v.level } ∷ [] =
     sym (ap (λ ls. ls ++ record { kind = kinds.Variant; level = v.level } ∷ []) (append-nil _)) in
-    ap trimmed whole ∙ trimmed_bare path (record { kind = kinds.Variant; level = v.level }) bare
+    ap trimmed_levels whole ∙ trimmed_bare path (record { kind = kinds.Variant; level = v.level }) bare
 
 -- a device with nothing of its own has the levels above it
-pub device_trimmed : (pack : Pack) (place : DevicePlace) → is_bare place.device.level ≡ true → trimmed (path_of pack place None) ≡ trimmed (levels_above pack place.family place.sub_family)
+pub device_trimmed : (pack : Pack) (place : DevicePlace) → is_bare place.device.level ≡ true → trimmed_levels (path_of pack place None) ≡ trimmed_levels (levels_above pack place.family place.sub_family)
 device_trimmed pack place bare =
-    ap trimmed (append-nil (levels_above pack place.family place.sub_family ++ record { kind = kinds.Device; level = place.device.level } ∷ []))
+    ap trimmed_levels (append-nil (levels_above pack place.family place.sub_family ++ record { kind = kinds.Device; level = place.device.level } ∷ []))
     ∙ trimmed_bare (levels_above pack place.family place.sub_family) (record { kind = kinds.Device; level = place.device.level }) bare
 
 -- ---- the set of levels
@@ -125,20 +125,20 @@ numbered_of_same : (known : List KnownSet) (ls ms : List LevelAt) (pname : Optio
     → IsKnownSetOf known ls pname n → IsKnownSetOf known ms pname n
 numbered_of_same known ls ms pname n p q s = record { one = s.one; there = s.there; is = set_of_same ls ms pname s.one.set p q s.is }
 
-pub to_trimmed : (r : PackRequest) (known : List KnownSet) (ls : List LevelAt) (sets : List PnameSet) → AreSetsOf r known ls sets → AreSetsOf r known (trimmed ls) sets
+pub to_trimmed : (r : PackRequest) (known : List KnownSet) (ls : List LevelAt) (sets : List PnameSet) → AreSetsOf r known ls sets → AreSetsOf r known (trimmed_levels ls) sets
 to_trimmed r known ls sets are = record {
   pnames = are.pnames ∙ ap (processors_of r.pname) (sym (pnames_trimmed [] ls));
   each =
-      All-weaker (λ (m : PnameSet). IsKnownSetOf known ls (pname_view m) m.number) (λ (m : PnameSet). IsKnownSetOf known (trimmed ls) (pname_view m) m.number)
-      (λ m is. numbered_of_same known ls (trimmed ls) (pname_view m) m.number (sym (candidates_trimmed (pname_view m) 0 ls)) (sym (deepest_trimmed [] ls)) is) sets are.each;
+      All-weaker (λ (m : PnameSet). IsKnownSetOf known ls (pname_view m) m.number) (λ (m : PnameSet). IsKnownSetOf known (trimmed_levels ls) (pname_view m) m.number)
+      (λ m is. numbered_of_same known ls (trimmed_levels ls) (pname_view m) m.number (sym (candidates_trimmed (pname_view m) 0 ls)) (sym (deepest_trimmed [] ls)) is) sets are.each;
 }
 
-pub from_trimmed : (r : PackRequest) (known : List KnownSet) (ls : List LevelAt) (sets : List PnameSet) → AreSetsOf r known (trimmed ls) sets → AreSetsOf r known ls sets
+pub from_trimmed : (r : PackRequest) (known : List KnownSet) (ls : List LevelAt) (sets : List PnameSet) → AreSetsOf r known (trimmed_levels ls) sets → AreSetsOf r known ls sets
 from_trimmed r known ls sets are = record {
   pnames = are.pnames ∙ ap (processors_of r.pname) (pnames_trimmed [] ls);
   each =
-      All-weaker (λ (m : PnameSet). IsKnownSetOf known (trimmed ls) (pname_view m) m.number) (λ (m : PnameSet). IsKnownSetOf known ls (pname_view m) m.number)
-      (λ m is. numbered_of_same known (trimmed ls) ls (pname_view m) m.number (candidates_trimmed (pname_view m) 0 ls) (deepest_trimmed [] ls) is) sets are.each;
+      All-weaker (λ (m : PnameSet). IsKnownSetOf known (trimmed_levels ls) (pname_view m) m.number) (λ (m : PnameSet). IsKnownSetOf known ls (pname_view m) m.number)
+      (λ m is. numbered_of_same known (trimmed_levels ls) ls (pname_view m) m.number (candidates_trimmed (pname_view m) 0 ls) (deepest_trimmed [] ls) is) sets are.each;
 }
 
 -- ---- more known sets

@@ -31,9 +31,9 @@ abbrev pub is_bare : Level → Bool
 is_bare level = is_empty level.sequences && is_none level.debugvars
 
 -- the levels down to the deepest one that has something of its own
-abbrev pub trimmed : List LevelAt → List LevelAt
-trimmed [] = []
-trimmed (l ∷ ls) = if is_bare l.level && is_empty (trimmed ls) then [] else l ∷ trimmed ls
+abbrev pub trimmed_levels : List LevelAt → List LevelAt
+trimmed_levels [] = []
+trimmed_levels (l ∷ ls) = if is_bare l.level && is_empty (trimmed_levels ls) then [] else l ∷ trimmed_levels ls
 
 -- the levels above the devices of a family, or of a subfamily of it
 abbrev pub levels_above : Pack → Family → Option SubFamily → List LevelAt
@@ -102,7 +102,7 @@ pub record AreFine (pack : Pack) (f : DeviceSets) : Type 0 where
 -- the same, with the sets that are shared along these levels
 pub record IsFineWithShared (pack : Pack) (r : PackRequest) (levels : List LevelAt) (shared : Option (List PnameSet)) (f : DeviceSets) : Type 0 where
   pub fine : AreFine pack f
-  pub along : AreShared r f.known (trimmed levels) shared
+  pub along : AreShared r f.known (trimmed_levels levels) shared
 
 -- these sets were added, and no device was counted
 pub record AreAdded (pack : Pack) (r : PackRequest) (levels : List LevelAt) (added : List SetAt) (old : DeviceSets)

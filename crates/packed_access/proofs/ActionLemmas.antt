@@ -3,7 +3,7 @@ use Rattle.std.proofs.Common.{◌≡◌, inl, ◌∙◌, ℕ, zero, suc, ◌+◌
 use Rattle.std.proofs.Math.Seq.{take-append_seam, take-length}
 use Rattle.std.proofs.lemmas.List.{length-map, map-append, take_more_set}
 use Rattle.std.specs.Prelude.{slice_index}
-use Rattle.target_machine.specs.Plain.{Action, acted, given, is_fault, result_of}
+use Rattle.target_machine.specs.Plain.{Action, action_attempt, given_number, is_fault, result_of}
 use Rattle.target_machine.specs.State.{TargetState}
 use Rattle.target_machine.specs.declared.unit.ProbeCall.{ProbeCall}
 use Rattle.probe_core.specs.Bench.{BenchState, StepsTo}
@@ -16,7 +16,7 @@ use Rattle.target_calls.specs.declared.calls.Ask.{Ask}
 use Rattle.target_calls.proofs.CallLists.{append_skips}
 use Rattle.target_calls.proofs.EndLemmas.{none_skipped}
 use Rattle.access_regs.specs.Entries.{kept_by, target_by}
-use Rattle.access_regs.specs.Journal.{issue_of, issued, numbered}
+use Rattle.access_regs.specs.Journal.{issue_of, issued_entries, numbered_entries}
 use Rattle.access_regs.proofs.EntryLemmas.{journal_grows}
 use Rattle.access_calls.specs.Issued.{kept_of}
 use Rattle.access_calls.specs.declared.issued.Issued.{Issued}
@@ -71,7 +71,7 @@ module _ (p : Planner) (log : LogState) (calls : List Ask) (ask : Ask) (x : Acti
   here = at_rest_count p log (entry_of_call calls x ∷ []) m0 m h
 
   unforgiven : is_unforgiven (target_of m.probe) (entry_of_call calls x) ≡ false
-  unforgiven = and_false (is_fault (acted (target_of m.probe) x).outcome) d.good
+  unforgiven = and_false (is_fault (action_attempt (target_of m.probe) x).outcome) d.good
 
   counts : CanCount x m
   counts = (let f = h.few in omega (arith, f, light, bounded))
@@ -82,7 +82,7 @@ module _ (p : Planner) (log : LogState) (calls : List Ask) (ask : Ask) (x : Acti
   sent : IsSending p log.calls (log.confirmed + 1) log.came [] [] [] (take log.known log.results) m0 o
   sent = action_sends p log.calls log.confirmed log.came (entry_of_call calls x) [] (take log.known log.results) m0 m o rest_is (d.does counts) unforgiven (let w = work_there in omega (arith, w, bounded))
 
-  all_there : issued p t0 log.calls ≡ sent.made
+  all_there : issued_entries p t0 log.calls ≡ sent.made
   all_there = sent.on.are ∙ append-nil sent.made
 
   count_is : length log.calls ≡ length calls + 1
@@ -94,19 +94,19 @@ module _ (p : Planner) (log : LogState) (calls : List Ask) (ask : Ask) (x : Acti
   first_before : take (length calls) log.calls ≡ calls
   first_before = ap (take (length calls)) are ∙ take-append_seam calls (ask ∷ [])
 
-  made_count : length (issued p t0 log.calls) ≡ length log.entries + 1
+  made_count : length (issued_entries p t0 log.calls) ≡ length log.entries + 1
   made_count = (let a = ap length all_there in let c = sent.confirmed_is in let k = here in omega (arith, a, c, k))
 
-  own_count : (n : ℕ) → length (issued p t0 (take n (unmarked_last log.calls))) ≡ length (issued p t0 (take n log.calls))
-  own_count n = ap (λ (l : List Ask). length (issued p t0 (take n l))) (ap unmarked_last are ∙ unmarked_append calls ask unmarked ∙ sym are)
+  own_count : (n : ℕ) → length (issued_entries p t0 (take n (unmarked_last log.calls))) ≡ length (issued_entries p t0 (take n log.calls))
+  own_count n = ap (λ (l : List Ask). length (issued_entries p t0 (take n l))) (ap unmarked_last are ∙ unmarked_append calls ask unmarked ∙ sym are)
 
   come : HaveCome p log.calls (length log.entries + 1) (length log.calls) m0
   come = have_come p log.calls sent.made [] (length log.entries + 1) (length log.calls) m0 h.sending.fresh h.sending.askable (omega arith) sent.on.are sent.on.passes (let c = sent.confirmed_is in let k = here in omega (arith, c, k))
-      (let f = ap (λ (l : List Ask). length (issued p t0 l)) first_all in let n = made_count in omega (arith, f, n))
+      (let f = ap (λ (l : List Ask). length (issued_entries p t0 l)) first_all in let n = made_count in omega (arith, f, n))
 
   come_before : HaveCome p log.calls (length log.entries + 1) (length calls) m0
   come_before = have_come p log.calls sent.made [] (length log.entries + 1) (length calls) m0 h.sending.fresh h.sending.askable (let c = count_is in omega (arith, c)) sent.on.are sent.on.passes (let c = sent.confirmed_is in let k = here in omega (arith, c, k))
-      (let f = ap (λ (k : ℕ). length (issued p t0 (take k log.calls))) came in let n = h.came_made in let s = own_count log.came in let k = here in omega (arith, f, n, s, k))
+      (let f = ap (λ (k : ℕ). length (issued_entries p t0 (take k log.calls))) came in let n = h.came_made in let s = own_count log.came in let k = here in omega (arith, f, n, s, k))
 
   abbrev all : List ℕ
   all = results (start_world t0 None) log.calls
@@ -122,25 +122,25 @@ module _ (p : Planner) (log : LogState) (calls : List Ask) (ask : Ask) (x : Acti
   stop_there : stop (start_world t0 None) (calls ++ ask ∷ []) ≡ None
   stop_there = subst (λ (l : List Ask). stop (start_world t0 None) l ≡ None) (first_all ∙ are) (come.none_stops.stops None tt)
 
-  seam : issued p t0 log.calls ≡ h.sending.made ++ entry_of_call calls x ∷ []
+  seam : issued_entries p t0 log.calls ≡ h.sending.made ++ entry_of_call calls x ∷ []
   seam = h.sending.on.are ∙ ap (λ (l : List Entry). h.sending.made ++ (l ++ entry_of_call calls x ∷ [])) (none_flying h.flying h.sending.on.flight)
 
   made_before : length h.sending.made ≡ length log.entries
   made_before = h.sending.confirmed_is ∙ here
 
-  grown : length (issued p t0 calls) + length (issue_of p (target_by p t0 calls) (kept_by p t0 calls) ask).steps ≡ length log.entries + 1
+  grown : length (issued_entries p t0 calls) + length (issue_of p (target_by p t0 calls) (kept_by p t0 calls) ask).steps ≡ length log.entries + 1
   grown =
-      let l = ap length (ap (issued p t0) are ∙ (journal_grows p t0 calls ask unmarked).0) in
-      let k = length-append (issued p t0 calls) (numbered (length calls) (is_forgiving ask) (issue_of p (target_by p t0 calls) (kept_by p t0 calls) ask).steps) in
-      let n : length (numbered (length calls) (is_forgiving ask) (issue_of p (target_by p t0 calls) (kept_by p t0 calls) ask).steps) ≡ length (issue_of p (target_by p t0 calls) (kept_by p t0 calls) ask).steps = length-map (issue_of p (target_by p t0 calls) (kept_by p t0 calls) ask).steps _ in
+      let l = ap length (ap (issued_entries p t0) are ∙ (journal_grows p t0 calls ask unmarked).0) in
+      let k = length-append (issued_entries p t0 calls) (numbered_entries (length calls) (is_forgiving ask) (issue_of p (target_by p t0 calls) (kept_by p t0 calls) ask).steps) in
+      let n : length (numbered_entries (length calls) (is_forgiving ask) (issue_of p (target_by p t0 calls) (kept_by p t0 calls) ask).steps) ≡ length (issue_of p (target_by p t0 calls) (kept_by p t0 calls) ask).steps = length-map (issue_of p (target_by p t0 calls) (kept_by p t0 calls) ask).steps _ in
       let m = made_count in
       omega (arith, l, k, n, m)
 
   last_is : get_or (results (start_world t0 None) log.calls) (length calls) 0 ≡ result_of ask.call word
   last_is =
       ap (λ (l : List Ask). slice_index (results (start_world t0 None) l) (length calls)) are
-      ∙ result_given p t0 calls ask [] h.sending.made (entry_of_call calls x) [] h.sending.fresh (subst AreAskable are h.sending.askable) stop_there mild large (ap (issued p t0) (sym are) ∙ seam) (let g = grown in let b = made_before in omega (arith, g, b))
-      ∙ ap (λ (t : TargetState). result_of ask.call (given (acted t x).outcome)) (sym h.sending.on.target)
+      ∙ result_given p t0 calls ask [] h.sending.made (entry_of_call calls x) [] h.sending.fresh (subst AreAskable are h.sending.askable) stop_there mild large (ap (issued_entries p t0) (sym are) ∙ seam) (let g = grown in let b = made_before in omega (arith, g, b))
+      ∙ ap (λ (t : TargetState). result_of ask.call (given_number (action_attempt t x).outcome)) (sym h.sending.on.target)
       ∙ ap (result_of ask.call) (sym d.word_is)
 
   came_now : take (length log.calls) (set log.results (length calls) (result_of ask.call word)) ≡ results (start_world t0 None) log.calls
@@ -164,13 +164,13 @@ module _ (p : Planner) (log : LogState) (calls : List Ask) (ask : Ask) (x : Acti
   entry_is : Issued
   entry_is = kept_of (entry_of_call calls x)
 
-  entries_now : log.entries ++ kept_of (entry_of_call calls x) ∷ [] ≡ map kept_of (take (length (log.entries ++ kept_of (entry_of_call calls x) ∷ [])) (issued p t0 log.calls))
+  entries_now : log.entries ++ kept_of (entry_of_call calls x) ∷ [] ≡ map kept_of (take (length (log.entries ++ kept_of (entry_of_call calls x) ∷ [])) (issued_entries p t0 log.calls))
   entries_now =
-      let t = take_more h.sending.made (entry_of_call calls x) [] (issued p t0 log.calls) (length log.entries) seam made_before in
+      let t = take_more h.sending.made (entry_of_call calls x) [] (issued_entries p t0 log.calls) (length log.entries) seam made_before in
       (λ j. (h.entries_are ∙ ap (map kept_of) t.0) j ++ kept_of (entry_of_call calls x) ∷ [])
       ∙ sym (map-append kept_of h.sending.made (entry_of_call calls x ∷ []))
       ∙ ap (map kept_of) (sym t.1)
-      ∙ ap (λ n. map kept_of (take n (issued p t0 log.calls))) (sym (length-append log.entries (kept_of (entry_of_call calls x) ∷ [])))
+      ∙ ap (λ n. map kept_of (take n (issued_entries p t0 log.calls))) (sym (length-append log.entries (kept_of (entry_of_call calls x) ∷ [])))
 
   more_entries : length (log.entries ++ kept_of (entry_of_call calls x) ∷ []) ≡ length log.entries + 1
   more_entries = length-append log.entries (kept_of (entry_of_call calls x) ∷ [])
@@ -194,8 +194,8 @@ module _ (p : Planner) (log : LogState) (calls : List Ask) (ask : Ask) (x : Acti
     strict = tt;
     in_order = omega arith;
     within = omega arith;
-    came_made = (let f = ap (λ (l : List Ask). length (issued p t0 l)) first_all in let s = own_count (length log.calls) in let n = made_count in let k = more_entries in omega (arith, f, s, n, k));
-    whole_issued = (let f = ap (λ (l : List Ask). length (issued p t0 l)) first_all in let s = own_count (length log.calls) in let n = made_count in let k = more_entries in omega (arith, f, s, n, k));
+    came_made = (let f = ap (λ (l : List Ask). length (issued_entries p t0 l)) first_all in let s = own_count (length log.calls) in let n = made_count in let k = more_entries in omega (arith, f, s, n, k));
+    whole_issued = (let f = ap (λ (l : List Ask). length (issued_entries p t0 l)) first_all in let s = own_count (length log.calls) in let n = made_count in let k = more_entries in omega (arith, f, s, n, k));
     came_are = came_now ∙ ap (results (start_world t0 None)) (sym first_all);
     skipped_is = skipped_now;
     given = λ index low less. absurd (omega (arith, low, less));

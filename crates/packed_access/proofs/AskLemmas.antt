@@ -15,7 +15,7 @@ use Rattle.target_calls.specs.World.{results, skips, start_world, small_now}
 use Rattle.target_calls.specs.declared.calls.Ask.{Ask}
 use Rattle.target_calls.proofs.MarkLemmas.{settled_append}
 use Rattle.access_regs.specs.Entries.{kept_by, target_by}
-use Rattle.access_regs.specs.Journal.{issue_of, issued, numbered}
+use Rattle.access_regs.specs.Journal.{issue_of, issued_entries, numbered_entries}
 use Rattle.access_regs.specs.Kept.{Kept}
 use Rattle.access_regs.proofs.EntryLemmas.{journal_grows}
 use Rattle.access_calls.specs.Issued.{kept_of}
@@ -61,10 +61,10 @@ module _ (p : Planner) (bench : BenchReported) (state : Option BenchState) (sent
   same_first : (n : ℕ) → n ≤ length log.calls → take n (log.calls ++ ask ∷ []) ≡ take n log.calls
   same_first n le = take-append-le n log.calls (ask ∷ []) le
 
-  journal_is : issued p t0 (log.calls ++ ask ∷ []) ≡ issued p t0 log.calls ++ numbered (length log.calls) (is_forgiving ask) (issue_of p (target_by p t0 log.calls) (kept_by p t0 log.calls) ask).steps
+  journal_is : issued_entries p t0 (log.calls ++ ask ∷ []) ≡ issued_entries p t0 log.calls ++ numbered_entries (length log.calls) (is_forgiving ask) (issue_of p (target_by p t0 log.calls) (kept_by p t0 log.calls) ask).steps
   journal_is = (journal_grows p t0 log.calls ask unmarked).0
 
-  entries_within : length log.entries ≤ length (issued p t0 log.calls)
+  entries_within : length log.entries ≤ length (issued_entries p t0 log.calls)
   entries_within =
       let f = flying_is in
       let l = ap length f.on.are in
@@ -77,17 +77,17 @@ module _ (p : Planner) (bench : BenchReported) (state : Option BenchState) (sent
   sending_is = subst (λ (came : List ℕ). IsSending p (log.calls ++ ask ∷ []) log.confirmed log.came flying_is.flying (entries_for_call p t0 log.calls kept ask) accesses came m0 m) (sym same_results)
       (call_sends p a kept accesses (take log.known log.results) ask m0 m flying_is ok unmarked)
 
-  own_first : (n : ℕ) → n ≤ length log.calls → length (issued p t0 (take n (unmarked_last (log.calls ++ ask ∷ [])))) ≡ length (issued p t0 (take n log.calls))
-  own_first n le = ap (λ (l : List Ask). length (issued p t0 (take n l))) (unmarked_append log.calls ask unmarked) ∙ ap (λ (l : List Ask). length (issued p t0 l)) (same_first n le)
+  own_first : (n : ℕ) → n ≤ length log.calls → length (issued_entries p t0 (take n (unmarked_last (log.calls ++ ask ∷ [])))) ≡ length (issued_entries p t0 (take n log.calls))
+  own_first n le = ap (λ (l : List Ask). length (issued_entries p t0 (take n l))) (unmarked_append log.calls ask unmarked) ∙ ap (λ (l : List Ask). length (issued_entries p t0 l)) (same_first n le)
 
-  whole_there : length (issued p t0 (take log.whole log.calls)) ≤ length log.entries
+  whole_there : length (issued_entries p t0 (take log.whole log.calls)) ≤ length log.entries
   whole_there =
       let f = flying_is in
       let l = ap length f.on.are in
       let k = length-append f.made (f.flying ++ []) in
       let n = ap length (append-nil f.flying) in
       let i = f.issued_is in
-      let s = ap (λ (j : ℕ). length (issued p t0 (take j log.calls))) h.whole_is ∙ ap (λ (l : List Ask). length (issued p t0 l)) (take-length log.calls) in
+      let s = ap (λ (j : ℕ). length (issued_entries p t0 (take j log.calls))) h.whole_is ∙ ap (λ (l : List Ask). length (issued_entries p t0 l)) (take-length log.calls) in
       omega (arith, l, k, n, i, s)
 
   given_more : (index : ℕ) → log.came ≤ index → index < log.whole → IsGivenAt p t0 (log.calls ++ ask ∷ []) index (slice_index (log.places ++ 0 ∷ []) index)
@@ -121,7 +121,7 @@ module _ (p : Planner) (bench : BenchReported) (state : Option BenchState) (sent
     count = (let c = flying_is.confirmed in let i = flying_is.issued_is in omega (arith, c, i));
     entries_are =
         h.issuing.entries_are
-        ∙ ap (map kept_of) (sym (take-append-le (length log.entries) (issued p t0 log.calls) _ entries_within) ∙ ap (take (length log.entries)) (sym journal_is));
+        ∙ ap (map kept_of) (sym (take-append-le (length log.entries) (issued_entries p t0 log.calls) _ entries_within) ∙ ap (take (length log.entries)) (sym journal_is));
     strict = flying_is.strict;
     in_order = h.issuing.in_order;
     within = (let w = h.issuing.within in let l = length-append log.calls (ask ∷ []) in omega (arith, w, l));
@@ -158,10 +158,10 @@ module _ (p : Planner) (log : LogState) (accesses : List RegAccess) (calls : Lis
   count_is : length log.calls ≡ length calls + 1
   count_is = ap length are ∙ length-append calls (ask ∷ [])
 
-  grown : issued p u0 log.calls ≡ issued p u0 calls ++ numbered (length calls) (is_forgiving ask) (issue_of p (target_by p u0 calls) (kept_by p u0 calls) ask).steps
-  grown = ap (issued p u0) are ∙ (journal_grows p u0 calls ask unmarked).0
+  grown : issued_entries p u0 log.calls ≡ issued_entries p u0 calls ++ numbered_entries (length calls) (is_forgiving ask) (issue_of p (target_by p u0 calls) (kept_by p u0 calls) ask).steps
+  grown = ap (issued_entries p u0) are ∙ (journal_grows p u0 calls ask unmarked).0
 
-  all_there : length (issued p u0 log.calls) ≡ length log.entries
+  all_there : length (issued_entries p u0 log.calls) ≡ length log.entries
   all_there =
       let l = ap length h.sending.on.are in
       let k = length-append h.sending.made (h.flying ++ []) in
@@ -170,11 +170,11 @@ module _ (p : Planner) (log : LogState) (accesses : List RegAccess) (calls : Lis
       let i = h.count in
       omega (arith, l, k, n, c, i)
 
-  steps_there : length (issued p u0 calls) + length (issue_of p (target_by p u0 calls) (kept_by p u0 calls) ask).steps ≡ length log.entries
+  steps_there : length (issued_entries p u0 calls) + length (issue_of p (target_by p u0 calls) (kept_by p u0 calls) ask).steps ≡ length log.entries
   steps_there =
       let l = ap length grown in
-      let k = length-append (issued p u0 calls) (numbered (length calls) (is_forgiving ask) (issue_of p (target_by p u0 calls) (kept_by p u0 calls) ask).steps) in
-      let n : length (numbered (length calls) (is_forgiving ask) (issue_of p (target_by p u0 calls) (kept_by p u0 calls) ask).steps) ≡ length (issue_of p (target_by p u0 calls) (kept_by p u0 calls) ask).steps = length-map (issue_of p (target_by p u0 calls) (kept_by p u0 calls) ask).steps _ in
+      let k = length-append (issued_entries p u0 calls) (numbered_entries (length calls) (is_forgiving ask) (issue_of p (target_by p u0 calls) (kept_by p u0 calls) ask).steps) in
+      let n : length (numbered_entries (length calls) (is_forgiving ask) (issue_of p (target_by p u0 calls) (kept_by p u0 calls) ask).steps) ≡ length (issue_of p (target_by p u0 calls) (kept_by p u0 calls) ask).steps = length-map (issue_of p (target_by p u0 calls) (kept_by p u0 calls) ask).steps _ in
       let a = all_there in
       omega (arith, l, k, n, a)
 
@@ -223,7 +223,7 @@ module _ (p : Planner) (log : LogState) (accesses : List RegAccess) (calls : Lis
       in_order = (let a = h.in_order in let b = h.within in omega (arith, a, b));
       within = omega arith;
       came_made = h.came_made;
-      whole_issued = (let s = ap (λ (l : List Ask). length (issued p u0 (take (length log.calls) l))) own_calls ∙ ap (λ (l : List Ask). length (issued p u0 l)) all_calls in let t = all_there in omega (arith, s, t));
+      whole_issued = (let s = ap (λ (l : List Ask). length (issued_entries p u0 (take (length log.calls) l))) own_calls ∙ ap (λ (l : List Ask). length (issued_entries p u0 l)) all_calls in let t = all_there in omega (arith, s, t));
       came_are = h.came_are;
       skipped_is = h.skipped_is;
       given = λ index low less. (given_at index low less (cases_lt index (length calls))).0;

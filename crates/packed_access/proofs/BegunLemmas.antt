@@ -13,7 +13,7 @@ use Rattle.target_calls.specs.Journal.{Entry, Passes}
 use Rattle.target_calls.specs.World.{AtLeast, results, stop}
 use Rattle.target_calls.specs.declared.calls.Ask.{Ask}
 use Rattle.access_regs.specs.Entries.{kept_by}
-use Rattle.access_regs.specs.Journal.{issued, making}
+use Rattle.access_regs.specs.Journal.{issued_entries, making}
 use Rattle.access_regs.specs.Kept.{Kept}
 use Rattle.access_regs.proofs.StopLists.{passing_stops}
 use Rattle.access_calls.specs.Answers.{AtCut, StopsCalls, StopsOrSettles, StopsSettling}
@@ -81,7 +81,7 @@ ended_begun p bench state log sent got kept accesses m0 s h is =
 whole_stops : (p : Planner) (log : LogState) (accesses : List RegAccess) (m0 m : BenchState) (n : Option ℕ) → IsIssuing p log accesses [] m0 m → accesses ≡ [] → AtLeast (length log.calls) n → stop (world_from m0 n) log.calls ≡ None
 whole_stops p log accesses m0 m n h empty enough =
     let none : h.flying ≡ [] = none_flying h.flying (h.sending.on.flight ∙ ap making empty) in
-    let all : issued p (target_of m0.probe) log.calls ≡ h.sending.made = h.sending.on.are ∙ ap (λ (l : List Entry). h.sending.made ++ (l ++ [])) none ∙ append-nil h.sending.made in
+    let all : issued_entries p (target_of m0.probe) log.calls ≡ h.sending.made = h.sending.on.are ∙ ap (λ (l : List Entry). h.sending.made ++ (l ++ [])) none ∙ append-nil h.sending.made in
     (passing_stops p (target_of m0.probe) log.calls h.sending.fresh h.sending.askable (subst (Passes (target_of m0.probe)) (sym all) h.sending.on.passes)).stops n enough
 
 pub enough_left : (bench : BenchReported) (state : Option BenchState) (log : LogState) (sent got : List ℕ) (n : Option ℕ) → log.end ≡ None → IsLeft (reported_by bench state log sent got) n → AtLeast log.came n

@@ -1,25 +1,23 @@
 -- Calls all of whose entries were made have come.
-use Rattle.std.proofs.Common.{◌≡◌, ◌⊎◌, inl, inr, ◌∙◌, ℕ, suc, ◌+◌, ◌-◌, ◌<◌, ◌≤◌, Bool, true, false, List, [], ◌∷◌, ◌++◌, length, take, drop, Option, Some, None, refl, sym, ap, subst, arith, append-nil, append_assoc, length-append}
-use Rattle.std.proofs.Math.Seq.{take-append_seam, take-append-add, take-length}
+use Rattle.std.proofs.Common.{◌≡◌, ◌⊎◌, inl, inr, ◌∙◌, ℕ, suc, ◌+◌, ◌-◌, ◌<◌, ◌≤◌, Bool, true, false, List, [], ◌∷◌, ◌++◌, length, take, drop, Option, None, refl, sym, ap, subst, arith, length-append}
+use Rattle.std.proofs.Math.Seq.{take-append-add, take-length}
 use Rattle.std.proofs.lemmas.Bool.{cases_lt}
 use Rattle.std.proofs.lemmas.List.{take-append-drop, length-take-le, length-map}
-use Rattle.std.specs.Prelude.{slice_index}
 use Rattle.target_machine.specs.Fresh.{IsFresh}
-use Rattle.target_machine.specs.Plain.{acted, given, result_of}
 use Rattle.target_machine.specs.State.{TargetState}
 use Rattle.probe_core.specs.Bench.{BenchState}
 use Rattle.probe_core.specs.Probe.{target_of}
 use Rattle.target_calls.specs.Asks.{AreAskable, is_forgiving, is_settled, settled_last}
 use Rattle.target_calls.specs.Journal.{Entry, Passes, lines_before, target_after}
-use Rattle.target_calls.specs.World.{AtLeast, World, results, small_now, start_world, stop, world_after}
+use Rattle.target_calls.specs.World.{AtLeast, World, results, start_world}
 use Rattle.target_calls.specs.declared.calls.Ask.{Ask}
 use Rattle.target_calls.specs.declared.journal.Part.TheVariants.{Settles}
-use Rattle.target_calls.proofs.CallLists.{append_results, count_of}
+use Rattle.target_calls.proofs.CallLists.{count_of}
 use Rattle.target_calls.proofs.EntryLemmas.{pass_front}
 use Rattle.target_calls.proofs.MarkLemmas.{length_marked, marked_same, results_marked, stop_marked}
 use Rattle.access_regs.specs.Alone.{NoneFaults, call_alone}
 use Rattle.access_regs.specs.Entries.{kept_by, target_by}
-use Rattle.access_regs.specs.Journal.{Step, entries_at, finish_of, issue_of, issued, issued_from, kept_at, kept_from, numbered, steps_of, target_at}
+use Rattle.access_regs.specs.Journal.{finish_of, issue_of, issued_entries, issued_from, kept_at, kept_from, numbered_entries, steps_of, target_at}
 use Rattle.access_regs.specs.Kept.{nothing_kept}
 use Rattle.access_regs.specs.Plan.{settle}
 use Rattle.access_regs.specs.Stops.{NoneStops, world_at}
@@ -30,8 +28,7 @@ use Rattle.access_regs.proofs.StopLists.{passing_stops}
 use Rattle.access_calls.specs.Reported.{world_from}
 use Rattle.flight_laws.specs.Flights.{IsCutAt}
 use Rattle.flight_laws.proofs.OpenLemmas.{whole_results}
-use Rattle.flight_laws.proofs.StopLemmas.{came_before}
-use Rattle.flight_laws.proofs.SendLemmas.{settling_lines}
+use Rattle.flight_laws.proofs.SendLemmas.{HaveCome as CallsHaveCome, first_come, settling_lines}
 use Rattle.packed_access.specs.Marks.{length_unmarked, marked_unmarked, take_unmarked, unmarked_last, unmarked_same}
 use Rattle.packed_access.specs.Stands.{begins_with}
 use Rattle.access_regs.specs.declared.planner.Planner.{Planner}
@@ -42,10 +39,10 @@ pub record HaveCome (p : Planner) (calls : List Ask) (confirmed count : ℕ) (m0
   pub none_stops : NoneStops (target_of m0.probe) [] (take count calls)
   pub length_is : length (results (start_world (target_of m0.probe) None) (take count calls)) ≡ count
   pub results_are : (n : Option ℕ) → AtLeast count n → take count (results (world_from m0 n) calls) ≡ results (start_world (target_of m0.probe) None) (take count calls)
-  pub lines : (k : ℕ) → confirmed ≤ k → (cut : IsCutAt (issued p (target_of m0.probe) calls) k (target_of m0.probe)) → count ≤ lines_before cut.entry
+  pub lines : (k : ℕ) → confirmed ≤ k → (cut : IsCutAt (issued_entries p (target_of m0.probe) calls) k (target_of m0.probe)) → count ≤ lines_before cut.entry
 
 module _ (p : Planner) (calls : List Ask) (made more : List Entry) (confirmed count : ℕ) (m0 : BenchState) (fresh : IsFresh (target_of m0.probe)) (askable : AreAskable calls) (within : count ≤ length calls)
-    (are : issued p (target_of m0.probe) calls ≡ made ++ more) (passes : Passes (target_of m0.probe) made) (confirmed_is : length made ≡ confirmed) (enough : length (issued p (target_of m0.probe) (take count calls)) ≤ confirmed) where
+    (are : issued_entries p (target_of m0.probe) calls ≡ made ++ more) (passes : Passes (target_of m0.probe) made) (confirmed_is : length made ≡ confirmed) (enough : length (issued_entries p (target_of m0.probe) (take count calls)) ≤ confirmed) where
   abbrev t0 : TargetState
   t0 = target_of m0.probe
 
@@ -58,41 +55,24 @@ module _ (p : Planner) (calls : List Ask) (made more : List Entry) (confirmed co
   split : calls ≡ front ++ back
   split = sym (take-append-drop count calls)
 
-  others : List Entry
-  others = issued_from p (0 + length front) (kept_from p nothing_kept t0 front) (target_after t0 (issued p t0 front)) back
+  joined : issued_entries p t0 calls ≡ issued_entries p t0 front ++ issued_from p (0 + length front) (kept_from p nothing_kept t0 front) (target_after t0 (issued_entries p t0 front)) back
+  joined = ap (issued_entries p t0) split ∙ journal_joins p 0 nothing_kept t0 front back
 
-  joined : issued p t0 calls ≡ issued p t0 front ++ issued_from p (0 + length front) (kept_from p nothing_kept t0 front) (target_after t0 (issued p t0 front)) back
-  joined = ap (issued p t0) split ∙ journal_joins p 0 nothing_kept t0 front back
-
-  made_is : made ≡ issued p t0 front ++ take (length made - length (issued p t0 front)) (issued_from p (0 + length front) (kept_from p nothing_kept t0 front) (target_after t0 (issued p t0 front)) back)
-  made_is = begins_with (issued p t0 front) _ made more (sym joined ∙ are) (let a = enough in let b = confirmed_is in omega (arith, a, b))
+  made_is : made ≡ issued_entries p t0 front ++ take (length made - length (issued_entries p t0 front)) (issued_from p (0 + length front) (kept_from p nothing_kept t0 front) (target_after t0 (issued_entries p t0 front)) back)
+  made_is = begins_with (issued_entries p t0 front) _ made more (sym joined ∙ are) (let a = enough in let b = confirmed_is in omega (arith, a, b))
 
   none : NoneStops t0 [] front
-  none = passing_stops p t0 front fresh (askable_first front back (subst AreAskable split askable)) (pass_front t0 (issued p t0 front) _ (subst (Passes t0) made_is passes))
+  none = passing_stops p t0 front fresh (askable_first front back (subst AreAskable split askable)) (pass_front t0 (issued_entries p t0 front) _ (subst (Passes t0) made_is passes))
 
   count_is : length front ≡ count
   count_is = length-take-le count calls within
 
-  results_count : length (results (start_world t0 None) front) ≡ count
-  results_count = count_of (start_world t0 None) front (none.stops None tt) ∙ count_is
-
-  first_results : (n : Option ℕ) → AtLeast count n → take count (results (world_from m0 n) calls) ≡ results (start_world t0 None) front
-  first_results n least =
-      let w : World = world_from m0 n in
-      let whole : stop w front ≡ None = none.stops n (subst (λ (k : ℕ). AtLeast k n) (sym count_is) least) in
-      let first : results w front ≡ results (start_world t0 None) front = whole_results w front whole in
-      let parts : results w calls ≡ results (start_world t0 None) front ++ results (world_after w front) back =
-      ap (results w) split ∙ append_results w front back whole ∙ ap (λ (l : List ℕ). l ++ results (world_after w front) back) first in
-      (λ j. take (sym results_count j) (parts j)) ∙ take-append_seam (results (start_world t0 None) front) (results (world_after w front) back)
-
-  first_lines : (k : ℕ) → confirmed ≤ k → (cut : IsCutAt (issued p t0 calls) k t0) → count ≤ lines_before cut.entry
-  first_lines k low cut =
-      let there : IsCutAt (issued p t0 (front ++ back)) k t0 = record { front = cut.front; entry = cut.entry; more = cut.more; is = ap (issued p t0) (sym split) ∙ cut.is; at = cut.at; passes = cut.passes } in
-      let few : length front ≤ lines_before cut.entry = came_before p t0 front back k (omega (arith, low, enough)) there in
-      omega (arith, few, count_is)
+  came : CallsHaveCome p calls confirmed count (results (start_world t0 None) front) m0
+  came =
+      first_come p calls front back _ made confirmed count (results (start_world t0 None) front) m0 fresh askable split made_is passes confirmed_is (sym count_is) refl
 
   pub have_come : HaveCome p calls confirmed count m0
-  have_come = record { none_stops = none; length_is = results_count; results_are = first_results; lines = first_lines }
+  have_come = record { none_stops = none; length_is = came.length_is; results_are = came.results_are; lines = came.lines }
 
 -- ---- calls with a settling after the last one, which need not be made
 
@@ -113,21 +93,21 @@ none_marked t large calls h = record {
 }
 
 module _ (p : Planner) (calls : List Ask) (made more : List Entry) (confirmed : ℕ) (m0 : BenchState) (fresh : IsFresh (target_of m0.probe)) (askable : AreAskable (settled_last calls))
-    (are : issued p (target_of m0.probe) (settled_last calls) ≡ made ++ more) (passes : Passes (target_of m0.probe) made) (confirmed_is : length made ≡ confirmed) (enough : length (issued p (target_of m0.probe) calls) ≤ confirmed) where
+    (are : issued_entries p (target_of m0.probe) (settled_last calls) ≡ made ++ more) (passes : Passes (target_of m0.probe) made) (confirmed_is : length made ≡ confirmed) (enough : length (issued_entries p (target_of m0.probe) calls) ≤ confirmed) where
   abbrev u0 : TargetState
   u0 = target_of m0.probe
 
   settling : List Entry
-  settling = numbered (length calls) false (steps_of Settles (settle (kept_by p u0 calls)))
+  settling = numbered_entries (length calls) false (steps_of Settles (settle (kept_by p u0 calls)))
 
-  grown : issued p u0 (settled_last calls) ≡ issued p u0 calls ++ numbered (length calls) false (steps_of Settles (settle (kept_by p u0 calls)))
+  grown : issued_entries p u0 (settled_last calls) ≡ issued_entries p u0 calls ++ numbered_entries (length calls) false (steps_of Settles (settle (kept_by p u0 calls)))
   grown = (journal_marks p u0 calls).0
 
-  made_all : made ≡ issued p u0 calls ++ take (length made - length (issued p u0 calls)) (numbered (length calls) false (steps_of Settles (settle (kept_by p u0 calls))))
-  made_all = begins_with (issued p u0 calls) _ made more (sym grown ∙ are) (omega (arith, enough, confirmed_is))
+  made_all : made ≡ issued_entries p u0 calls ++ take (length made - length (issued_entries p u0 calls)) (numbered_entries (length calls) false (steps_of Settles (settle (kept_by p u0 calls))))
+  made_all = begins_with (issued_entries p u0 calls) _ made more (sym grown ∙ are) (omega (arith, enough, confirmed_is))
 
   none_there : NoneStops u0 [] calls
-  none_there = passing_stops p u0 calls fresh (askable_unmarked calls askable) (pass_front u0 (issued p u0 calls) _ (subst (Passes u0) made_all passes))
+  none_there = passing_stops p u0 calls fresh (askable_unmarked calls askable) (pass_front u0 (issued_entries p u0 calls) _ (subst (Passes u0) made_all passes))
 
   all_first : take (length calls) (settled_last calls) ≡ settled_last calls
   all_first = ap (λ (n : ℕ). take n (settled_last calls)) (sym (length_marked calls)) ∙ take-length (settled_last calls)
@@ -142,10 +122,10 @@ module _ (p : Planner) (calls : List Ask) (made more : List Entry) (confirmed : 
       ∙ ap (λ (k : ℕ). take k (results (start_world u0 None) calls)) (sym all_results) ∙ take-length (results (start_world u0 None) calls)
       ∙ sym (results_marked (start_world u0 None) calls)
 
-  later_lines : (k : ℕ) → confirmed ≤ k → (cut : IsCutAt (issued p u0 (settled_last calls)) k u0) → length calls ≤ lines_before cut.entry
-  later_lines k low cut = by_seam (seam_in (issued p u0 calls) _ cut.front cut.entry cut.more (sym grown ∙ cut.is))
+  later_lines : (k : ℕ) → confirmed ≤ k → (cut : IsCutAt (issued_entries p u0 (settled_last calls)) k u0) → length calls ≤ lines_before cut.entry
+  later_lines k low cut = by_seam (seam_in (issued_entries p u0 calls) _ cut.front cut.entry cut.more (sym grown ∙ cut.is))
     where
-      by_seam : InFirst (issued p u0 calls) cut.front cut.entry ⊎ InSecond (issued p u0 calls) (numbered (length calls) false (steps_of Settles (settle (kept_by p u0 calls)))) cut.front cut.entry cut.more → length calls ≤ lines_before cut.entry
+      by_seam : InFirst (issued_entries p u0 calls) cut.front cut.entry ⊎ InSecond (issued_entries p u0 calls) (numbered_entries (length calls) false (steps_of Settles (settle (kept_by p u0 calls)))) cut.front cut.entry cut.more → length calls ≤ lines_before cut.entry
       by_seam (inl s) = absurd (let a = ap length s.is ∙ length-append cut.front (cut.entry ∷ s.more) in let b = cut.at in omega (arith, a, b, low, enough))
       by_seam (inr s) = (let a = settling_lines (length calls) (kept_by p u0 calls) s.back cut.entry cut.more s.is in omega (arith, a))
 
@@ -159,21 +139,21 @@ module _ (p : Planner) (calls : List Ask) (made more : List Entry) (confirmed : 
 
 -- all their own entries were made
 pub have_come_own : (p : Planner) (calls : List Ask) (made more : List Entry) (confirmed count : ℕ) (m0 : BenchState) → IsFresh (target_of m0.probe) → AreAskable calls → count ≤ length calls →
-    issued p (target_of m0.probe) calls ≡ made ++ more → Passes (target_of m0.probe) made → length made ≡ confirmed → length (issued p (target_of m0.probe) (take count (unmarked_last calls))) ≤ confirmed → HaveCome p calls confirmed count m0
+    issued_entries p (target_of m0.probe) calls ≡ made ++ more → Passes (target_of m0.probe) made → length made ≡ confirmed → length (issued_entries p (target_of m0.probe) (take count (unmarked_last calls))) ≤ confirmed → HaveCome p calls confirmed count m0
 have_come_own p calls made more confirmed count m0 fresh askable within are passes confirmed_is enough = by_mark (is_settled calls) refl
   where
     plain : take count (unmarked_last calls) ≡ take count calls → HaveCome p calls confirmed count m0
-    plain same = have_come p calls made more confirmed count m0 fresh askable within are passes confirmed_is (let e = ap (λ (l : List Ask). length (issued p (target_of m0.probe) l)) same in omega (arith, enough, e))
+    plain same = have_come p calls made more confirmed count m0 fresh askable within are passes confirmed_is (let e = ap (λ (l : List Ask). length (issued_entries p (target_of m0.probe) l)) same in omega (arith, enough, e))
 
     marked : is_settled calls ≡ true → length calls ≤ count → HaveCome p calls confirmed count m0
     marked settled ge =
         let same : settled_last (unmarked_last calls) ≡ calls = marked_unmarked calls ∙ marked_same calls settled in
         let number : length (unmarked_last calls) ≡ count = (let l = length_unmarked calls in omega (arith, l, ge, within)) in
         let first : take count (unmarked_last calls) ≡ unmarked_last calls = ap (λ (n : ℕ). take n (unmarked_last calls)) (sym number) ∙ take-length (unmarked_last calls) in
-        let own : length (issued p (target_of m0.probe) (unmarked_last calls)) ≤ confirmed = (let e = ap (λ (l : List Ask). length (issued p (target_of m0.probe) l)) first in omega (arith, enough, e)) in
+        let own : length (issued_entries p (target_of m0.probe) (unmarked_last calls)) ≤ confirmed = (let e = ap (λ (l : List Ask). length (issued_entries p (target_of m0.probe) l)) first in omega (arith, enough, e)) in
         subst (λ (l : List Ask). HaveCome p l confirmed count m0) same
         (subst (λ (n : ℕ). HaveCome p (settled_last (unmarked_last calls)) confirmed n m0) number
-        (come_marked p (unmarked_last calls) made more confirmed m0 fresh (subst AreAskable (sym same) askable) (ap (issued p (target_of m0.probe)) same ∙ are) passes confirmed_is own))
+        (come_marked p (unmarked_last calls) made more confirmed m0 fresh (subst AreAskable (sym same) askable) (ap (issued_entries p (target_of m0.probe)) same ∙ are) passes confirmed_is own))
 
     by_place : is_settled calls ≡ true → (count < length calls) ⊎ (length calls ≤ count) → HaveCome p calls confirmed count m0
     by_place settled (inl less) = plain (take_unmarked count calls less)
@@ -192,13 +172,13 @@ take_through count asks ask more less =
     ∙ take-append-add asks (ask ∷ more) (suc (count - suc (length asks)))
 
 -- the last own entry of a call is among the entries of calls that begin with it
-pub place_within : (p : Planner) (t : TargetState) (asks : List Ask) (ask : Ask) (more : List Ask) → length (issued p t asks) + length (issue_of p (target_by p t asks) (kept_by p t asks) ask).steps ≤ length (issued p t (asks ++ ask ∷ more))
+pub place_within : (p : Planner) (t : TargetState) (asks : List Ask) (ask : Ask) (more : List Ask) → length (issued_entries p t asks) + length (issue_of p (target_by p t asks) (kept_by p t asks) ask).steps ≤ length (issued_entries p t (asks ++ ask ∷ more))
 place_within p t asks ask more =
     let j = ap length (journal_joins p 0 nothing_kept t asks (ask ∷ more)) in
-    let own : List Entry = numbered (0 + length asks) (is_forgiving ask) (issue_of p (target_by p t asks) (kept_by p t asks) ask).steps in
-    let settling : List Entry = numbered ((0 + length asks) + 1) false (finish_of p (target_by p t asks) (kept_by p t asks) ask).steps in
+    let own : List Entry = numbered_entries (0 + length asks) (is_forgiving ask) (issue_of p (target_by p t asks) (kept_by p t asks) ask).steps in
+    let settling : List Entry = numbered_entries ((0 + length asks) + 1) false (finish_of p (target_by p t asks) (kept_by p t asks) ask).steps in
     let others : List Entry = issued_from p ((0 + length asks) + 1) (kept_at p (target_by p t asks) (kept_by p t asks) ask) (target_at p (target_by p t asks) (kept_by p t asks) ask) more in
-    let a = length-append (issued p t asks) ((own ++ settling) ++ others) in
+    let a = length-append (issued_entries p t asks) ((own ++ settling) ++ others) in
     let b = length-append (own ++ settling) others in
     let c = length-append own settling in
     let d : length own ≡ length (issue_of p (target_by p t asks) (kept_by p t asks) ask).steps = length-map (issue_of p (target_by p t asks) (kept_by p t asks) ask).steps _ in

@@ -3,9 +3,9 @@ use Rattle.std.proofs.Common.{◌≡◌, ◌∙◌, ℕ, ◌+◌, ◌-◌, Bool,
 use Rattle.std.proofs.Math.Seq.{take-append_seam}
 use Rattle.std.proofs.lemmas.List.{map-append}
 use Rattle.dap_base.specs.Bits.{has_bit}
-use Rattle.target_machine.specs.Attempt.{Attempt, done}
+use Rattle.target_machine.specs.Attempt.{Attempt, done_attempt}
 use Rattle.target_machine.specs.Lists.{PassTo, after}
-use Rattle.target_machine.specs.Plain.{Action, Makes, acted, in_order, is_fault}
+use Rattle.target_machine.specs.Plain.{Action, Makes, action_attempt, in_order, is_fault}
 use Rattle.target_machine.specs.State.{TargetState}
 use Rattle.target_machine.specs.declared.access.RegAccess.{RegAccess}
 use Rattle.target_machine.specs.declared.unit.Unit.{Unit as AccessUnit}
@@ -19,7 +19,7 @@ use Rattle.target_calls.specs.declared.calls.Ask.{Ask}
 use Rattle.target_calls.specs.declared.journal.Part.{Part}
 use Rattle.target_calls.specs.declared.journal.Part.TheVariants.{Leads}
 use Rattle.target_calls.proofs.EntryLemmas.{pass_rest}
-use Rattle.access_regs.specs.Journal.{Issue, before, by_cfg, by_cfg_read, by_csw, gives, issued, making, numbered, port_of, steps_of}
+use Rattle.access_regs.specs.Journal.{Issue, before, by_cfg, by_cfg_read, by_csw, gives, issued_entries, making, numbered_entries, port_of, steps_of}
 use Rattle.access_regs.specs.Kept.{Kept}
 use Rattle.access_regs.specs.Plan.{cfg_plan, learned_cfg, needs_cfg, needs_csw}
 use Rattle.access_regs.proofs.Seams.{after_split}
@@ -44,48 +44,48 @@ cancel_back xs ys zs same =
     sym (take-append_seam xs zs) ∙ (λ j. take (n j) (same j)) ∙ take-append_seam ys zs
 
 issued_between : (p : Planner) (x y : Option BenchState) (old new : LogState) (accesses accesses' : List RegAccess) (own rest : List Entry) (m0 : BenchState) → HasIssued p x old accesses (own ++ rest) m0 → HasIssued p y new accesses' rest m0 → new.calls ≡ old.calls →
-    take (length new.entries) (issued p (target_of m0.probe) new.calls) ≡ take (length old.entries) (issued p (target_of m0.probe) old.calls) ++ own
+    take (length new.entries) (issued_entries p (target_of m0.probe) new.calls) ≡ take (length old.entries) (issued_entries p (target_of m0.probe) old.calls) ++ own
 issued_between p x y old new accesses accesses' own rest m0 h k calls =
     let a = (seam_of p x old accesses (own ++ rest) m0 h.so).0 in
     let b = (seam_of p y new accesses' rest m0 k.so).0 in
-    cancel_back (take (length new.entries) (issued p (target_of m0.probe) new.calls)) (take (length old.entries) (issued p (target_of m0.probe) old.calls) ++ own) rest
-    (sym b ∙ ap (issued p (target_of m0.probe)) calls ∙ a ∙ sym (append_assoc (take (length old.entries) (issued p (target_of m0.probe) old.calls)) own rest))
+    cancel_back (take (length new.entries) (issued_entries p (target_of m0.probe) new.calls)) (take (length old.entries) (issued_entries p (target_of m0.probe) old.calls) ++ own) rest
+    (sym b ∙ ap (issued_entries p (target_of m0.probe)) calls ∙ a ∙ sym (append_assoc (take (length old.entries) (issued_entries p (target_of m0.probe) old.calls)) own rest))
 
 -- the target moves by the accesses that were issued
 pub target_moves : (p : Planner) (x y : Option BenchState) (old new : LogState) (accesses accesses' : List RegAccess) (unit : ℕ) (part : Part) (xs : List RegAccess) (rest : List Entry) (m0 : BenchState) →
     HasIssued p x old accesses (strict_entries unit part xs ++ rest) m0 → HasIssued p y new accesses' rest m0 → new.calls ≡ old.calls → target_issued p new m0 ≡ after (target_issued p old m0) (making xs)
 target_moves p x y old new accesses accesses' unit part xs rest m0 h k calls =
     ap (target_after (target_of m0.probe)) (issued_between p x y old new accesses accesses' (strict_entries unit part xs) rest m0 h k calls)
-    ∙ after_split (target_of m0.probe) (take (length old.entries) (issued p (target_of m0.probe) old.calls)) (strict_entries unit part xs)
+    ∙ after_split (target_of m0.probe) (take (length old.entries) (issued_entries p (target_of m0.probe) old.calls)) (strict_entries unit part xs)
     ∙ ap (after (target_issued p old m0)) (actions_of_entries unit part xs)
 
 -- ---- accesses that pass
 
 pass_to : (u : TargetState) (unit : ℕ) (part : Part) (xs : List RegAccess) → Passes u (strict_entries unit part xs) → PassTo u (making xs) (after u (making xs))
 pass_to u unit part [] h = refl
-pass_to u unit part (a ∷ xs) h = (clear_of (is_fault (acted u (Makes a)).outcome) h.0, pass_to (acted u (Makes a)).next unit part xs h.1)
+pass_to u unit part (a ∷ xs) h = (clear_of (is_fault (action_attempt u (Makes a)).outcome) h.0, pass_to (action_attempt u (Makes a)).next unit part xs h.1)
 
 order_good : (m : Attempt) (v : TargetState) (xs : List Action) → is_fault m.outcome ≡ false → PassTo m.next xs v → is_fault (order_from m xs).outcome ≡ false
 order_good m v [] good h = good
-order_good m v (x ∷ xs) good h = ap (λ (b : Bool). is_fault (order_from (cond b m (acted m.next x)) xs).outcome) good ∙ order_good (acted m.next x) v xs h.0 h.1
+order_good m v (x ∷ xs) good h = ap (λ (b : Bool). is_fault (order_from (cond b m (action_attempt m.next x)) xs).outcome) good ∙ order_good (action_attempt m.next x) v xs h.0 h.1
 
 -- what is confirmed passes, where nothing lies in the flight
 rest_passes : (p : Planner) (y : Option BenchState) (log : LogState) (rest : List Entry) (m0 : BenchState) → WhereObservable y (λ m. IsIssuing p log [] rest m0 m) →
-    Passes (target_of m0.probe) (take (length log.entries) (issued p (target_of m0.probe) log.calls))
+    Passes (target_of m0.probe) (take (length log.entries) (issued_entries p (target_of m0.probe) log.calls))
 rest_passes p None log rest m0 h = absurd h
 rest_passes p (Some m) log rest m0 h =
     let at : length h.sending.made ≡ length log.entries = h.sending.confirmed_is ∙ at_rest_count p log rest m0 m h in
-    let first : take (length log.entries) (issued p (target_of m0.probe) log.calls) ≡ h.sending.made = (λ j. take (sym at j) (h.sending.on.are j)) ∙ take-append_seam h.sending.made (h.flying ++ rest) in
+    let first : take (length log.entries) (issued_entries p (target_of m0.probe) log.calls) ≡ h.sending.made = (λ j. take (sym at j) (h.sending.on.are j)) ∙ take-append_seam h.sending.made (h.flying ++ rest) in
     subst (Passes (target_of m0.probe)) (sym first) h.sending.on.passes
 
 -- accesses that came do not fault
 pub came_good : (p : Planner) (x y : Option BenchState) (old new : LogState) (accesses : List RegAccess) (unit : ℕ) (part : Part) (xs : List RegAccess) (rest : List Entry) (m0 : BenchState) →
     HasIssued p x old accesses (strict_entries unit part xs ++ rest) m0 → HasIssued p y new [] rest m0 → new.calls ≡ old.calls → is_fault (in_order (target_issued p old m0) (making xs)).outcome ≡ false
 came_good p x y old new accesses unit part xs rest m0 h k calls =
-    let first : List Entry = take (length old.entries) (issued p (target_of m0.probe) old.calls) in
-    let all : Passes (target_of m0.probe) (take (length old.entries) (issued p (target_of m0.probe) old.calls) ++ strict_entries unit part xs) =
+    let first : List Entry = take (length old.entries) (issued_entries p (target_of m0.probe) old.calls) in
+    let all : Passes (target_of m0.probe) (take (length old.entries) (issued_entries p (target_of m0.probe) old.calls) ++ strict_entries unit part xs) =
     subst (Passes (target_of m0.probe)) (issued_between p x y old new accesses [] (strict_entries unit part xs) rest m0 h k calls) (rest_passes p y new rest m0 k.so) in
-    order_good (done (target_issued p old m0)) (after (target_issued p old m0) (making xs)) (making xs) refl
+    order_good (done_attempt (target_issued p old m0)) (after (target_issued p old m0) (making xs)) (making xs) refl
     (pass_to (target_issued p old m0) unit part xs (pass_rest (target_of m0.probe) first (strict_entries unit part xs) all))
 
 -- and no call stops before the last one
@@ -161,7 +161,7 @@ large_left p x y old mid accesses accesses' k k' asked m0 needs bit first there 
     let is : by_csw (target_issued p mid m0) k' asked ≡ after_cfg (target_issued p old m0) k asked = large_is (target_issued p old m0) (target_issued p mid m0) k k' asked bit at kept in
     record {
       left = subst (λ (xs : List RegAccess). HasIssued p y mid xs (steps_left mid (by_csw (target_issued p mid m0) k' asked).steps) m0) (sym empty)
-          (subst (λ (l : List Entry). HasIssued p y mid [] l m0) (λ j. numbered (length (sym calls j) - 1) false (sym is j).steps) there);
+          (subst (λ (l : List Entry). HasIssued p y mid [] l m0) (λ j. numbered_entries (length (sym calls j) - 1) false (sym is j).steps) there);
       kept = ap (λ (x : Issue). x.kept) is ∙ sym (cfg_kept (target_issued p old m0) k asked needs);
     }
 

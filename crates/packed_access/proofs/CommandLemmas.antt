@@ -8,7 +8,7 @@ use Rattle.target_machine.specs.declared.unit.Call.TheVariants.{Probe}
 use Rattle.target_machine.specs.declared.unit.ProbeCall.{ProbeCall}
 use Rattle.target_machine.specs.declared.unit.ProbeCall.TheVariants as probe
 use Rattle.target_calls.specs.Asks.{probe_ask}
-use Rattle.target_calls.specs.NeedPoints.{Cost, asked, needed_more}
+use Rattle.target_calls.specs.NeedPoints.{Cost, asks_with_call, needed_more}
 use Rattle.target_machine.specs.Packets.{commands_for}
 use Rattle.target_calls.specs.World.{World, small_after, small_now, stop, world_after}
 use Rattle.target_calls.specs.declared.calls.Ask.{Ask}
@@ -67,7 +67,7 @@ command_cost_is Managed t calls call = refl
 command_cost_is Plain t calls call = refl
 
 pub command_needs : (p : Planner) (t : TargetState) (calls : List Ask) (call : ProbeCall) (points count needs fence : ℕ) (log new : LogState) → points ≡ managed_points p (command_cost call) → new ≡ with_needs log points count → count ≡ length log.calls →
-    asks_of log ≡ record { calls = calls ++ probe_ask call ∷ []; needs = needs; fence = fence } → asks_of new ≡ asked (cost_by p t calls (probe_ask call)) (probe_ask call) (record { calls = calls; needs = needs; fence = fence })
+    asks_of log ≡ record { calls = calls ++ probe_ask call ∷ []; needs = needs; fence = fence } → asks_of new ≡ asks_with_call (cost_by p t calls (probe_ask call)) (probe_ask call) (record { calls = calls; needs = needs; fence = fence })
 command_needs p t calls call points count needs fence log new points_are is at asks =
     ap asks_of is ∙ (λ j. asks_of (with_needs log (points_are j) (at j))) ∙ needs_more log (managed_points p (command_cost call)) ∙ ap (needed_more (managed_points p (command_cost call))) asks
-    ∙ ap (λ (c : Cost). asked c (probe_ask call) (record { calls = calls; needs = needs; fence = fence })) (command_cost_is p t calls call)
+    ∙ ap (λ (c : Cost). asks_with_call c (probe_ask call) (record { calls = calls; needs = needs; fence = fence })) (command_cost_is p t calls call)

@@ -8,7 +8,7 @@ use Rattle.probe_core.specs.Bench.{Reported as BenchReported}
 use Rattle.probe_core.specs.Probe.{target_of}
 use Rattle.target_calls.specs.Journal.{Entry, attempted_in, skipped_in}
 use Rattle.target_calls.specs.declared.calls.Ask.{Ask}
-use Rattle.access_regs.specs.Journal.{issued}
+use Rattle.access_regs.specs.Journal.{issued_entries}
 use Rattle.access_calls.specs.Issued.{AreKeptOf}
 use Rattle.access_calls.specs.Left.{IsLeft}
 use Rattle.access_calls.specs.Numbers.{HasNumbers, attempted_by, lines_at, unit_at}
@@ -77,7 +77,7 @@ module _ (p : Planner) (bench : BenchReported) (state : Option BenchState) (sent
     cut_off : IsCutOff p r b m0
     cut_off = record {
       end = refl;
-      numbers = numbers_longer (issued p (target_of m0.probe) log.calls) (length log.entries) log.calls skipped lines r (numbers (take (length log.entries) (issued p (target_of m0.probe) log.calls)) h.entries_are) few;
+      numbers = numbers_longer (issued_entries p (target_of m0.probe) log.calls) (length log.entries) log.calls skipped lines r (numbers (take (length log.entries) (issued_entries p (target_of m0.probe) log.calls)) h.entries_are) few;
       came = refl;
     }
 

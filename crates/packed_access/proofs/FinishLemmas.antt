@@ -14,9 +14,9 @@ use Rattle.target_calls.specs.declared.calls.Ask.{Ask}
 use Rattle.target_calls.specs.declared.journal.Part.TheVariants.{Settles}
 use Rattle.target_calls.proofs.MarkLemmas.{length_marked, marked_append, stop_marked}
 use Rattle.access_regs.specs.Entries.{kept_by}
-use Rattle.access_regs.specs.Journal.{issued, numbered, steps_of}
+use Rattle.access_regs.specs.Journal.{issued_entries, numbered_entries, steps_of}
 use Rattle.access_regs.specs.Kept.{Kept}
-use Rattle.access_regs.specs.Plan.{settle, settled}
+use Rattle.access_regs.specs.Plan.{settle, kept_after_settling}
 use Rattle.access_regs.proofs.EntryLemmas.{journal_marks}
 use Rattle.access_calls.specs.Answers.{StopsOrSettles, StopsSettling}
 use Rattle.access_calls.specs.Issued.{kept_of}
@@ -81,10 +81,10 @@ module _ (p : Planner) (bench : BenchReported) (state : Option BenchState) (sent
   flying_is : IsFlying p (reported_by bench state log sent got) kept accesses (take log.known log.results) m0 m
   flying_is = open_flying p bench state log sent got kept accesses m0 m h
 
-  journal_is : issued p t0 (settled_last log.calls) ≡ issued p t0 log.calls ++ numbered (length log.calls) false (steps_of Settles (settle (kept_by p t0 log.calls)))
+  journal_is : issued_entries p t0 (settled_last log.calls) ≡ issued_entries p t0 log.calls ++ numbered_entries (length log.calls) false (steps_of Settles (settle (kept_by p t0 log.calls)))
   journal_is = (journal_marks p t0 log.calls).0
 
-  entries_within : length log.entries ≤ length (issued p t0 log.calls)
+  entries_within : length log.entries ≤ length (issued_entries p t0 log.calls)
   entries_within =
       let f = flying_is in
       let l = ap length f.on.are in
@@ -98,8 +98,8 @@ module _ (p : Planner) (bench : BenchReported) (state : Option BenchState) (sent
       subst (λ (rest : List Entry). IsSending p (settled_last log.calls) log.confirmed log.came flying_is.flying rest accesses (take log.known log.results) m0 m) (settles_numbered (length log.calls) (settle kept))
       (finish_sends p (reported_by bench state log sent got) kept accesses (take log.known log.results) m0 m flying_is)
 
-  own_calls : (n : ℕ) → length (issued p t0 (take n (unmarked_last (settled_last log.calls)))) ≡ length (issued p t0 (take n (unmarked_last log.calls)))
-  own_calls n = ap (λ (l : List Ask). length (issued p t0 (take n l))) (unmarked_marked log.calls)
+  own_calls : (n : ℕ) → length (issued_entries p t0 (take n (unmarked_last (settled_last log.calls)))) ≡ length (issued_entries p t0 (take n (unmarked_last log.calls)))
+  own_calls n = ap (λ (l : List Ask). length (issued_entries p t0 (take n l))) (unmarked_marked log.calls)
 
   pub finish_made : IsIssuing p (record log { calls = settled_last log.calls }) accesses (strict_entries (length log.calls) Settles (settle kept)) m0 m
   finish_made = record {
@@ -109,7 +109,7 @@ module _ (p : Planner) (bench : BenchReported) (state : Option BenchState) (sent
     count = (let c = flying_is.confirmed in let i = flying_is.issued_is in omega (arith, c, i));
     entries_are =
         h.issuing.entries_are
-        ∙ ap (map kept_of) (sym (take-append-le (length log.entries) (issued p t0 log.calls) _ entries_within) ∙ ap (take (length log.entries)) (sym journal_is));
+        ∙ ap (map kept_of) (sym (take-append-le (length log.entries) (issued_entries p t0 log.calls) _ entries_within) ∙ ap (take (length log.entries)) (sym journal_is));
     strict = flying_is.strict;
     in_order = h.issuing.in_order;
     within = (let w = h.issuing.within in let l = length_marked log.calls in omega (arith, w, l));
@@ -141,11 +141,11 @@ begun_marked p bench state log new sent got kept accesses count m0 h none is num
 
 -- all came
 pub begun_finished : (p : Planner) (bench bench' : BenchReported) (state state' : Option BenchState) (log new : LogState) (sent got sent' got' : List ℕ) (kept kept' : Kept) (accesses accesses' : List RegAccess) (m0 : BenchState) → HasBegun p bench state log sent got kept accesses m0 → log.end ≡ None →
-    HasIssued p state' new [] [] m0 → new.calls ≡ settled_last log.calls → new.end ≡ None → new.whole ≡ length new.calls → new.came ≡ length new.calls → kept' ≡ settled kept → accesses' ≡ [] → HasBegun p bench' state' new sent' got' kept' accesses' m0
+    HasIssued p state' new [] [] m0 → new.calls ≡ settled_last log.calls → new.end ≡ None → new.whole ≡ length new.calls → new.came ≡ length new.calls → kept' ≡ kept_after_settling kept → accesses' ≡ [] → HasBegun p bench' state' new sent' got' kept' accesses' m0
 begun_finished p bench bench' state state' log new sent got sent' got' kept kept' accesses accesses' m0 h none there calls none' whole came kept_is empty =
     subst (λ (xs : List RegAccess). HasBegun p bench' state' new sent' got' kept' xs m0) (sym empty)
     (issued_begun p bench' state' new sent' got' kept' [] m0 there none' whole
-    (ap (kept_by p (target_of m0.probe)) calls ∙ (journal_marks p (target_of m0.probe) log.calls).1 ∙ ap settled (open_facts p bench state log sent got kept accesses m0 h none) ∙ sym kept_is)
+    (ap (kept_by p (target_of m0.probe)) calls ∙ (journal_marks p (target_of m0.probe) log.calls).1 ∙ ap kept_after_settling (open_facts p bench state log sent got kept accesses m0 h none) ∙ sym kept_is)
     (λ done. (came, refl)))
 
 -- and no call stops

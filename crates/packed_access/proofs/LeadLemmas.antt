@@ -2,9 +2,9 @@
 use Rattle.std.proofs.Common.{◌≡◌, ◌∙◌, ℕ, Bool, true, false, not, cond, List, [], ◌∷◌, ◌++◌, Option, Some, None, refl, sym, ap, subst, append-nil, append_assoc}
 use Rattle.std.specs.Prelude.{◌||◌}
 use Rattle.std.specs.List.{list_any}
-use Rattle.std.proofs.lemmas.Bool.{or_parts, not-true}
+use Rattle.std.proofs.lemmas.Bool.{or_parts, not-true, both_ways}
 use Rattle.target_machine.specs.Lists.{after}
-use Rattle.target_machine.specs.Plain.{Action, Makes, acted, given, is_fault}
+use Rattle.target_machine.specs.Plain.{Action, Makes, action_attempt, given_number, is_fault}
 use Rattle.target_machine.specs.State.{TargetState}
 use Rattle.target_machine.specs.declared.access.RegAccess.{RegAccess}
 use Rattle.target_machine.specs.declared.unit.Unit.{Unit as AccessUnit}
@@ -48,9 +48,9 @@ last_parts : (asked : AccessUnit) (leads : List RegAccess) (last : RegAccess) (s
 last_parts asked [] last s e = e
 last_parts asked (x ∷ leads) last s e = last_parts asked leads last s (let rest : steps_of_unit asked (leads ++ last ∷ []) ≡ steps_of Leads leads ++ s ∷ [] = cc in rest)
 
-none_mid : (u : TargetState) (front : List RegAccess) (lead : RegAccess) (back : List RegAccess) → NoneFault u (front ++ lead ∷ back) → is_fault (acted (after u (making front)) (Makes lead)).outcome ≡ false
+none_mid : (u : TargetState) (front : List RegAccess) (lead : RegAccess) (back : List RegAccess) → NoneFault u (front ++ lead ∷ back) → is_fault (action_attempt (after u (making front)) (Makes lead)).outcome ≡ false
 none_mid u [] lead back h = h.0
-none_mid u (x ∷ front) lead back h = none_mid (acted u (Makes x)).next front lead back h.1
+none_mid u (x ∷ front) lead back h = none_mid (action_attempt u (Makes x)).next front lead back h.1
 
 -- ---- one by one
 
@@ -82,20 +82,16 @@ module _ (asked : AccessUnit) (t : TargetState) (made leads : List RegAccess) (l
       good = tt;
     }
 
-    lead_good : is_fault (acted (after t (making (made ++ front))) (Makes lead)).outcome ≡ false
+    lead_good : is_fault (action_attempt (after t (making (made ++ front))) (Makes lead)).outcome ≡ false
     lead_good =
-        ap (λ (u : TargetState). is_fault (acted u (Makes lead)).outcome) (after_making t made front)
+        ap (λ (u : TargetState). is_fault (action_attempt u (Makes lead)).outcome) (after_making t made front)
         ∙ none_mid (after t (making made)) front lead back (subst (NoneFault (after t (making made))) are n.good)
-
-    clash : (b : Bool) → b ≡ true → b ≡ false → ⊥
-    clash true e f = cc
-    clash false e f = cc
 
     -- it does not fault
     pub lead_stays : (p : Planner) (forgive : Bool) (x : Option BenchState) (log : LogState) (k : Kept) (m0 : BenchState) → HasForgiven p forgive x log asked k t ((made ++ front) ++ []) lead m0 → HasForgiven p forgive x log asked k t (made ++ leads) last m0
     lead_stays p forgive x log k m0 h = record {
       so = where_same x (λ m. IsForgiven p forgive log asked k t ((made ++ front) ++ []) lead m0 m) (λ m. IsForgiven p forgive log asked k t (made ++ leads) last m0 m)
-          (λ m i. absurd (clash (is_fault (acted (after t (making (made ++ front))) (Makes lead)).outcome) (ap (λ (l : List RegAccess). is_fault (acted (after t (making l)) (Makes lead)).outcome) (sym (append-nil (made ++ front))) ∙ i.bad) lead_good)) h.so;
+          (λ m i. absurd (both_ways (is_fault (action_attempt (after t (making (made ++ front))) (Makes lead)).outcome) lead_good (ap (λ (l : List RegAccess). is_fault (action_attempt (after t (making l)) (Makes lead)).outcome) (sym (append-nil (made ++ front))) ∙ i.bad))) h.so;
     }
 
   -- the last of all
@@ -122,5 +118,5 @@ pub all_went : (p : Planner) (forgive : Bool) (w : Option ℕ) (x : Option Bench
 all_went p forgive None x log asked k t made leads last more m0 h = subst (λ (l : List RegAccess). HasForgiven p forgive x log asked k t l last m0) (append-nil (made ++ leads)) h
 all_went p forgive (Some v) x log asked k t made leads last more m0 h = (
   subst (λ (l : List RegAccess). LogHasTried p forgive x log asked k t l more m0) (append_assoc made leads (last ∷ [])) h.0,
-  h.1 ∙ ap (λ (l : List RegAccess). given (acted (after t (making l)) (Makes last)).outcome) (append-nil (made ++ leads)),
+  h.1 ∙ ap (λ (l : List RegAccess). given_number (action_attempt (after t (making l)) (Makes last)).outcome) (append-nil (made ++ leads)),
 )

@@ -1,7 +1,7 @@
 -- A poll or a command of the probe that did not come to its end.
 use Rattle.std.proofs.Common.{◌≡◌, ◌⊎◌, inl, inr, ◌∙◌, ℕ, ◌+◌, ◌*◌, ◌^◌, ◌<◌, ◌≤◌, Bool, true, false, not, ◌&&◌, List, [], ◌∷◌, ◌++◌, length, map, slice_get, take, drop, IfSome, Option, Some, None, refl, sym, ap, subst, arith, append_assoc, length-append}
 use Rattle.std.proofs.lemmas.List.{map-append}
-use Rattle.target_machine.specs.Plain.{Action, acted, given, is_fault}
+use Rattle.target_machine.specs.Plain.{Action, action_attempt, given_number, is_fault}
 use Rattle.probe_core.specs.Bench.{BenchState, StepsTo}
 use Rattle.probe_core.specs.Bench.{Reported as BenchReported}
 use Rattle.probe_core.specs.Probe.{target_of, work_of}
@@ -9,7 +9,7 @@ use Rattle.probe_core.specs.declared.job.Limits.{Limits}
 use Rattle.target_calls.specs.Journal.{Entry, is_unforgiven}
 use Rattle.target_calls.specs.Weights.{weight}
 use Rattle.target_calls.specs.declared.calls.Ask.{Ask}
-use Rattle.access_regs.specs.Journal.{issued}
+use Rattle.access_regs.specs.Journal.{issued_entries}
 use Rattle.access_calls.specs.Growing.{IsAfter}
 use Rattle.access_calls.specs.Issued.{AreKeptOf, kept_of}
 use Rattle.access_calls.specs.Left.{IsLeft}
@@ -63,12 +63,12 @@ fewer_stand : (limits : Limits) (asks : List Ask) (came : ℕ) (entries : List E
 unfolding fewer_broken
 fewer_stand limits asks came entries many confirmed fewer b m le both later h = record { broken = fewer_broken limits entries many confirmed fewer b m le both h.broken; asked = h.asked; later = later; own = h.own }
 
-fewer_confirmed : (p : Planner) (bench : BenchReported) (state : Option BenchState) (sent got : List ℕ) (log : LogState) (many confirmed fewer : ℕ) (came : List ℕ) (m0 o : BenchState) → fewer ≤ confirmed → AreTogether bench.limits (drop fewer (take many (issued p (target_of m0.probe) log.calls))) →
-    IfSome (slice_get (issued p (target_of m0.probe) log.calls) fewer) (IsAfter log.came) →
+fewer_confirmed : (p : Planner) (bench : BenchReported) (state : Option BenchState) (sent got : List ℕ) (log : LogState) (many confirmed fewer : ℕ) (came : List ℕ) (m0 o : BenchState) → fewer ≤ confirmed → AreTogether bench.limits (drop fewer (take many (issued_entries p (target_of m0.probe) log.calls))) →
+    IfSome (slice_get (issued_entries p (target_of m0.probe) log.calls) fewer) (IsAfter log.came) →
     IsEnded p (stop.BenchFault many confirmed) (reported_by bench state (record log { end = Some (stop.BenchFault many confirmed) }) sent got) came m0 o →
     IsEnded p (stop.BenchFault many fewer) (reported_by bench state (record log { end = Some (stop.BenchFault many fewer) }) sent got) came m0 o
 fewer_confirmed p bench state sent got log many confirmed fewer came m0 o le both later h = record {
-  stands = λ n left. fewer_stand bench.limits log.calls log.came (issued p (target_of m0.probe) log.calls) many confirmed fewer (began m0 n) o le both later (h.stands n (record { so = left.so }));
+  stands = λ n left. fewer_stand bench.limits log.calls log.came (issued_entries p (target_of m0.probe) log.calls) many confirmed fewer (began m0 n) o le both later (h.stands n (record { so = left.so }));
   results_are = λ n left. h.results_are n (record { so = left.so });
 }
 
@@ -79,15 +79,15 @@ module _ (p : Planner) (bench : BenchReported) (state : Option BenchState) (sent
   here : log.confirmed ≡ length log.entries
   here = at_rest_count p log (e ∷ rest) m0 m h
 
-  seam : issued p (target_of m0.probe) log.calls ≡ rest_is.made ++ e ∷ rest
+  seam : issued_entries p (target_of m0.probe) log.calls ≡ rest_is.made ++ e ∷ rest
   seam = rest_is.on.are
 
   made_before : length rest_is.made ≡ length log.entries
   made_before = rest_is.confirmed_is ∙ here
 
-  entries_now : log.entries ++ kept_of e ∷ [] ≡ map kept_of (take (length log.entries + 1) (issued p (target_of m0.probe) log.calls))
+  entries_now : log.entries ++ kept_of e ∷ [] ≡ map kept_of (take (length log.entries + 1) (issued_entries p (target_of m0.probe) log.calls))
   entries_now =
-      let t = take_more rest_is.made e rest (issued p (target_of m0.probe) log.calls) (length log.entries) seam made_before in
+      let t = take_more rest_is.made e rest (issued_entries p (target_of m0.probe) log.calls) (length log.entries) seam made_before in
       (λ j. (h.entries_are ∙ ap (map kept_of) t.0) j ++ kept_of e ∷ [])
       ∙ sym (map-append kept_of rest_is.made (e ∷ []))
       ∙ ap (map kept_of) (sym t.1)
@@ -101,7 +101,7 @@ module _ (p : Planner) (bench : BenchReported) (state : Option BenchState) (sent
     cut_off : IsCutOff p r b m0
     cut_off = record {
       end = refl;
-      numbers = numbers_longer (issued p (target_of m0.probe) log.calls) (length log.entries + 1) log.calls skipped lines r (numbers (take (length log.entries + 1) (issued p (target_of m0.probe) log.calls)) entries_now)
+      numbers = numbers_longer (issued_entries p (target_of m0.probe) log.calls) (length log.entries + 1) log.calls skipped lines r (numbers (take (length log.entries + 1) (issued_entries p (target_of m0.probe) log.calls)) entries_now)
           (let n = none.0 in let k = here in omega (arith, accesses_are, n, k));
       came = refl;
     }
@@ -119,8 +119,8 @@ module _ (p : Planner) (bench : BenchReported) (state : Option BenchState) (sent
       (reported_by bench state (record (log_with_entry log (kept_of e)) { end = Some (stop.BenchFault (log.confirmed + 1) log.confirmed) }) sent got)
       rest_is (d.work_is counts) d.less d.target d.idle_cycles (record { end = refl; came = refl })
 
-  unforgiven : is_fault (acted (target_of m.probe) e.action).outcome ≡ false → is_unforgiven (target_of m.probe) e ≡ false
-  unforgiven good = and_first (is_fault (acted (target_of m.probe) e.action).outcome) (not e.forgiving) good
+  unforgiven : is_fault (action_attempt (target_of m.probe) e.action).outcome ≡ false → is_unforgiven (target_of m.probe) e ≡ false
+  unforgiven good = and_first (is_fault (action_attempt (target_of m.probe) e.action).outcome) (not e.forgiving) good
     where
       and_first : (x y : Bool) → x ≡ false → (x && y) ≡ false
       and_first true y k = cc
@@ -132,8 +132,8 @@ module _ (p : Planner) (bench : BenchReported) (state : Option BenchState) (sent
   never_good : Good ≡ Mismatch → ⊥
   never_good k = cc
 
-  alone : AreTogether bench.limits (drop log.confirmed (take (log.confirmed + 1) (issued p (target_of m0.probe) log.calls)))
-  alone = inr (ap (λ (n : ℕ). length (drop n (take (n + 1) (issued p (target_of m0.probe) log.calls)))) (sym rest_is.confirmed_is) ∙ ap length (between (issued p (target_of m0.probe) log.calls) rest_is.made (e ∷ []) rest seam))
+  alone : AreTogether bench.limits (drop log.confirmed (take (log.confirmed + 1) (issued_entries p (target_of m0.probe) log.calls)))
+  alone = inr (ap (λ (n : ℕ). length (drop n (take (n + 1) (issued_entries p (target_of m0.probe) log.calls)))) (sym rest_is.confirmed_is) ∙ ap length (between (issued_entries p (target_of m0.probe) log.calls) rest_is.made (e ∷ []) rest seam))
 
   pub all_done : (word : ℕ) → HasDoneWhole e.action word m o → weight (target_of m.probe) e.action ≤ most_weight → length log.entries < 2 ^ 32 →
       IsEnded p (stop.BenchFault (log.confirmed + 1) log.confirmed) (reported_by bench state (record (log_with_entry log (kept_of e)) { end = Some (stop.BenchFault (log.confirmed + 1) log.confirmed) }) sent got) (take log.known log.results) m0 o
@@ -159,9 +159,9 @@ module _ (p : Planner) (bench : BenchReported) (state : Option BenchState) (sent
   counts : CanCount e.action m
   counts = (let f = h.few in omega (arith, f, light, bounded))
 
-  bench_failed : HasDoneWhole e.action (given (acted (target_of m.probe) e.action).outcome) m o ⊎ DidLess e.action m o →
+  bench_failed : HasDoneWhole e.action (given_number (action_attempt (target_of m.probe) e.action).outcome) m o ⊎ DidLess e.action m o →
       IsEnded p (stop.BenchFault (log.confirmed + 1) log.confirmed) (reported_by bench state (record (log_with_entry log (kept_of e)) { end = Some (stop.BenchFault (log.confirmed + 1) log.confirmed) }) sent got) (take log.known log.results) m0 o
-  bench_failed (inl d) = all_done p bench state sent got log e rest m0 m o h counts (given (acted (target_of m.probe) e.action).outcome) d light bounded
+  bench_failed (inl d) = all_done p bench state sent got log e rest m0 m o h counts (given_number (action_attempt (target_of m.probe) e.action).outcome) d light bounded
   bench_failed (inr d) = less_done p bench state sent got log e rest m0 m o h counts d
 
   pub left_off : (end : FlightEnd) (s : Stop) (new : LogState) → LeftActionOff e.action end m o → NamesNoAccess end → LogIsStopped end (log_with_entry log (kept_of e)) new s → IsBrokenOff p s (reported_by bench state new sent got) new log.calls m0 o

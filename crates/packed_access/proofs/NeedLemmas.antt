@@ -6,9 +6,9 @@ use Rattle.probe_core.specs.Bench.{BenchState}
 use Rattle.probe_core.specs.Bench.{Reported as BenchReported}
 use Rattle.probe_core.specs.Probe.{target_of}
 use Rattle.target_calls.specs.Journal.{Entry}
-use Rattle.target_calls.specs.NeedPoints.{needed, needed_more, used}
+use Rattle.target_calls.specs.NeedPoints.{asks_at_need, needed_more, asks_at_use}
 use Rattle.target_calls.specs.declared.calls.Slot.{Slot}
-use Rattle.access_regs.specs.Journal.{issued}
+use Rattle.access_regs.specs.Journal.{issued_entries}
 use Rattle.access_regs.specs.Kept.{Kept}
 use Rattle.access_calls.specs.Left.{IsLeft}
 use Rattle.access_calls.specs.Reported.{AccessView, Beginning, began}
@@ -55,7 +55,7 @@ stands_needs stops.OutOfMemory entries a needs fence b m h = h
 
 ended_needs : (p : Planner) (s : Stop) (a : AccessView) (came : List ℕ) (needs fence : ℕ) (m0 m : BenchState) → IsEnded p s a came m0 m → IsEnded p s (record a { asks = record a.asks { needs = needs; fence = fence } }) came m0 m
 ended_needs p s a came needs fence m0 m h = record {
-  stands = λ n left. stands_needs s (issued p (target_of m0.probe) a.asks.calls) a needs fence (began m0 n) m (h.stands n (record { so = left.so }));
+  stands = λ n left. stands_needs s (issued_entries p (target_of m0.probe) a.asks.calls) a needs fence (began m0 n) m (h.stands n (record { so = left.so }));
   results_are = λ n left. h.results_are n (record { so = left.so });
 }
 
@@ -93,11 +93,11 @@ pub needs_new : (log new : LogState) (points calls : ℕ) → new ≡ with_needs
 needs_new log new points calls is = is ∙ with_needs_is log points calls ∙ (λ j. record log { needs = (sym is j).needs; fence = (sym is j).fence; room = (sym is j).room })
 
 -- a slot that is used
-used_is : (b : Bool) (log : LogState) → with_asks log (cond b (asks_of log) (needed (asks_of log))) ≡ record log { needs = (with_asks log (cond b (asks_of log) (needed (asks_of log)))).needs; fence = (with_asks log (cond b (asks_of log) (needed (asks_of log)))).fence; room = (with_asks log (cond b (asks_of log) (needed (asks_of log)))).room }
+used_is : (b : Bool) (log : LogState) → with_asks log (cond b (asks_of log) (asks_at_need (asks_of log))) ≡ record log { needs = (with_asks log (cond b (asks_of log) (asks_at_need (asks_of log)))).needs; fence = (with_asks log (cond b (asks_of log) (asks_at_need (asks_of log)))).fence; room = (with_asks log (cond b (asks_of log) (asks_at_need (asks_of log)))).room }
 used_is true log = refl
 used_is false log = refl
 
-pub used_new : (log new : LogState) (slot : Slot) → new ≡ with_asks log (used slot (asks_of log)) → new ≡ record log { needs = new.needs; fence = new.fence; room = new.room }
+pub used_new : (log new : LogState) (slot : Slot) → new ≡ with_asks log (asks_at_use slot (asks_of log)) → new ≡ record log { needs = new.needs; fence = new.fence; room = new.room }
 used_new log new slot is = is ∙ used_is (nat_lt slot.index log.fence) log ∙ (λ j. record log { needs = (sym is j).needs; fence = (sym is j).fence; room = (sym is j).room })
 
 -- where memory is refused the room alone changed

@@ -7,7 +7,7 @@ use Rattle.target_machine.specs.declared.unit.Call.TheVariants.{Probe}
 use Rattle.target_machine.specs.declared.unit.ProbeCall.{ProbeCall}
 use Rattle.target_calls.specs.Asks.{probe_ask, settled_last}
 use Rattle.target_machine.specs.Counts.{one_if}
-use Rattle.target_calls.specs.NeedPoints.{Asks, Cost, asked, capped_sum, needed, needed_more, used, with_call}
+use Rattle.target_calls.specs.NeedPoints.{Asks, Cost, asks_with_call, capped_sum, asks_at_need, needed_more, asks_at_use, with_call}
 use Rattle.target_calls.specs.declared.calls.Ask.{Ask}
 use Rattle.target_calls.specs.declared.calls.Slot.{Slot}
 use Rattle.target_calls.proofs.NeedLemmas.{needed_calls}
@@ -65,13 +65,13 @@ needed_asked p t a b ask h unmarked calls le =
     by_calls (c ∷ cs) k le = (let m = marks_more (c ∷ cs) ask unmarked in omega (arith, k, le, m))
 
 -- by the need points that it makes
-pub needed_by : (p : Planner) (t : TargetState) (a b : Asks) (ask : Ask) → AreNeeded p t a → ask.settled ≡ false → b ≡ asked (cost_by p t a.calls ask) ask a → AreNeeded p t b
+pub needed_by : (p : Planner) (t : TargetState) (a b : Asks) (ask : Ask) → AreNeeded p t a → ask.settled ≡ false → b ≡ asks_with_call (cost_by p t a.calls ask) ask a → AreNeeded p t b
 needed_by p t a b ask h unmarked is = subst (λ (x : Asks). AreNeeded p t x) (sym is) (by_cost (cost_by p t a.calls ask) refl)
   where
-    by_cost : (c : Cost) → c ≡ cost_by p t a.calls ask → AreNeeded p t (asked c ask a)
+    by_cost : (c : Cost) → c ≡ cost_by p t a.calls ask → AreNeeded p t (asks_with_call c ask a)
     by_cost c same =
         let mid : Asks = with_call ask (needed_more c.before a) in
-        needed_asked p t a (asked c ask a) ask h unmarked (needed_calls c.after mid ∙ ap (λ (l : List Ask). l ++ ask ∷ []) (needed_calls c.before a))
+        needed_asked p t a (asks_with_call c ask a) ask h unmarked (needed_calls c.after mid ∙ ap (λ (l : List Ask). l ++ ask ∷ []) (needed_calls c.before a))
         (let x = most_needs c.before a in let y = most_needs c.after mid in let z = ap (λ (k : Cost). k.before) same in omega (arith, x, y, z))
 
 -- a command makes none before it counts as asked
@@ -104,10 +104,10 @@ needed_finished p t a log new count h calls needs is =
     (record { so = subst (λ (l : List Ask). capped_sum (first_cost p t l) (marks_in l) ≤ min (log.needs + 1) (2 ^ 64 - 1)) (sym calls) (let k = h.so in let f = first_marked p t a.calls in let m = marks_upto a.calls in omega (arith, k, f, m, needs)) })
 
 -- a slot is used
-pub needed_used : (p : Planner) (t : TargetState) (a : Asks) (log new : LogState) (slot : Slot) → AreNeeded p t a → log.calls ≡ a.calls → log.needs ≡ a.needs → new ≡ with_asks log (used slot (asks_of log)) → AreNeeded p t (asks_of new)
+pub needed_used : (p : Planner) (t : TargetState) (a : Asks) (log new : LogState) (slot : Slot) → AreNeeded p t a → log.calls ≡ a.calls → log.needs ≡ a.needs → new ≡ with_asks log (asks_at_use slot (asks_of log)) → AreNeeded p t (asks_of new)
 needed_used p t a log new slot h calls needs is =
     subst (λ (l : LogState). AreNeeded p t (asks_of l)) (sym is) (by_fence (nat_lt slot.index log.fence))
   where
-    by_fence : (b : Bool) → AreNeeded p t (asks_of (with_asks log (cond b (asks_of log) (needed (asks_of log)))))
+    by_fence : (b : Bool) → AreNeeded p t (asks_of (with_asks log (cond b (asks_of log) (asks_at_need (asks_of log)))))
     by_fence true = needed_same p t a (asks_of log) h calls (omega (arith, needs))
-    by_fence false = needed_same p t a (needed (asks_of log)) h calls (omega (arith, needs))
+    by_fence false = needed_same p t a (asks_at_need (asks_of log)) h calls (omega (arith, needs))

@@ -11,10 +11,10 @@ use Rattle.probe_core.specs.declared.job.Limits.{Limits}
 use Rattle.target_calls.specs.Asks.{settled_last}
 use Rattle.target_machine.specs.Counts.{one_if}
 use Rattle.target_calls.specs.Journal.{Entry}
-use Rattle.target_calls.specs.NeedPoints.{Asks, needed, used}
+use Rattle.target_calls.specs.NeedPoints.{Asks, asks_at_need, asks_at_use}
 use Rattle.target_calls.specs.declared.calls.Ask.{Ask}
 use Rattle.target_calls.specs.declared.calls.Slot.{Slot}
-use Rattle.access_regs.specs.Journal.{issued}
+use Rattle.access_regs.specs.Journal.{issued_entries}
 use Rattle.access_regs.specs.Kept.{Kept, nothing_kept}
 use Rattle.access_regs.proofs.EntryLemmas.{journal_marks}
 use Rattle.access_regs.proofs.Joins.{journal_joins}
@@ -85,9 +85,9 @@ covers_need : (paid left more needs : ℕ) → more ≤ left + 1 → min (paid +
 covers_need paid left more needs le covers = omega (arith, le, covers)
 
 -- one need point, for as many more
-need_paid : (p : Planner) (x : Option BenchState) (limits given : Limits) (log : LogState) (paid left more : ℕ) (m0 : BenchState) → HasSpared p limits given x log paid m0 → (p ≡ Managed → min (paid + left) (2 ^ 64 - 1) ≤ log.needs) → more ≤ left + 1 → HasPaid p limits given x (with_asks log (needed (asks_of log))) more m0
+need_paid : (p : Planner) (x : Option BenchState) (limits given : Limits) (log : LogState) (paid left more : ℕ) (m0 : BenchState) → HasSpared p limits given x log paid m0 → (p ≡ Managed → min (paid + left) (2 ^ 64 - 1) ≤ log.needs) → more ≤ left + 1 → HasPaid p limits given x (with_asks log (asks_at_need (asks_of log))) more m0
 need_paid p x limits given log paid left more m0 h covers le =
-    record { paid = paid; spared = has_same p x x limits given limits given log (with_asks log (needed (asks_of log))) paid m0 h refl refl refl refl refl; covers = λ managed. covers_need paid left more log.needs le (covers managed) }
+    record { paid = paid; spared = has_same p x x limits given limits given log (with_asks log (asks_at_need (asks_of log))) paid m0 h refl refl refl refl refl; covers = λ managed. covers_need paid left more log.needs le (covers managed) }
 
 -- what the test of a slot says
 pub is_under : (i known : ℕ) (b : Bool) → b ≡ nat_lt i known → b ≡ true → i < known
@@ -97,19 +97,19 @@ pub is_past : (i known : ℕ) (b : Bool) → b ≡ nat_lt i known → b ≡ fals
 is_past i known b is false_ = grind (arith, sym is ∙ false_)
 
 -- it is known: where it was asked after the last need point, all that was known then came
-pub paid_known : (p : Planner) (x : Option BenchState) (limits given : Limits) (log new : LogState) (slot : Slot) (m0 : BenchState) → HasPaid p limits given x log (points_left log) m0 → new ≡ with_asks log (used slot (asks_of log)) → slot.index < log.known → HasPaid p limits given x new (points_left new) m0
+pub paid_known : (p : Planner) (x : Option BenchState) (limits given : Limits) (log new : LogState) (slot : Slot) (m0 : BenchState) → HasPaid p limits given x log (points_left log) m0 → new ≡ with_asks log (asks_at_use slot (asks_of log)) → slot.index < log.known → HasPaid p limits given x new (points_left new) m0
 paid_known p x limits given log new slot m0 h is known = subst (λ (l : LogState). HasPaid p limits given x l (points_left l) m0) (sym is) (by_fence (cases_lt slot.index log.fence))
   where
-    by_fence : (slot.index < log.fence) ⊎ (log.fence ≤ slot.index) → HasPaid p limits given x (with_asks log (used slot (asks_of log))) (points_left (with_asks log (used slot (asks_of log)))) m0
-    by_fence (inl less) = subst (λ (b : Bool). HasPaid p limits given x (with_asks log (cond b (asks_of log) (needed (asks_of log)))) (points_left (with_asks log (cond b (asks_of log) (needed (asks_of log))))) m0) (sym (lt-ltb slot.index log.fence less)) h
+    by_fence : (slot.index < log.fence) ⊎ (log.fence ≤ slot.index) → HasPaid p limits given x (with_asks log (asks_at_use slot (asks_of log))) (points_left (with_asks log (asks_at_use slot (asks_of log)))) m0
+    by_fence (inl less) = subst (λ (b : Bool). HasPaid p limits given x (with_asks log (cond b (asks_of log) (asks_at_need (asks_of log)))) (points_left (with_asks log (cond b (asks_of log) (asks_at_need (asks_of log))))) m0) (sym (lt-ltb slot.index log.fence less)) h
     by_fence (inr ge) =
-        subst (λ (b : Bool). HasPaid p limits given x (with_asks log (cond b (asks_of log) (needed (asks_of log)))) (points_left (with_asks log (cond b (asks_of log) (needed (asks_of log))))) m0) (sym (le-ltb slot.index log.fence ge))
+        subst (λ (b : Bool). HasPaid p limits given x (with_asks log (cond b (asks_of log) (asks_at_need (asks_of log)))) (points_left (with_asks log (cond b (asks_of log) (asks_at_need (asks_of log))))) m0) (sym (le-ltb slot.index log.fence ge))
         (need_paid p x limits given log h.paid (points_left log) (one_if (nat_lt log.known (length log.calls))) m0 h.spared h.covers (let a = left_most log.known (length log.calls) in omega (arith, a)))
 
 -- it came with a flight that was sent for it
 pub paid_sent : (p : Planner) (x y : Option BenchState) (limits given limits' given' : Limits) (log mid new : LogState) (values : List (Option ℕ)) (slot : Slot) (m0 : BenchState) → HasPaid p limits given x log (points_left log) m0 →
     ((points : ℕ) → HasSpared p limits given x log points m0 → HasSpared p limits' given' y mid (points + 1) m0) → mid ≡ all_confirmed (all_taken values log) → log.whole ≡ length log.calls → log.fence ≤ length log.calls → log.known ≤ slot.index →
-    new ≡ with_asks mid (used slot (asks_of mid)) → HasPaid p limits' given' y new (points_left new) m0
+    new ≡ with_asks mid (asks_at_use slot (asks_of mid)) → HasPaid p limits' given' y new (points_left new) m0
 paid_sent p x y limits given limits' given' log mid new values slot m0 h sent mid_is whole within not is =
     subst (λ (l : LogState). HasPaid p limits' given' y l (points_left l) m0) (sym is) (by_fence (cases_lt slot.index mid.fence))
   where
@@ -125,17 +125,17 @@ paid_sent p x y limits given limits' given' log mid new values slot m0 h sent mi
     calls : length mid.calls ≡ length log.calls
     calls = ap (λ (l : LogState). length l.calls) mid_is
 
-    by_fence : (slot.index < mid.fence) ⊎ (mid.fence ≤ slot.index) → HasPaid p limits' given' y (with_asks mid (used slot (asks_of mid))) (points_left (with_asks mid (used slot (asks_of mid)))) m0
+    by_fence : (slot.index < mid.fence) ⊎ (mid.fence ≤ slot.index) → HasPaid p limits' given' y (with_asks mid (asks_at_use slot (asks_of mid))) (points_left (with_asks mid (asks_at_use slot (asks_of mid)))) m0
     by_fence (inl less) =
-        subst (λ (b : Bool). HasPaid p limits' given' y (with_asks mid (cond b (asks_of mid) (needed (asks_of mid)))) (points_left (with_asks mid (cond b (asks_of mid) (needed (asks_of mid))))) m0) (sym (lt-ltb slot.index mid.fence less))
+        subst (λ (b : Bool). HasPaid p limits' given' y (with_asks mid (cond b (asks_of mid) (asks_at_need (asks_of mid)))) (points_left (with_asks mid (cond b (asks_of mid) (asks_at_need (asks_of mid))))) m0) (sym (lt-ltb slot.index mid.fence less))
         (let one = left_one log.known log.fence (omega (arith, less, fence, not)) in
         let none = left_none mid.known mid.fence (omega (arith, known, fence, within)) in
         record { paid = h.paid + 1; spared = sent h.paid h.spared; covers = λ managed. (let c = h.covers managed in omega (arith, c, one, none, needs)) })
     by_fence (inr ge) =
-        subst (λ (b : Bool). HasPaid p limits' given' y (with_asks mid (cond b (asks_of mid) (needed (asks_of mid)))) (points_left (with_asks mid (cond b (asks_of mid) (needed (asks_of mid))))) m0) (sym (le-ltb slot.index mid.fence ge))
+        subst (λ (b : Bool). HasPaid p limits' given' y (with_asks mid (cond b (asks_of mid) (asks_at_need (asks_of mid)))) (points_left (with_asks mid (cond b (asks_of mid) (asks_at_need (asks_of mid))))) m0) (sym (le-ltb slot.index mid.fence ge))
         (record {
           paid = h.paid + 1;
-          spared = has_same p y y limits' given' limits' given' mid (with_asks mid (needed (asks_of mid))) (h.paid + 1) m0 (sent h.paid h.spared) refl refl refl refl refl;
+          spared = has_same p y y limits' given' limits' given' mid (with_asks mid (asks_at_need (asks_of mid))) (h.paid + 1) m0 (sent h.paid h.spared) refl refl refl refl refl;
           covers = λ managed. (let c = h.covers managed in let none = left_none mid.known (length mid.calls) (omega (arith, known, calls)) in omega (arith, c, none, needs));
         })
 

@@ -8,7 +8,7 @@ use Rattle.target_machine.specs.declared.access.RegAccess.{RegAccess}
 use Rattle.target_machine.specs.declared.unit.Unit.{Unit as AccessUnit}
 use Rattle.target_machine.specs.declared.unit.Unit.TheVariants as unit
 use Rattle.flight_forms.specs.Packing.{IsTaken}
-use Rattle.access_regs.specs.Kept.{Kept, known}
+use Rattle.access_regs.specs.Kept.{Kept, known_at}
 use Rattle.target_machine.specs.Registers.{cfg_register, csw_register}
 use Rattle.access_regs.specs.Plan.{cfg_plan, csw_needed, first_plan, high_needed, last_access, leads, plan, port_writes, select_needed, settle, settling, tar_needed, unless}
 use Rattle.access_regs.specs.declared.known.Unsettled.{Unsettled}
@@ -63,9 +63,9 @@ last_taken (unit.Poll mask value turns) h = record { read = λ e r. inr refl; wr
 
 leads_taken : (k : Kept) (asked : AccessUnit) → AllByRecursion IsTaken (leads k asked)
 leads_taken k (unit.Memory size read ap address value) =
-    both_taken (select_needed k ap 0) (port_writes (known k ap) size address) (unless_taken _ _ (select_taken ap 0))
-    (both_taken (csw_needed (known k ap) size) (high_needed (known k ap) address ++ tar_needed (known k ap) address) (unless_taken _ _ (ap_taken false _ _))
-    (both_taken (high_needed (known k ap) address) (tar_needed (known k ap) address) (unless_taken _ _ (ap_taken false _ _)) (unless_taken _ _ (ap_taken false _ _))))
+    both_taken (select_needed k ap 0) (port_writes (known_at k ap) size address) (unless_taken _ _ (select_taken ap 0))
+    (both_taken (csw_needed (known_at k ap) size) (high_needed (known_at k ap) address ++ tar_needed (known_at k ap) address) (unless_taken _ _ (ap_taken false _ _))
+    (both_taken (high_needed (known_at k ap) address) (tar_needed (known_at k ap) address) (unless_taken _ _ (ap_taken false _ _)) (unless_taken _ _ (ap_taken false _ _))))
 leads_taken k (unit.Ap read ap addr value) = unless_taken _ _ (select_taken ap (addr / 16))
 leads_taken k (unit.Dp read addr value) = tt
 leads_taken k (unit.Poll mask value turns) = tt

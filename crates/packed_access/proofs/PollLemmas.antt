@@ -8,7 +8,7 @@ use Rattle.std.proofs.Math.Bool.{and-false}
 use Rattle.target_machine.specs.Attempt.{bank}
 use Rattle.dap_transfer.specs.State.{Setting}
 use Rattle.bench_flights.specs.Flown.{CanMatch, IsSetTo}
-use Rattle.target_machine.specs.Plain.{Action, Polls, call_done, polled, result_of}
+use Rattle.target_machine.specs.Plain.{Action, Polls, call_done, poll_result, result_of}
 use Rattle.target_machine.specs.Registers.{dpbanksel, select_stored}
 use Rattle.target_machine.specs.State.{TargetState}
 use Rattle.target_machine.specs.declared.unit.Call.{Call}
@@ -20,14 +20,14 @@ use Rattle.probe_core.specs.Bench.{Reported as BenchReported}
 use Rattle.probe_core.specs.Probe.{target_of}
 use Rattle.target_calls.specs.Asks.{AreAskable, is_forgiving, is_settled}
 use Rattle.target_calls.specs.Journal.{Entry, Passes, target_after}
-use Rattle.target_calls.specs.NeedPoints.{Cost, asked, needed_more}
+use Rattle.target_calls.specs.NeedPoints.{Cost, asks_with_call, needed_more}
 use Rattle.target_calls.specs.World.{World, small_after, small_now, stop, world_after}
 use Rattle.target_calls.specs.declared.calls.Ask.{Ask}
 use Rattle.target_calls.specs.declared.journal.Part.TheVariants.{Ends}
 use Rattle.access_regs.specs.Alone.{NoneFaults}
 use Rattle.access_regs.specs.Costs.{call_cost, cost_by, leading_reads, poll_cost, portions}
 use Rattle.access_regs.specs.Entries.{kept_by, target_by}
-use Rattle.access_regs.specs.Journal.{Issue, after_settling, alone_at, by_cfg, issue, issue_of, issued, numbered, planned}
+use Rattle.access_regs.specs.Journal.{Issue, after_settling, alone_at, by_cfg, issue, issue_of, issued_entries, numbered_entries, issue_of_plan}
 use Rattle.access_regs.specs.Kept.{Kept}
 use Rattle.access_regs.specs.Plan.{bank_zero, bank_zero_of}
 use Rattle.access_regs.proofs.AllCalls.{journal_follows}
@@ -55,12 +55,12 @@ use Rattle.access_regs.proofs.LightLemmas.{polled_few}
 
 -- ---- what a poll issues, and what is known after it
 
-poll_planned : (t : TargetState) (k : Kept) (mask requested turns : ℕ) → planned t k (unit.Poll mask requested turns) ≡ record { steps = record { part = Ends; action = Polls mask requested turns } ∷ []; kept = k }
+poll_planned : (t : TargetState) (k : Kept) (mask requested turns : ℕ) → issue_of_plan t k (unit.Poll mask requested turns) ≡ record { steps = record { part = Ends; action = Polls mask requested turns } ∷ []; kept = k }
 poll_planned t k mask requested turns = ap (λ (b : Bool). cond b (after_settling t k (λ u l. by_cfg u l (unit.Poll mask requested turns))) (by_cfg t k (unit.Poll mask requested turns))) (and-false (is_some k.unsettled))
 
 pub poll_issue : (p : Planner) (t : TargetState) (k : Kept) (forgive : Bool) (mask requested turns : ℕ) → issue p t k forgive (Access (unit.Poll mask requested turns)) ≡ record { steps = record { part = Ends; action = Polls mask requested turns } ∷ []; kept = k }
 poll_issue p t k forgive mask requested turns =
-    ap (λ (b : Bool). cond b (after_settling t k (alone_at forgive (unit.Poll mask requested turns))) (planned t k (unit.Poll mask requested turns))) (and-false (is_alone p forgive))
+    ap (λ (b : Bool). cond b (after_settling t k (alone_at forgive (unit.Poll mask requested turns))) (issue_of_plan t k (unit.Poll mask requested turns))) (and-false (is_alone p forgive))
     ∙ poll_planned t k mask requested turns
 
 pub poll_issue_of : (p : Planner) (t : TargetState) (k : Kept) (ask : Ask) (mask requested turns : ℕ) → ask.call ≡ Access (unit.Poll mask requested turns) → issue_of p t k ask ≡ record { steps = record { part = Ends; action = Polls mask requested turns } ∷ []; kept = k }
@@ -71,7 +71,7 @@ poll_mild ask mask requested turns call = ap (λ (c : Call). is_forgiving (recor
 
 pub poll_entries : (p : Planner) (t : TargetState) (calls : List Ask) (k : Kept) (ask : Ask) (mask requested turns : ℕ) → ask.call ≡ Access (unit.Poll mask requested turns) → entries_for_call p t calls k ask ≡ entry_of_call calls (Polls mask requested turns) ∷ []
 poll_entries p t calls k ask mask requested turns call =
-    (λ j. numbered (length calls) (poll_mild ask mask requested turns call j) (poll_issue_of p (target_by p t calls) k ask mask requested turns call j).steps)
+    (λ j. numbered_entries (length calls) (poll_mild ask mask requested turns call j) (poll_issue_of p (target_by p t calls) k ask mask requested turns call j).steps)
 
 -- it never ends because its AP has no large addresses
 small_here : (x : Option ℕ) (w : World) (forgive settled : Bool) (mask requested turns : ℕ) → small_after x w (record { call = Access (unit.Poll mask requested turns); forgive = forgive; settled = settled }) ≡ false
@@ -85,7 +85,7 @@ poll_not_small w calls ask mask requested turns call =
 
 -- ---- how much it weighs
 
-pub poll_light : (turns mask requested : ℕ) (t : TargetState) → turns ≤ 60000000 → (polled turns mask requested t).reads ≤ most_weight
+pub poll_light : (turns mask requested : ℕ) (t : TargetState) → turns ≤ 60000000 → (poll_result turns mask requested t).reads ≤ most_weight
 poll_light turns mask requested t few = (let r = polled_few turns mask requested t in omega (arith, r, few))
 
 -- ---- what is kept after it
@@ -115,24 +115,24 @@ module _ (p : Planner) (log : LogState) (kept : Kept) (calls : List Ask) (ask : 
   rest_is : IsSending p log.calls log.confirmed log.came [] (entry_of_call calls (Polls mask requested turns) ∷ []) [] (take log.known log.results) m0 m
   rest_is = at_rest p log (entry_of_call calls (Polls mask requested turns) ∷ []) m0 m h
 
-  grown : issued p t0 log.calls ≡ issued p t0 calls ++ entry_of_call calls (Polls mask requested turns) ∷ []
+  grown : issued_entries p t0 log.calls ≡ issued_entries p t0 calls ++ entry_of_call calls (Polls mask requested turns) ∷ []
   grown =
-      ap (issued p t0) are ∙ (journal_grows p t0 calls ask unmarked).0
-      ∙ ap (λ (l : List Entry). issued p t0 calls ++ l) (poll_entries p t0 calls (kept_by p t0 calls) ask mask requested turns call)
+      ap (issued_entries p t0) are ∙ (journal_grows p t0 calls ask unmarked).0
+      ∙ ap (λ (l : List Entry). issued_entries p t0 calls ++ l) (poll_entries p t0 calls (kept_by p t0 calls) ask mask requested turns call)
 
-  same_count : length rest_is.made ≡ length (issued p t0 calls)
+  same_count : length rest_is.made ≡ length (issued_entries p t0 calls)
   same_count =
       let a = ap length rest_is.on.are in
       let b = length-append rest_is.made (entry_of_call calls (Polls mask requested turns) ∷ []) in
       let c = ap length grown in
-      let d = length-append (issued p t0 calls) (entry_of_call calls (Polls mask requested turns) ∷ []) in
+      let d = length-append (issued_entries p t0 calls) (entry_of_call calls (Polls mask requested turns) ∷ []) in
       omega (arith, a, b, c, d)
 
-  made_is : rest_is.made ≡ issued p t0 calls
+  made_is : rest_is.made ≡ issued_entries p t0 calls
   made_is =
       sym (take-append_seam rest_is.made (entry_of_call calls (Polls mask requested turns) ∷ []))
       ∙ (λ j. take (same_count j) ((sym rest_is.on.are ∙ grown) j))
-      ∙ take-append_seam (issued p t0 calls) (entry_of_call calls (Polls mask requested turns) ∷ [])
+      ∙ take-append_seam (issued_entries p t0 calls) (entry_of_call calls (Polls mask requested turns) ∷ [])
 
   pub target_there : target_of m.probe ≡ target_by p t0 calls
   target_there = rest_is.on.target ∙ ap (target_after t0) made_is
@@ -168,10 +168,10 @@ module _ (p : Planner) (x y : Option BenchState) (log : LogState) (kept : Kept) 
         set = record { idle_is = i.sending.on.idle_cycles ∙ h.set.idle_is; retry_is = ap (λ (s : Setting). s.retry) i.sending.on.setting ∙ h.set.retry_is };
       }))
 
-  pub poll_points : zero_is ≡ bank_zero kept → (points : ℕ) → StepsTo (λ m o. CanFly m → points ≡ 1 + cond zero_is (portions turns) (polled turns mask requested (target_of m.probe)).reads) x y → points ≡ poll_cost kept (target_by p (target_of m0.probe) calls) mask requested turns
+  pub poll_points : zero_is ≡ bank_zero kept → (points : ℕ) → StepsTo (λ m o. CanFly m → points ≡ 1 + cond zero_is (portions turns) (poll_result turns mask requested (target_of m.probe)).reads) x y → points ≡ poll_cost kept (target_by p (target_of m0.probe) calls) mask requested turns
   poll_points by points s =
-      fact_with x y (λ m. IsIssuing p log [] (entry_of_call calls (Polls mask requested turns) ∷ []) m0 m) (λ m o. CanFly m → points ≡ 1 + cond zero_is (portions turns) (polled turns mask requested (target_of m.probe)).reads) _ h.issued.so s
-      (λ m o i part_is. part_is i.flies ∙ (λ j. 1 + cond (by j) (portions turns) (polled turns mask requested (target_there p log kept calls ask mask requested turns m0 m i h.are h.call h.unmarked h.kept_is j)).reads))
+      fact_with x y (λ m. IsIssuing p log [] (entry_of_call calls (Polls mask requested turns) ∷ []) m0 m) (λ m o. CanFly m → points ≡ 1 + cond zero_is (portions turns) (poll_result turns mask requested (target_of m.probe)).reads) _ h.issued.so s
+      (λ m o i part_is. part_is i.flies ∙ (λ j. 1 + cond (by j) (portions turns) (poll_result turns mask requested (target_there p log kept calls ask mask requested turns m0 m i h.are h.call h.unmarked h.kept_is j)).reads))
 
 -- ---- need points
 
@@ -187,10 +187,10 @@ poll_cost_is Plain t calls ask mask requested turns points call points_are = ref
 
 pub poll_needs : (p : Planner) (t : TargetState) (calls : List Ask) (ask : Ask) (mask requested turns found points count needs fence : ℕ) (log new : LogState) → ask.call ≡ Access (unit.Poll mask requested turns) →
     (p ≡ Managed → found ≡ poll_cost (kept_by p t calls) (target_by p t calls) mask requested turns) → points ≡ managed_points p found → new ≡ with_needs log points count → count ≡ length log.calls → asks_of log ≡ record { calls = calls ++ ask ∷ []; needs = needs; fence = fence } →
-    asks_of new ≡ asked (cost_by p t calls ask) ask (record { calls = calls; needs = needs; fence = fence })
+    asks_of new ≡ asks_with_call (cost_by p t calls ask) ask (record { calls = calls; needs = needs; fence = fence })
 poll_needs p t calls ask mask requested turns found points count needs fence log new call found_is points_are is at asks =
     ap asks_of is ∙ (λ j. asks_of (with_needs log (points_are j) (at j))) ∙ needs_more log (managed_points p found) ∙ ap (needed_more (managed_points p found)) asks
-    ∙ ap (λ (c : Cost). asked c ask (record { calls = calls; needs = needs; fence = fence })) (sym (poll_cost_is p t calls ask mask requested turns found call found_is))
+    ∙ ap (λ (c : Cost). asks_with_call c ask (record { calls = calls; needs = needs; fence = fence })) (sym (poll_cost_is p t calls ask mask requested turns found call found_is))
 
 -- ---- between two calls
 

@@ -7,7 +7,7 @@ use Rattle.target_machine.specs.declared.access.RegAccess.{RegAccess}
 use Rattle.probe_core.specs.Bench.{BenchState}
 use Rattle.probe_core.specs.Probe.{target_of, work_of}
 use Rattle.target_calls.specs.Journal.{Entry}
-use Rattle.access_regs.specs.Journal.{issued}
+use Rattle.access_regs.specs.Journal.{issued_entries}
 use Rattle.access_calls.specs.Issued.{kept_of}
 use Rattle.access_calls.specs.Standing.{WhereObservable}
 use Rattle.access_calls.specs.declared.issued.Issued.{Issued}
@@ -53,27 +53,27 @@ issue_pushed p log accesses e rest a entry m0 m h makes strict is few = record {
 }
   where
     journal : List Entry
-    journal = issued p (target_of m0.probe) log.calls
+    journal = issued_entries p (target_of m0.probe) log.calls
 
     room : work_of m.probe + length h.flying + 1 < 2 ^ 64
     room = (let f = h.few in let l = flight_length h.flying accesses h.sending.on.flight in omega (arith, f, l, few))
 
-    seam : issued p (target_of m0.probe) log.calls ≡ (h.sending.made ++ h.flying) ++ e ∷ rest
+    seam : issued_entries p (target_of m0.probe) log.calls ≡ (h.sending.made ++ h.flying) ++ e ∷ rest
     seam = h.sending.on.are ∙ sym (append_assoc h.sending.made h.flying (e ∷ rest))
 
     at : length (h.sending.made ++ h.flying) ≡ length log.entries
     at = (let l = length-append h.sending.made h.flying in let c = h.sending.confirmed_is in let k = h.count in omega (arith, l, c, k))
 
-    takes : (take (length log.entries) (issued p (target_of m0.probe) log.calls) ≡ h.sending.made ++ h.flying)
-        × (take (length log.entries + 1) (issued p (target_of m0.probe) log.calls) ≡ (h.sending.made ++ h.flying) ++ e ∷ [])
-    takes = take_more (h.sending.made ++ h.flying) e rest (issued p (target_of m0.probe) log.calls) (length log.entries) seam at
+    takes : (take (length log.entries) (issued_entries p (target_of m0.probe) log.calls) ≡ h.sending.made ++ h.flying)
+        × (take (length log.entries + 1) (issued_entries p (target_of m0.probe) log.calls) ≡ (h.sending.made ++ h.flying) ++ e ∷ [])
+    takes = take_more (h.sending.made ++ h.flying) e rest (issued_entries p (target_of m0.probe) log.calls) (length log.entries) seam at
 
-    entries_are : log.entries ++ entry ∷ [] ≡ map kept_of (take (length (log.entries ++ entry ∷ [])) (issued p (target_of m0.probe) log.calls))
+    entries_are : log.entries ++ entry ∷ [] ≡ map kept_of (take (length (log.entries ++ entry ∷ [])) (issued_entries p (target_of m0.probe) log.calls))
     entries_are =
         (λ j. (h.entries_are ∙ ap (map kept_of) takes.0) j ++ is j ∷ [])
         ∙ sym (map-append kept_of (h.sending.made ++ h.flying) (e ∷ []))
         ∙ ap (map kept_of) (sym takes.1)
-        ∙ ap (λ n. map kept_of (take n (issued p (target_of m0.probe) log.calls))) (sym (length-append log.entries (entry ∷ [])))
+        ∙ ap (λ n. map kept_of (take n (issued_entries p (target_of m0.probe) log.calls))) (sym (length-append log.entries (entry ∷ [])))
 
 pub issued_where : (p : Planner) (x : Option BenchState) (log : LogState) (accesses : List RegAccess) (e : Entry) (rest : List Entry) (a : RegAccess) (entry : Issued) (m0 : BenchState) →
     WhereObservable x (λ m. IsIssuing p log accesses (e ∷ rest) m0 m) → e.action ≡ Makes a → e.forgiving ≡ false → entry ≡ kept_of e → length log.entries < 2 ^ 32 →

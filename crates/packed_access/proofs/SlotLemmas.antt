@@ -5,7 +5,7 @@ use Rattle.std.specs.Prelude.{slice_get}
 use Rattle.dap_transfer.specs.Laws.{value_now}
 use Rattle.target_machine.specs.Attempt.{attempt}
 use Rattle.target_machine.specs.Lists.{after}
-use Rattle.target_machine.specs.Plain.{Action, Makes, acted, given}
+use Rattle.target_machine.specs.Plain.{Action, Makes, action_attempt, given_number}
 use Rattle.target_machine.specs.State.{TargetState}
 use Rattle.target_machine.specs.declared.access.RegAccess.{RegAccess}
 use Rattle.dap_messages.specs.declared.request.Response.TheVariants.{Good}
@@ -44,7 +44,7 @@ access_of (x ∷ front) e back (b ∷ accesses) h =
 pub slot_gives : (entries made flying rest : List Entry) (accesses : List RegAccess) (m0 m o : BenchState) (part : Part) (values : List (Option ℕ)) (front : List Entry) (e : Entry) (more : List Entry) (place : ℕ) →
     IsUnderWay entries made flying rest accesses m0 m → Flies accesses part m o → part.response ≡ Good → values ≡ part.values →
     entries ≡ front ++ e ∷ more → length front ≡ length made + place → place < length flying →
-    unwrap_or (slot_at values place) 0 ≡ given (acted (target_after (target_of m0.probe) front) e.action).outcome
+    unwrap_or (slot_at values place) 0 ≡ given_number (action_attempt (target_after (target_of m0.probe) front) e.action).outcome
 slot_gives entries made flying rest accesses m0 m o part values front e more place on flies good values_are is at within =
     ap (λ (v : List (Option ℕ)). unwrap_or (slot_at v place) 0) values_are ∙ by_read (found.access.read) refl
   where
@@ -68,9 +68,9 @@ slot_gives entries made flying rest accesses m0 m o part values front e more pla
     action : e.action ≡ Makes found.access
     action = ap (λ (x : Entry). x.action) (sym same.1) ∙ found.is
 
-    by_read : (b : Bool) → found.access.read ≡ b → unwrap_or (value_at part.values place) 0 ≡ given (acted (target_after (target_of m0.probe) front) e.action).outcome
+    by_read : (b : Bool) → found.access.read ≡ b → unwrap_or (value_at part.values place) 0 ≡ given_number (action_attempt (target_after (target_of m0.probe) front) e.action).outcome
     by_read true read = ap (λ (v : Option ℕ). unwrap_or v 0) (value_is_given entries made flying rest accesses m0 m o part front e more found.access place on flies good is at within action read)
     by_read false write =
         (λ j. unwrap_or (value_at (values_came entries made flying rest accesses m0 m o part on flies good j) (sym c.at j)) 0)
         ∙ ap (λ (v : Option ℕ). unwrap_or v 0) (found.slot (target_after (target_of m0.probe) made) write)
-        ∙ sym (ap (λ (x : Action). given (acted (target_after (target_of m0.probe) front) x).outcome) action ∙ write_gives (target_after (target_of m0.probe) front) found.access write)
+        ∙ sym (ap (λ (x : Action). given_number (action_attempt (target_after (target_of m0.probe) front) x).outcome) action ∙ write_gives (target_after (target_of m0.probe) front) found.access write)

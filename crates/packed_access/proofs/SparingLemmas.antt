@@ -18,7 +18,7 @@ use Rattle.target_calls.specs.Journal.{Entry}
 use Rattle.target_calls.specs.Weights.{registers_in, registers_of}
 use Rattle.target_calls.specs.declared.calls.Ask.{Ask}
 use Rattle.target_calls.proofs.EntryLemmas.{registers_append}
-use Rattle.access_regs.specs.Journal.{issued}
+use Rattle.access_regs.specs.Journal.{issued_entries}
 use Rattle.access_calls.specs.Bounds.{flight_capacity}
 use Rattle.access_calls.specs.Standing.{WhereObservable}
 use Rattle.batch_packer.specs.Flying.{CanFly}
@@ -50,14 +50,14 @@ registers_longer n xs ys = sum_longer (λ e. registers_of e.action) n xs ys
 
 -- those that are confirmed once the flight came
 flight_adds : (p : Planner) (log : LogState) (accesses : List RegAccess) (rest : List Entry) (m0 m : BenchState) → IsIssuing p log accesses rest m0 m →
-    registers_in (take (length log.entries) (issued p (target_of m0.probe) log.calls)) ≡ registers_in (take log.confirmed (issued p (target_of m0.probe) log.calls)) + length accesses
+    registers_in (take (length log.entries) (issued_entries p (target_of m0.probe) log.calls)) ≡ registers_in (take log.confirmed (issued_entries p (target_of m0.probe) log.calls)) + length accesses
 flight_adds p log accesses rest m0 m h =
     let made : List Entry = h.sending.made in
-    let are : issued p (target_of m0.probe) log.calls ≡ made ++ (h.flying ++ rest) = h.sending.on.are in
-    let all : issued p (target_of m0.probe) log.calls ≡ (made ++ h.flying) ++ rest = are ∙ sym (append_assoc made h.flying rest) in
+    let are : issued_entries p (target_of m0.probe) log.calls ≡ made ++ (h.flying ++ rest) = h.sending.on.are in
+    let all : issued_entries p (target_of m0.probe) log.calls ≡ (made ++ h.flying) ++ rest = are ∙ sym (append_assoc made h.flying rest) in
     let count : length log.entries ≡ length (made ++ h.flying) = (let c = h.count in let k = h.sending.confirmed_is in let l = length-append made h.flying in omega (arith, c, k, l)) in
-    let front : take log.confirmed (issued p (target_of m0.probe) log.calls) ≡ made = (λ j. take (sym h.sending.confirmed_is j) (are j)) ∙ take-append_seam made (h.flying ++ rest) in
-    let whole : take (length log.entries) (issued p (target_of m0.probe) log.calls) ≡ made ++ h.flying = (λ j. take (count j) (all j)) ∙ take-append_seam (made ++ h.flying) rest in
+    let front : take log.confirmed (issued_entries p (target_of m0.probe) log.calls) ≡ made = (λ j. take (sym h.sending.confirmed_is j) (are j)) ∙ take-append_seam made (h.flying ++ rest) in
+    let whole : take (length log.entries) (issued_entries p (target_of m0.probe) log.calls) ≡ made ++ h.flying = (λ j. take (count j) (all j)) ∙ take-append_seam (made ++ h.flying) rest in
     let a = ap registers_in front in
     let b = ap registers_in whole in
     let c = registers_append made h.flying in
@@ -73,15 +73,15 @@ grown_spared p limits given limits' given' log new points extra m0 m o h sent ca
   full = h.full;
   few = (let f = h.few in let s = sent.few in omega (arith, f, s));
   filled = (let f = h.filled in
-      let u = registers_upto log.confirmed new.confirmed (issued p (target_of m0.probe) log.calls) more in
-      let c = ap (λ (l : List Ask). registers_in (take new.confirmed (issued p (target_of m0.probe) l))) calls in
+      let u = registers_upto log.confirmed new.confirmed (issued_entries p (target_of m0.probe) log.calls) more in
+      let c = ap (λ (l : List Ask). registers_in (take new.confirmed (issued_entries p (target_of m0.probe) l))) calls in
       let k = ap (λ (l : Limits). h.full * flight_capacity l) same in
       omega (arith, f, u, c, k));
   counts = sent.counts h.counts;
   limits_are = same ∙ h.limits_are ∙ sym there;
   fits = subst AreLimits (sym same) h.fits;
-  blocks = blocks_grown h.full limits limits' (issued p (target_of m0.probe) log.calls) (issued p (target_of m0.probe) new.calls) [] log.confirmed new.confirmed h.blocks same
-      (ap (issued p (target_of m0.probe)) calls ∙ sym (append-nil (issued p (target_of m0.probe) log.calls))) more;
+  blocks = blocks_grown h.full limits limits' (issued_entries p (target_of m0.probe) log.calls) (issued_entries p (target_of m0.probe) new.calls) [] log.confirmed new.confirmed h.blocks same
+      (ap (issued_entries p (target_of m0.probe)) calls ∙ sym (append-nil (issued_entries p (target_of m0.probe) log.calls))) more;
 }
 
 -- a flight was sent for which there was no room for one access more
@@ -92,7 +92,7 @@ full_spared p limits given limits' given' log new accesses e next rest points m0
   few = (let f = h.few in let s = sent.few in omega (arith, f, s));
   filled = (let f = h.filled in
       let u = flight_adds p log accesses (e ∷ rest) m0 m i in
-      let c : registers_in (take new.confirmed (issued p (target_of m0.probe) new.calls)) ≡ registers_in (take (length log.entries) (issued p (target_of m0.probe) log.calls)) = (λ j. registers_in (take (all j) (issued p (target_of m0.probe) (calls j)))) in
+      let c : registers_in (take new.confirmed (issued_entries p (target_of m0.probe) new.calls)) ≡ registers_in (take (length log.entries) (issued_entries p (target_of m0.probe) log.calls)) = (λ j. registers_in (take (all j) (issued_entries p (target_of m0.probe) (calls j)))) in
       let k = ap (λ (l : Limits). (h.full + 1) * flight_capacity l) same in
       let d : (h.full + 1) * flight_capacity limits ≡ h.full * flight_capacity limits + flight_capacity limits = omega arith in
       let many = is_full.many in
@@ -100,8 +100,8 @@ full_spared p limits given limits' given' log new accesses e next rest points m0
   counts = sent.counts h.counts;
   limits_are = same ∙ h.limits_are ∙ sym there;
   fits = subst AreLimits (sym same) h.fits;
-  blocks = blocks_full h.full limits limits' i.sending.made i.flying rest (issued p (target_of m0.probe) log.calls) (issued p (target_of m0.probe) new.calls) e next accesses log.confirmed new.confirmed h.blocks i.sending.on.are i.sending.confirmed_is
-      i.sending.on.flight makes is_full same (ap (issued p (target_of m0.probe)) calls) (all ∙ sym i.count);
+  blocks = blocks_full h.full limits limits' i.sending.made i.flying rest (issued_entries p (target_of m0.probe) log.calls) (issued_entries p (target_of m0.probe) new.calls) e next accesses log.confirmed new.confirmed h.blocks i.sending.on.are i.sending.confirmed_is
+      i.sending.on.flight makes is_full same (ap (issued_entries p (target_of m0.probe)) calls) (all ∙ sym i.count);
 }
 
 grown_where : (p : Planner) (x y : Option BenchState) (limits given limits' given' : Limits) (log new : LogState) (accesses : List RegAccess) (rest : List Entry) (points extra : ℕ) (m0 : BenchState) → WhereObservable x (λ m. IsIssuing p log accesses rest m0 m) → WhereObservable x (λ m. IsSpared p limits given log points m0 m) →
@@ -144,18 +144,18 @@ has_same p x x' limits given limits' given' log new points m0 h state calls conf
       full = k.full;
       few = k.few;
       filled = (let f = k.filled in
-          let c : registers_in (take new.confirmed (issued p (target_of m0.probe) new.calls)) ≡ registers_in (take log.confirmed (issued p (target_of m0.probe) log.calls)) = (λ j. registers_in (take (confirmed j) (issued p (target_of m0.probe) (calls j)))) in
+          let c : registers_in (take new.confirmed (issued_entries p (target_of m0.probe) new.calls)) ≡ registers_in (take log.confirmed (issued_entries p (target_of m0.probe) log.calls)) = (λ j. registers_in (take (confirmed j) (issued_entries p (target_of m0.probe) (calls j)))) in
           let l = ap (λ (a : Limits). k.full * flight_capacity a) same in
           omega (arith, f, c, l));
       counts = k.counts;
       limits_are = same ∙ k.limits_are ∙ sym there;
       fits = subst AreLimits (sym same) k.fits;
-      blocks = blocks_grown k.full limits limits' (issued p (target_of m0.probe) log.calls) (issued p (target_of m0.probe) new.calls) [] log.confirmed new.confirmed k.blocks same
-          (ap (issued p (target_of m0.probe)) calls ∙ sym (append-nil (issued p (target_of m0.probe) log.calls))) (omega (arith, confirmed));
+      blocks = blocks_grown k.full limits limits' (issued_entries p (target_of m0.probe) log.calls) (issued_entries p (target_of m0.probe) new.calls) [] log.confirmed new.confirmed k.blocks same
+          (ap (issued_entries p (target_of m0.probe)) calls ∙ sym (append-nil (issued_entries p (target_of m0.probe) log.calls))) (omega (arith, confirmed));
     }
 
 -- where more entries were asked
-pub has_grows : (p : Planner) (x : Option BenchState) (limits given : Limits) (log new : LogState) (points : ℕ) (m0 : BenchState) (more : List Entry) → HasSpared p limits given x log points m0 → issued p (target_of m0.probe) new.calls ≡ issued p (target_of m0.probe) log.calls ++ more →
+pub has_grows : (p : Planner) (x : Option BenchState) (limits given : Limits) (log new : LogState) (points : ℕ) (m0 : BenchState) (more : List Entry) → HasSpared p limits given x log points m0 → issued_entries p (target_of m0.probe) new.calls ≡ issued_entries p (target_of m0.probe) log.calls ++ more →
     new.confirmed ≡ log.confirmed → HasSpared p limits given x new points m0
 has_grows p x limits given log new points m0 more h longer same = record { so = λ managed. by_state x (h.so managed) }
   where
@@ -165,13 +165,13 @@ has_grows p x limits given log new points m0 more h longer same = record { so = 
       full = k.full;
       few = k.few;
       filled = (let f = k.filled in
-          let l = registers_longer log.confirmed (issued p (target_of m0.probe) log.calls) more in
-          let c : registers_in (take new.confirmed (issued p (target_of m0.probe) new.calls)) ≡ registers_in (take log.confirmed (issued p (target_of m0.probe) log.calls ++ more)) = (λ j. registers_in (take (same j) (longer j))) in
+          let l = registers_longer log.confirmed (issued_entries p (target_of m0.probe) log.calls) more in
+          let c : registers_in (take new.confirmed (issued_entries p (target_of m0.probe) new.calls)) ≡ registers_in (take log.confirmed (issued_entries p (target_of m0.probe) log.calls ++ more)) = (λ j. registers_in (take (same j) (longer j))) in
           omega (arith, f, l, c));
       counts = k.counts;
       limits_are = k.limits_are;
       fits = k.fits;
-      blocks = blocks_grown k.full limits limits (issued p (target_of m0.probe) log.calls) (issued p (target_of m0.probe) new.calls) more log.confirmed new.confirmed k.blocks refl longer (omega (arith, same));
+      blocks = blocks_grown k.full limits limits (issued_entries p (target_of m0.probe) log.calls) (issued_entries p (target_of m0.probe) new.calls) more log.confirmed new.confirmed k.blocks refl longer (omega (arith, same));
     }
 
 -- ---- need points that come after what they pay for

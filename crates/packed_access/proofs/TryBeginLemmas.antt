@@ -21,9 +21,9 @@ use Rattle.target_calls.specs.declared.journal.Part.TheVariants.{Settles}
 use Rattle.access_regs.specs.Alone.{alone_after, large_of_all}
 use Rattle.access_regs.specs.Entries.{kept_by, target_by}
 use Rattle.access_regs.specs.Follows.{Follows}
-use Rattle.access_regs.specs.Journal.{Issue, Step, after_settling, alone_at, issue_of, issued, large_of, making, numbered, planned, steps_of}
+use Rattle.access_regs.specs.Journal.{Issue, Step, after_settling, alone_at, issue_of, issued_entries, large_of, making, numbered_entries, issue_of_plan, steps_of}
 use Rattle.access_regs.specs.Kept.{Kept}
-use Rattle.access_regs.specs.Plan.{settle, settled}
+use Rattle.access_regs.specs.Plan.{settle, kept_after_settling}
 use Rattle.access_regs.proofs.AllCalls.{journal_follows}
 use Rattle.access_regs.proofs.EntryLemmas.{journal_grows}
 use Rattle.access_regs.proofs.Seams.{after_split}
@@ -53,13 +53,13 @@ target_settled p t calls k = after (target_by p t calls) (making (settle k))
 
 -- what the unit issues after the settling
 abbrev pub alone_issue : (p : Planner) (forgive : Bool) → TargetState → List Ask → Kept → AccessUnit → Issue
-alone_issue p forgive t calls k asked = alone_at forgive asked (target_settled p t calls k) (settled k)
+alone_issue p forgive t calls k asked = alone_at forgive asked (target_settled p t calls k) (kept_after_settling k)
 
 pub issue_is : (p : Planner) (forgive : Bool) (t : TargetState) (calls : List Ask) (k : Kept) (asked : AccessUnit) → is_alone p forgive ≡ true → may_forgive (Access asked) ≡ true →
     issue_of p (target_by p t calls) k (unit_ask asked forgive) ≡ after_settling (target_by p t calls) k (alone_at forgive asked)
-issue_is p forgive t calls k asked alone may = ap (λ (b : Bool). cond b (after_settling (target_by p t calls) k (alone_at forgive asked)) (planned (target_by p t calls) k asked)) (and_from (is_alone p forgive) (may_forgive (Access asked)) alone may)
+issue_is p forgive t calls k asked alone may = ap (λ (b : Bool). cond b (after_settling (target_by p t calls) k (alone_at forgive asked)) (issue_of_plan (target_by p t calls) k asked)) (and_from (is_alone p forgive) (may_forgive (Access asked)) alone may)
 
-settles_numbered : (units : ℕ) (b : Bool) (xs : List RegAccess) → numbered units b (steps_of Settles xs) ≡ strict_entries units Settles xs
+settles_numbered : (units : ℕ) (b : Bool) (xs : List RegAccess) → numbered_entries units b (steps_of Settles xs) ≡ strict_entries units Settles xs
 settles_numbered units true [] = refl
 settles_numbered units false [] = refl
 settles_numbered units true (x ∷ xs) = ap (λ l. record { unit = units; part = Settles; forgiving = false; action = Makes x } ∷ l) (settles_numbered units true xs)
@@ -67,11 +67,11 @@ settles_numbered units false (x ∷ xs) = ap (λ l. record { unit = units; part 
 
 -- its entries: those that settle, and then its own
 pub entries_are : (p : Planner) (forgive : Bool) (t : TargetState) (calls : List Ask) (k : Kept) (asked : AccessUnit) → is_alone p forgive ≡ true → may_forgive (Access asked) ≡ true →
-    entries_for_call p t calls k (unit_ask asked forgive) ≡ strict_entries (length calls) Settles (settle k) ++ numbered (length calls) forgive (alone_issue p forgive t calls k asked).steps
+    entries_for_call p t calls k (unit_ask asked forgive) ≡ strict_entries (length calls) Settles (settle k) ++ numbered_entries (length calls) forgive (alone_issue p forgive t calls k asked).steps
 entries_are p forgive t calls k asked alone may =
-    (λ j. numbered (length calls) (and_same forgive (may_forgive (Access asked)) may j) (issue_is p forgive t calls k asked alone may j).steps)
+    (λ j. numbered_entries (length calls) (and_same forgive (may_forgive (Access asked)) may j) (issue_is p forgive t calls k asked alone may j).steps)
     ∙ numbered_append (length calls) forgive (steps_of Settles (settle k)) (alone_issue p forgive t calls k asked).steps
-    ∙ ap (λ (l : List Entry). l ++ numbered (length calls) forgive (alone_issue p forgive t calls k asked).steps) (settles_numbered (length calls) forgive (settle k))
+    ∙ ap (λ (l : List Entry). l ++ numbered_entries (length calls) forgive (alone_issue p forgive t calls k asked).steps) (settles_numbered (length calls) forgive (settle k))
 
 -- an access port is unsettled only after a call
 settle_unit : (p : Planner) (t : TargetState) (calls : List Ask) (u : ℕ) → (0 < length calls → u ≡ length calls) → strict_entries (length calls) Settles (settle (kept_by p t calls)) ≡ strict_entries u Settles (settle (kept_by p t calls))
@@ -80,11 +80,11 @@ settle_unit p t (c ∷ calls) u is = ap (λ (n : ℕ). strict_entries n Settles 
 
 -- the settling is to be issued, and then the unit
 pub begin_settling : (p : Planner) (forgive : Bool) (x : Option BenchState) (log : LogState) (accesses : List RegAccess) (kept : Kept) (calls : List Ask) (ask : Ask) (asked : AccessUnit) (m0 : BenchState) (u : ℕ) → LogHasAsked p x log accesses kept calls ask m0 → ask ≡ unit_ask asked forgive → is_alone p forgive ≡ true → may_forgive (Access asked) ≡ true →
-    (0 < length calls → u ≡ length calls) → HasIssued p x log accesses (strict_entries u Settles (settle kept) ++ numbered (length calls) forgive (alone_issue p forgive (target_of m0.probe) calls kept asked).steps) m0
+    (0 < length calls → u ≡ length calls) → HasIssued p x log accesses (strict_entries u Settles (settle kept) ++ numbered_entries (length calls) forgive (alone_issue p forgive (target_of m0.probe) calls kept asked).steps) m0
 begin_settling p forgive x log accesses kept calls ask asked m0 u h same alone may is =
     subst (λ (l : List Entry). HasIssued p x log accesses l m0)
     (ap (entries_for_call p (target_of m0.probe) calls kept) same ∙ entries_are p forgive (target_of m0.probe) calls kept asked alone may
-    ∙ ap (λ (l : List Entry). l ++ numbered (length calls) forgive (alone_issue p forgive (target_of m0.probe) calls kept asked).steps)
+    ∙ ap (λ (l : List Entry). l ++ numbered_entries (length calls) forgive (alone_issue p forgive (target_of m0.probe) calls kept asked).steps)
     (subst (λ (q : Kept). strict_entries (length calls) Settles (settle q) ≡ strict_entries u Settles (settle q)) h.kept_is (settle_unit p (target_of m0.probe) calls u is)))
     h.issued
 
@@ -104,7 +104,7 @@ before_at p log calls ask rest m0 m h are came =
     let s = at_rest p log rest m0 m h in
     let count : length log.calls ≡ length calls + 1 = ap length are ∙ length-append calls (ask ∷ []) in
     let c : HaveCome p log.calls log.confirmed (length calls) m0 = have_come_own p log.calls s.made rest log.confirmed (length calls) m0 s.fresh s.askable (omega (arith, count)) s.on.are s.on.passes s.confirmed_is
-    (let f = ap (λ (k : ℕ). length (issued p (target_of m0.probe) (take k (unmarked_last log.calls)))) came in let n = h.came_made in omega (arith, f, n)) in
+    (let f = ap (λ (k : ℕ). length (issued_entries p (target_of m0.probe) (take k (unmarked_last log.calls)))) came in let n = h.came_made in omega (arith, f, n)) in
     record {
       fresh = s.fresh;
       askable = subst AreAskable are s.askable;
@@ -117,7 +117,7 @@ is_before p x log calls ask rest m0 h are came = fact_of x (λ m. IsIssuing p lo
 -- after the settling the target follows the one after the calls alone
 pub record IsCalm (p : Planner) (t : TargetState) (calls : List Ask) : Type 0 where
   pub pass : PassTo (target_by p t calls) (making (settle (kept_by p t calls))) (target_settled p t calls (kept_by p t calls))
-  pub follows : Follows (settled (kept_by p t calls)) (large_of_all t [] calls) (alone_after t [] calls) (target_settled p t calls (kept_by p t calls))
+  pub follows : Follows (kept_after_settling (kept_by p t calls)) (large_of_all t [] calls) (alone_after t [] calls) (target_settled p t calls (kept_by p t calls))
 
 pub askable_front : (calls : List Ask) (ask : Ask) → AreAskable (calls ++ ask ∷ []) → AreAskable calls
 askable_front [] ask h = tt
@@ -135,7 +135,7 @@ is_calm p t calls ask b =
     let at : after (target_by p t calls) (making (settle (kept_by p t calls))) ≡ g.at = pass_after (target_by p t calls) g.at (making (settle (kept_by p t calls))) g.pass in
     record {
       pass = subst (PassTo (target_by p t calls) (making (settle (kept_by p t calls)))) (sym at) g.pass;
-      follows = subst (Follows (settled (kept_by p t calls)) (large_of_all t [] calls) (alone_after t [] calls)) (sym at) g.follows;
+      follows = subst (Follows (kept_after_settling (kept_by p t calls)) (large_of_all t [] calls) (alone_after t [] calls)) (sym at) g.follows;
     }
 
 -- ---- its first access
@@ -161,42 +161,42 @@ some_actions t large (unit.Dp read addr value) may none = (let x : ◌≡◌ {A 
 some_actions t large (unit.Poll mask value turns) may none = (let x : ◌≡◌ {A = Bool} false true = may in cc)
 
 trying_at : (p : Planner) (forgive : Bool) (log : LogState) (calls : List Ask) (asked : AccessUnit) (m0 m : BenchState) → is_alone p forgive ≡ true → may_forgive (Access asked) ≡ true → log.calls ≡ calls ++ unit_ask asked forgive ∷ [] →
-    IsIssuing p log [] (numbered (length calls) forgive (alone_issue p forgive (target_of m0.probe) calls (kept_by p (target_of m0.probe) calls) asked).steps) m0 m →
-    IsTrying p forgive log asked (settled (kept_by p (target_of m0.probe) calls)) (target_settled p (target_of m0.probe) calls (kept_by p (target_of m0.probe) calls)) []
-    (call_actions (target_settled p (target_of m0.probe) calls (kept_by p (target_of m0.probe) calls)) (large_of (settled (kept_by p (target_of m0.probe) calls)) asked) (Access asked)) m0 m
+    IsIssuing p log [] (numbered_entries (length calls) forgive (alone_issue p forgive (target_of m0.probe) calls (kept_by p (target_of m0.probe) calls) asked).steps) m0 m →
+    IsTrying p forgive log asked (kept_after_settling (kept_by p (target_of m0.probe) calls)) (target_settled p (target_of m0.probe) calls (kept_by p (target_of m0.probe) calls)) []
+    (call_actions (target_settled p (target_of m0.probe) calls (kept_by p (target_of m0.probe) calls)) (large_of (kept_after_settling (kept_by p (target_of m0.probe) calls)) asked) (Access asked)) m0 m
 trying_at p forgive log calls asked m0 m alone may are h =
     let t0 : TargetState = target_of m0.probe in
     let k : Kept = kept_by p (target_of m0.probe) calls in
     let steps : List Step = (alone_issue p forgive (target_of m0.probe) calls (kept_by p (target_of m0.probe) calls) asked).steps in
-    let own : List Entry = numbered (length calls) forgive steps in
+    let own : List Entry = numbered_entries (length calls) forgive steps in
     let calming : List Entry = strict_entries (length calls) Settles (settle (kept_by p (target_of m0.probe) calls)) in
-    let s = at_rest p log (numbered (length calls) forgive (alone_issue p forgive (target_of m0.probe) calls (kept_by p (target_of m0.probe) calls) asked).steps) m0 m h in
+    let s = at_rest p log (numbered_entries (length calls) forgive (alone_issue p forgive (target_of m0.probe) calls (kept_by p (target_of m0.probe) calls) asked).steps) m0 m h in
     let count : length log.calls - 1 ≡ length calls = (let c = ap length are ∙ length-append calls (unit_ask asked forgive ∷ []) in omega (arith, c)) in
-    let grown : issued p (target_of m0.probe) log.calls ≡ (issued p (target_of m0.probe) calls ++ calming) ++ own =
-    ap (issued p (target_of m0.probe)) are ∙ (journal_grows p (target_of m0.probe) calls (unit_ask asked forgive) refl).0
-    ∙ ap (λ (l : List Entry). issued p (target_of m0.probe) calls ++ l) (entries_are p forgive (target_of m0.probe) calls (kept_by p (target_of m0.probe) calls) asked alone may)
-    ∙ sym (append_assoc (issued p (target_of m0.probe) calls) calming own) in
-    let made : s.made ≡ issued p (target_of m0.probe) calls ++ calming = cancel_back s.made (issued p (target_of m0.probe) calls ++ calming) own (sym s.on.are ∙ grown) in
+    let grown : issued_entries p (target_of m0.probe) log.calls ≡ (issued_entries p (target_of m0.probe) calls ++ calming) ++ own =
+    ap (issued_entries p (target_of m0.probe)) are ∙ (journal_grows p (target_of m0.probe) calls (unit_ask asked forgive) refl).0
+    ∙ ap (λ (l : List Entry). issued_entries p (target_of m0.probe) calls ++ l) (entries_are p forgive (target_of m0.probe) calls (kept_by p (target_of m0.probe) calls) asked alone may)
+    ∙ sym (append_assoc (issued_entries p (target_of m0.probe) calls) calming own) in
+    let made : s.made ≡ issued_entries p (target_of m0.probe) calls ++ calming = cancel_back s.made (issued_entries p (target_of m0.probe) calls ++ calming) own (sym s.on.are ∙ grown) in
     record {
       left = steps;
-      issuing = subst (λ (n : ℕ). IsIssuing p log [] (numbered n forgive (alone_issue p forgive (target_of m0.probe) calls (kept_by p (target_of m0.probe) calls) asked).steps) m0 m) (sym count) h;
+      issuing = subst (λ (n : ℕ). IsIssuing p log [] (numbered_entries n forgive (alone_issue p forgive (target_of m0.probe) calls (kept_by p (target_of m0.probe) calls) asked).steps) m0 m) (sym count) h;
       actions = refl;
       steps = refl;
       good = tt;
-      target = s.on.target ∙ ap (target_after (target_of m0.probe)) made ∙ after_split (target_of m0.probe) (issued p (target_of m0.probe) calls) calming
+      target = s.on.target ∙ ap (target_after (target_of m0.probe)) made ∙ after_split (target_of m0.probe) (issued_entries p (target_of m0.probe) calls) calming
           ∙ ap (after (target_by p (target_of m0.probe) calls)) (settles_in (length calls) (settle (kept_by p (target_of m0.probe) calls)));
       end = λ none. absurd (some_actions _ _ asked may none);
     }
 
 -- where the bench is observable
 pub begin_trying : (p : Planner) (forgive : Bool) (x : Option BenchState) (log : LogState) (kept : Kept) (calls : List Ask) (asked : AccessUnit) (m0 : BenchState) → kept_by p (target_of m0.probe) calls ≡ kept → is_alone p forgive ≡ true → may_forgive (Access asked) ≡ true → log.calls ≡ calls ++ unit_ask asked forgive ∷ [] →
-    HasIssued p x log [] (numbered (length calls) forgive (alone_issue p forgive (target_of m0.probe) calls kept asked).steps) m0 →
-    LogHasTried p forgive x log asked (settled kept) (target_settled p (target_of m0.probe) calls kept) [] (call_actions (target_settled p (target_of m0.probe) calls kept) (large_of (settled kept) asked) (Access asked)) m0
+    HasIssued p x log [] (numbered_entries (length calls) forgive (alone_issue p forgive (target_of m0.probe) calls kept asked).steps) m0 →
+    LogHasTried p forgive x log asked (kept_after_settling kept) (target_settled p (target_of m0.probe) calls kept) [] (call_actions (target_settled p (target_of m0.probe) calls kept) (large_of (kept_after_settling kept) asked) (Access asked)) m0
 begin_trying p forgive x log kept calls asked m0 kept_is alone may are =
-    subst (λ (q : Kept). HasIssued p x log [] (numbered (length calls) forgive (alone_issue p forgive (target_of m0.probe) calls q asked).steps) m0 →
-    LogHasTried p forgive x log asked (settled q) (target_settled p (target_of m0.probe) calls q) [] (call_actions (target_settled p (target_of m0.probe) calls q) (large_of (settled q) asked) (Access asked)) m0) kept_is
+    subst (λ (q : Kept). HasIssued p x log [] (numbered_entries (length calls) forgive (alone_issue p forgive (target_of m0.probe) calls q asked).steps) m0 →
+    LogHasTried p forgive x log asked (kept_after_settling q) (target_settled p (target_of m0.probe) calls q) [] (call_actions (target_settled p (target_of m0.probe) calls q) (large_of (kept_after_settling q) asked) (Access asked)) m0) kept_is
     (λ h. record { so = where_same x _ _ (λ m i. trying_at p forgive log calls asked m0 m alone may are i) h.so })
 
 -- what is known of 256 access ports
-pub settled_table : (p : Planner) (t : TargetState) (kept : Kept) (calls : List Ask) (ask : Ask) → kept_by p t calls ≡ kept → IsBefore t calls ask → length (settled kept).ports ≡ 256
-settled_table p t kept calls ask kept_is b = subst (λ (q : Kept). length (settled q).ports ≡ 256) kept_is (is_calm p t calls ask b).follows.table
+pub settled_table : (p : Planner) (t : TargetState) (kept : Kept) (calls : List Ask) (ask : Ask) → kept_by p t calls ≡ kept → IsBefore t calls ask → length (kept_after_settling kept).ports ≡ 256
+settled_table p t kept calls ask kept_is b = subst (λ (q : Kept). length (kept_after_settling q).ports ≡ 256) kept_is (is_calm p t calls ask b).follows.table

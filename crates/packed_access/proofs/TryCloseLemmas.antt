@@ -4,13 +4,13 @@ use Rattle.std.proofs.Math.Seq.{take-length}
 use Rattle.std.proofs.lemmas.List.{take_more_set}
 use Rattle.std.specs.Option.{unwrap_or}
 use Rattle.std.specs.Prelude.{slice_get}
-use Rattle.target_machine.specs.Plain.{CallEnd, Answered, Faulted, Skipped, Small, given, result_of}
+use Rattle.target_machine.specs.Plain.{CallEnd, Answered, Faulted, Skipped, Small, given_number, result_of}
 use Rattle.target_machine.specs.State.{TargetState}
 use Rattle.probe_core.specs.Bench.{BenchState}
 use Rattle.probe_core.specs.Probe.{target_of}
 use Rattle.target_calls.specs.World.{World, done_now, next_world, one_if_skipped, results, skips, start_world, stops_here}
 use Rattle.target_calls.specs.declared.calls.Ask.{Ask}
-use Rattle.access_regs.specs.Journal.{issued}
+use Rattle.access_regs.specs.Journal.{issued_entries}
 use Rattle.packed_access.specs.Begun.{HasIssued, IsIssuing}
 use Rattle.packed_access.specs.Forgiving.{log_after_answer}
 use Rattle.packed_access.specs.Logs.{LogState, all_confirmed, all_issued, asks_of, result_for, with_result}
@@ -49,7 +49,7 @@ module _ (p : Planner) (log : LogState) (calls : List Ask) (ask : Ask) (r s : �
   come =
       let rest = at_rest p log [] m0 m h in
       have_come p log.calls rest.made [] (length log.entries) (length log.calls) m0 rest.fresh rest.askable (omega arith) rest.on.are rest.on.passes (rest.confirmed_is ∙ here)
-      (let f = ap (λ (l : List Ask). length (issued p t0 l)) first_all in let a = ap length rest.on.are in let n = ap length (append-nil rest.made) in let c = rest.confirmed_is in let k = here in omega (arith, f, a, n, c, k))
+      (let f = ap (λ (l : List Ask). length (issued_entries p t0 l)) first_all in let a = ap length rest.on.are in let n = ap length (append-nil rest.made) in let c = rest.confirmed_is in let k = here in omega (arith, f, a, n, c, k))
 
   index_is : length log.calls - 1 ≡ length calls
   index_is = (let c = count_is in omega (arith, c))
@@ -67,10 +67,10 @@ module _ (p : Planner) (log : LogState) (calls : List Ask) (ask : Ask) (r s : �
   own_calls : unmarked_last log.calls ≡ log.calls
   own_calls = ap unmarked_last are ∙ unmarked_append calls ask unmarked ∙ sym are
 
-  made_count : length (issued p t0 (take (length log.calls) (unmarked_last log.calls))) ≤ length log.entries
+  made_count : length (issued_entries p t0 (take (length log.calls) (unmarked_last log.calls))) ≤ length log.entries
   made_count =
       (let rest = at_rest p log [] m0 m h in
-      let f = ap (λ (l : List Ask). length (issued p t0 l)) (ap (take (length log.calls)) own_calls ∙ first_all) in let a = ap length rest.on.are in let n = ap length (append-nil rest.made) in let c = rest.confirmed_is in let k = here in omega (arith, f, a, n, c, k))
+      let f = ap (λ (l : List Ask). length (issued_entries p t0 l)) (ap (take (length log.calls)) own_calls ∙ first_all) in let a = ap length rest.on.are in let n = ap length (append-nil rest.made) in let c = rest.confirmed_is in let k = here in omega (arith, f, a, n, c, k))
 
   pub closed_at : IsIssuing p (record (all_confirmed (with_result (all_issued log) (length log.calls - 1) r)) { skipped = log.skipped + s }) [] [] m0 m
   closed_at =

@@ -2,7 +2,7 @@
 use Rattle.std.proofs.Common.{◌≡◌, inl, inr, ◌∙◌, ℕ, zero, suc, ◌+◌, ◌-◌, ◌^◌, min, Bool, true, false, cond, List, [], ◌∷◌, ◌++◌, length, Option, Some, None, refl, sym, ap, subst, arith, append-nil}
 use Rattle.std.specs.Option.{unwrap_or}
 use Rattle.target_machine.specs.Lists.{after}
-use Rattle.target_machine.specs.Plain.{Makes, acted, from_lanes, is_fault, may_forgive, result_of}
+use Rattle.target_machine.specs.Plain.{Makes, action_attempt, from_lanes, is_fault, may_forgive, result_of}
 use Rattle.target_machine.specs.State.{TargetState}
 use Rattle.target_machine.specs.declared.access.RegAccess.{RegAccess}
 use Rattle.target_machine.specs.declared.unit.Call.TheVariants.{Access}
@@ -12,14 +12,14 @@ use Rattle.probe_core.specs.Bench.{BenchState}
 use Rattle.probe_core.specs.Bench.{Reported as BenchReported}
 use Rattle.probe_core.specs.Probe.{target_of}
 use Rattle.target_calls.specs.Asks.{unit_ask}
-use Rattle.target_calls.specs.NeedPoints.{Asks, asked, needed_more, with_call}
+use Rattle.target_calls.specs.NeedPoints.{Asks, asks_with_call, needed_more, with_call}
 use Rattle.target_calls.specs.World.{World, results, skips, small_now, start_world}
 use Rattle.target_calls.specs.declared.calls.Ask.{Ask}
 use Rattle.access_regs.specs.Costs.{cost_by, leading_reads}
 use Rattle.access_regs.specs.Entries.{NoneFault, kept_by, target_by}
-use Rattle.access_regs.specs.Journal.{Issue, Step, alone_at, issue_of, making, numbered, port_of}
+use Rattle.access_regs.specs.Journal.{Issue, Step, alone_at, issue_of, making, numbered_entries, port_of}
 use Rattle.access_regs.specs.Kept.{Kept, forget}
-use Rattle.access_regs.specs.Plan.{settle, settled}
+use Rattle.access_regs.specs.Plan.{settle, kept_after_settling}
 use Rattle.access_regs.proofs.EntryLemmas.{journal_grows}
 use Rattle.flight_laws.specs.Forgiving.{abort_after, steps_of_unit}
 use Rattle.packed_access.specs.Begun.{HasBegun, HasIssued, IsIssuing}
@@ -48,13 +48,13 @@ whole_of p forgive x log asked k t made m0 h =
 
 whole_issued : (p : Planner) (forgive : Bool) (x : Option BenchState) (log : LogState) (asked : AccessUnit) (k : Kept) (t : TargetState) (made : List RegAccess) (m0 : BenchState) → LogHasTried p forgive x log asked k t made [] m0 → HasIssued p x log [] [] m0
 whole_issued p forgive x log asked k t made m0 h =
-    record { so = where_same x (λ m. IsTrying p forgive log asked k t made [] m0 m) (λ m. IsIssuing p log [] [] m0 m) (λ m i. subst (λ (l : List Step). IsIssuing p log [] (numbered (length log.calls - 1) forgive l) m0 m) (i.end refl) i.issuing) h.so }
+    record { so = where_same x (λ m. IsTrying p forgive log asked k t made [] m0 m) (λ m. IsIssuing p log [] [] m0 m) (λ m i. subst (λ (l : List Step). IsIssuing p log [] (numbered_entries (length log.calls - 1) forgive l) m0 m) (i.end refl) i.issuing) h.so }
 
 record IsCut (forgive : Bool) (asked : AccessUnit) (k : Kept) (t : TargetState) (made : List RegAccess) (last : RegAccess) : Type 0 where
   forgives : forgive ≡ true
   steps : (alone_at forgive asked t k).steps ≡ steps_of_unit asked (made ++ last ∷ []) ++ abort_after asked (made ++ last ∷ []) ∷ []
   good : NoneFault t made
-  bad : is_fault (acted (after t (making made)) (Makes last)).outcome ≡ true
+  bad : is_fault (action_attempt (after t (making made)) (Makes last)).outcome ≡ true
 
 cut_of : (p : Planner) (forgive : Bool) (x : Option BenchState) (log : LogState) (asked : AccessUnit) (k : Kept) (t : TargetState) (made : List RegAccess) (last : RegAccess) (m0 : BenchState) → HasForgiven p forgive x log asked k t made last m0 → IsCut forgive asked k t made last
 cut_of p forgive x log asked k t made last m0 h = fact_of x (λ m. IsForgiven p forgive log asked k t made last m0 m) _ (λ m i. record { forgives = i.forgives; steps = i.steps; good = i.good; bad = i.bad }) h.so
@@ -94,43 +94,43 @@ module _ (p : Planner) (forgive : Bool) (x : Option BenchState) (log : LogState)
   abbrev w0 : World
   w0 = start_world t0 None
 
-  not_small : (v : ℕ) → IsSmallBy false (Some v) asked (settled k) u → small_now w0 calls (unit_ask asked forgive) ≡ false
+  not_small : (v : ℕ) → IsSmallBy false (Some v) asked (kept_after_settling k) u → small_now w0 calls (unit_ask asked forgive) ≡ false
   not_small v (inl none) = small_unread p forgive t0 calls asked b none
   not_small v (inr shows) = small_shown p forgive t0 calls asked b true shows.0 shows.1
 
-  by_end : (small : Bool) (w : Option ℕ) → EndsTo p forgive small w x log asked (settled k) u m0 → IsSmallBy small w asked (settled k) u → UnitOutcome p forgive small w x log calls asked m0
+  by_end : (small : Bool) (w : Option ℕ) → EndsTo p forgive small w x log asked (kept_after_settling k) u m0 → IsSmallBy small w asked (kept_after_settling k) u → UnitOutcome p forgive small w x log calls asked m0
   by_end true w ends shows =
       let now : small_now w0 calls (unit_ask asked forgive) ≡ true = small_shown p forgive t0 calls asked b false shows.0 shows.1 in
       let o = small_outcome forgive t0 calls asked b now in
       record {
-        issuing = whole_issued p forgive x log asked (settled k) u ends.1.made m0 ends.1.tried;
+        issuing = whole_issued p forgive x log asked (kept_after_settling k) u ends.1.made m0 ends.1.tried;
         results_are = o.1 ∙ ap (λ (n : ℕ). results w0 calls ++ n ∷ []) (sym (ap (λ (v : Option ℕ). result_of (Access asked) (unwrap_or v 0)) ends.0 ∙ result_zero asked));
         skips_are = (let s = o.0 in let z : skipped_by w ≡ 0 = ap skipped_by ends.0 in omega (arith, s, z));
         small_is = sym now;
       }
   by_end false (Some v) ends shows =
-      let i : IsWhole forgive asked (settled k) u (ends.made ++ ends.last ∷ []) = whole_of p forgive x log asked (settled k) u (ends.made ++ ends.last ∷ []) m0 ends.tried in
+      let i : IsWhole forgive asked (kept_after_settling k) u (ends.made ++ ends.last ∷ []) = whole_of p forgive x log asked (kept_after_settling k) u (ends.made ++ ends.last ∷ []) m0 ends.tried in
       let now : small_now w0 calls (unit_ask asked forgive) ≡ false = not_small v shows in
       record {
-        issuing = whole_issued p forgive x log asked (settled k) u (ends.made ++ ends.last ∷ []) m0 ends.tried;
+        issuing = whole_issued p forgive x log asked (kept_after_settling k) u (ends.made ++ ends.last ∷ []) m0 ends.tried;
         results_are = pass_results p forgive t0 calls asked alone may b ends.made ends.last i.steps i.good now ∙ ap (λ (n : ℕ). results w0 calls ++ result_of (Access asked) n ∷ []) (sym ends.value);
         skips_are = (let s = pass_skips p forgive t0 calls asked alone may b ends.made ends.last i.steps i.good in omega (arith, s));
         small_is = sym now;
       }
   by_end false None ends shows =
-      let i : IsCut forgive asked (settled k) u ends.made ends.last = cut_of p forgive x log asked (settled k) u ends.made ends.last m0 ends.forgiven in
+      let i : IsCut forgive asked (kept_after_settling k) u ends.made ends.last = cut_of p forgive x log asked (kept_after_settling k) u ends.made ends.last m0 ends.forgiven in
       let o = skip_outcome p forgive t0 calls asked alone may b ends.made ends.last i.forgives i.steps i.good i.bad in
       record {
-        issuing = cut_issued p forgive x log asked (settled k) u ends.made ends.last m0 ends.forgiven;
+        issuing = cut_issued p forgive x log asked (kept_after_settling k) u ends.made ends.last m0 ends.forgiven;
         results_are = o.1 ∙ ap (λ (n : ℕ). results w0 calls ++ n ∷ []) (sym (result_zero asked));
         skips_are = o.0;
         small_is = sym (skip_not_small p forgive t0 calls asked alone may b ends.made ends.last i.forgives i.steps i.good i.bad);
       }
 
 pub unit_outcome : (p : Planner) (forgive : Bool) (x : Option BenchState) (log : LogState) (kept : Kept) (calls : List Ask) (asked : AccessUnit) (small : Bool) (w : Option ℕ) (reads : ℕ) (noted : Kept) (m0 : BenchState) → kept_by p (target_of m0.probe) calls ≡ kept → is_alone p forgive ≡ true → may_forgive (Access asked) ≡ true →
-    IsBefore (target_of m0.probe) calls (unit_ask asked forgive) → IsDoneBy p forgive small w reads noted x log asked (settled kept) (target_settled p (target_of m0.probe) calls kept) m0 → UnitOutcome p forgive small w x log calls asked m0
+    IsBefore (target_of m0.probe) calls (unit_ask asked forgive) → IsDoneBy p forgive small w reads noted x log asked (kept_after_settling kept) (target_settled p (target_of m0.probe) calls kept) m0 → UnitOutcome p forgive small w x log calls asked m0
 unit_outcome p forgive x log kept calls asked small w reads noted m0 kept_is alone may b =
-    subst (λ (q : Kept). IsDoneBy p forgive small w reads noted x log asked (settled q) (target_settled p (target_of m0.probe) calls q) m0 → UnitOutcome p forgive small w x log calls asked m0) kept_is
+    subst (λ (q : Kept). IsDoneBy p forgive small w reads noted x log asked (kept_after_settling q) (target_settled p (target_of m0.probe) calls q) m0 → UnitOutcome p forgive small w x log calls asked m0) kept_is
     (λ d. by_end p forgive x log calls asked m0 alone may b small w d.came d.small_is)
 
 -- ---- the access goes on
@@ -159,7 +159,7 @@ more_both (suc r) a ask =
 
 pub unit_needs : (p : Planner) (forgive : Bool) (t : TargetState) (kept : Kept) (calls : List Ask) (asked' : AccessUnit) (reads needs fence : ℕ) (log new : LogState) (points count : ℕ) → is_alone p forgive ≡ true → kept_by p t calls ≡ kept → may_forgive (Access asked') ≡ true →
     reads ≡ leading_reads (alone_issue p forgive t calls kept asked').steps → new ≡ with_needs log points count → points ≡ managed_points p (5 + reads) → count ≡ length log.calls → asks_of log ≡ record { calls = calls ++ unit_ask asked' forgive ∷ []; needs = needs; fence = fence } →
-    asks_of new ≡ asked (cost_by p t calls (unit_ask asked' forgive)) (unit_ask asked' forgive) (record { calls = calls; needs = needs; fence = fence })
+    asks_of new ≡ asks_with_call (cost_by p t calls (unit_ask asked' forgive)) (unit_ask asked' forgive) (record { calls = calls; needs = needs; fence = fence })
 unit_needs Plain forgive t kept calls asked' reads needs fence log new points count alone kept_is may reads_are is points_are at asks =
     ap asks_of is ∙ (λ j. asks_of (with_needs log (points_are j) (at j))) ∙ needs_more log 0 ∙ asks
 unit_needs Managed false t kept calls asked' reads needs fence log new points count alone kept_is may reads_are is points_are at asks = absurd (let x : ◌≡◌ {A = Bool} false true = alone in cc)
@@ -176,5 +176,5 @@ unit_needs Managed true t kept calls asked' reads needs fence log new points cou
     ∙ cost_same t calls asked' may a
   where
     cost_same : (t : TargetState) (calls : List Ask) (asked' : AccessUnit) → may_forgive (Access asked') ≡ true → (a : Asks) →
-        needed_more (cond (may_forgive (Access asked')) 5 0) (with_call (unit_ask asked' true) (needed_more (leading_reads (issue_of Managed (target_by Managed t calls) (kept_by Managed t calls) (unit_ask asked' true)).steps) a)) ≡ asked (cost_by Managed t calls (unit_ask asked' true)) (unit_ask asked' true) a
+        needed_more (cond (may_forgive (Access asked')) 5 0) (with_call (unit_ask asked' true) (needed_more (leading_reads (issue_of Managed (target_by Managed t calls) (kept_by Managed t calls) (unit_ask asked' true)).steps) a)) ≡ asks_with_call (cost_by Managed t calls (unit_ask asked' true)) (unit_ask asked' true) a
     cost_same t calls asked' may a = rw may refl

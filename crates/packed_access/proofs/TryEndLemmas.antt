@@ -10,9 +10,9 @@ use Rattle.probe_core.specs.Bench.{BenchState}
 use Rattle.probe_core.specs.Bench.{Reported as BenchReported}
 use Rattle.probe_core.specs.Probe.{target_of, work_of}
 use Rattle.target_calls.specs.Journal.{Entry, Passes, target_after}
-use Rattle.target_calls.specs.Weights.{performed, weight_in}
+use Rattle.target_calls.specs.Weights.{entries_performed, weight_in}
 use Rattle.target_calls.specs.World.{results}
-use Rattle.access_regs.specs.Journal.{issued}
+use Rattle.access_regs.specs.Journal.{issued_entries}
 use Rattle.access_regs.proofs.Seams.{passes_both}
 use Rattle.access_regs.specs.Kept.{Kept}
 use Rattle.access_calls.specs.Growing.{IsAfter}
@@ -62,7 +62,7 @@ response_by cut accesses m o broke Faulted is = broke.fault is
 response_by cut accesses m o broke NoAnswer is = broke.wait is
 
 module _ (p : Planner) (forgive : Bool) (bench : BenchReported) (state : Option BenchState) (sent got : List ℕ) (log : LogState) (entries : List Issued) (accesses : List RegAccess) (flying more : List Entry) (m0 m o : BenchState)
-    (s : IsSending p log.calls log.confirmed log.came flying more accesses (take log.known log.results) m0 m) (are : AreKeptOf (take (length entries) (issued p (target_of m0.probe) log.calls)) entries) (count : log.confirmed + length flying ≡ length entries) where
+    (s : IsSending p log.calls log.confirmed log.came flying more accesses (take log.known log.results) m0 m) (are : AreKeptOf (take (length entries) (issued_entries p (target_of m0.probe) log.calls)) entries) (count : log.confirmed + length flying ≡ length entries) where
   abbrev log1 : LogState
   log1 = record log { entries = entries }
 
@@ -77,7 +77,7 @@ module _ (p : Planner) (forgive : Bool) (bench : BenchReported) (state : Option 
     cut_off : IsCutOff p r b m0
     cut_off = record {
       end = refl;
-      numbers = numbers_longer (issued p (target_of m0.probe) log.calls) (length entries) log.calls skipped lines r (numbers (take (length entries) (issued p (target_of m0.probe) log.calls)) are) few;
+      numbers = numbers_longer (issued_entries p (target_of m0.probe) log.calls) (length entries) log.calls skipped lines r (numbers (take (length entries) (issued_entries p (target_of m0.probe) log.calls)) are) few;
       came = refl;
     }
 
@@ -123,7 +123,7 @@ module _ (p : Planner) (forgive : Bool) (bench : BenchReported) (state : Option 
   s = flying_abort p forgive log asked k t made leads last for_end rest more m0 m h n few bounded o part flies answer forgives_it
 
   abbrev journal : List Entry
-  journal = issued p (target_of m0.probe) log.calls
+  journal = issued_entries p (target_of m0.probe) log.calls
 
   long : length journal ≡ log.confirmed + length fly + 1
   long = (let a = ap length s.on.are in let b = length-append s.made (fly ++ ab ∷ []) in let c = length-append fly (ab ∷ []) in let d = s.confirmed_is in omega (arith, a, b, c, d))
@@ -211,7 +211,7 @@ module _ (p : Planner) (forgive : Bool) (bench : BenchReported) (state : Option 
       let part_is = has_part journal s.made fly (ab ∷ []) (leads ++ last ∷ []) w m0 m o part s.on flies.does in
       let work : work_of q.probe ≡ work_of o.probe = none_work d in
       record {
-        count_is = part_is.count_is ∙ ap (λ (x : ℕ). performed (target_of m0.probe) journal (x - work_of m0.probe)) (sym work);
+        count_is = part_is.count_is ∙ ap (λ (x : ℕ). entries_performed (target_of m0.probe) journal (x - work_of m0.probe)) (sym work);
         no_more = (let n = part_is.no_more in omega (arith, n, work));
         within = part_is.within;
         target = agrees d.work d.target;

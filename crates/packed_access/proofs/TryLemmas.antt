@@ -5,7 +5,7 @@ use Rattle.std.proofs.lemmas.List.{length-map, map-append, take_all}
 use Rattle.std.specs.Option.{unwrap_or}
 use Rattle.std.proofs.lemmas.Bool.{both_ways}
 use Rattle.target_machine.specs.Lists.{after}
-use Rattle.target_machine.specs.Plain.{Action, Commands, Makes, acted, forgives, given, is_fault}
+use Rattle.target_machine.specs.Plain.{Action, Commands, Makes, action_attempt, forgives, given_number, is_fault}
 use Rattle.target_machine.specs.State.{TargetState}
 use Rattle.target_machine.specs.declared.access.RegAccess.{RegAccess}
 use Rattle.target_machine.specs.declared.unit.Unit.{Unit as AccessUnit}
@@ -19,7 +19,7 @@ use Rattle.target_calls.specs.Journal.{Entry, actions_in, settles, target_after}
 use Rattle.target_calls.specs.declared.journal.Part.{Part as EntryPart}
 use Rattle.target_calls.specs.declared.journal.Part.TheVariants.{Ends, Leads, Skips}
 use Rattle.access_regs.specs.Entries.{NoneFault}
-use Rattle.access_regs.specs.Journal.{Step, is_early, issued, is_last, making, numbered}
+use Rattle.access_regs.specs.Journal.{Step, is_early, issued_entries, is_last, making, numbered_entries}
 use Rattle.access_regs.specs.Kept.{Kept}
 use Rattle.access_regs.proofs.Seams.{after_split}
 use Rattle.access_regs.proofs.Select.{making_append}
@@ -47,13 +47,13 @@ use Rattle.flight_laws.specs.Forgiving.{after_fault}
 -- ---- entries that are issued where nothing lies in the flight
 
 -- those that come next, as what is kept of them
-pub entries_more : (p : Planner) (log : LogState) (ys zs : List Entry) (m0 m : BenchState) → IsIssuing p log [] (ys ++ zs) m0 m → AreKeptOf (take (length (log.entries ++ map kept_of ys)) (issued p (target_of m0.probe) log.calls)) (log.entries ++ map kept_of ys)
+pub entries_more : (p : Planner) (log : LogState) (ys zs : List Entry) (m0 m : BenchState) → IsIssuing p log [] (ys ++ zs) m0 m → AreKeptOf (take (length (log.entries ++ map kept_of ys)) (issued_entries p (target_of m0.probe) log.calls)) (log.entries ++ map kept_of ys)
 entries_more p log ys zs m0 m h =
     let s = at_rest p log (ys ++ zs) m0 m h in
     let at : length s.made ≡ length log.entries = s.confirmed_is ∙ at_rest_count p log (ys ++ zs) m0 m h in
-    let front : take (length log.entries) (issued p (target_of m0.probe) log.calls) ≡ s.made = (λ j. take (sym at j) (s.on.are j)) ∙ take-append_seam s.made (ys ++ zs) in
+    let front : take (length log.entries) (issued_entries p (target_of m0.probe) log.calls) ≡ s.made = (λ j. take (sym at j) (s.on.are j)) ∙ take-append_seam s.made (ys ++ zs) in
     let count : length (log.entries ++ map kept_of ys) ≡ length s.made + length ys = (let a = length-append log.entries (map kept_of ys) in let b : length (map kept_of ys) ≡ length ys = length-map ys kept_of in omega (arith, a, b, at)) in
-    let all : take (length (log.entries ++ map kept_of ys)) (issued p (target_of m0.probe) log.calls) ≡ s.made ++ ys =
+    let all : take (length (log.entries ++ map kept_of ys)) (issued_entries p (target_of m0.probe) log.calls) ≡ s.made ++ ys =
     (λ j. take (count j) (s.on.are j)) ∙ take-append-add s.made (ys ++ zs) (length ys) ∙ ap (λ (l : List Entry). s.made ++ l) (take-append_seam ys zs) in
     (λ j. (h.entries_are ∙ ap (map kept_of) front) j ++ map kept_of ys) ∙ sym (map-append kept_of s.made ys) ∙ ap (map kept_of) (sym all)
 
@@ -142,13 +142,13 @@ module _ (p : Planner) (forgive : Bool) (log : LogState) (asked : AccessUnit) (k
   split = split_steps forgive asked k t made leads last ends h.left rest more h.actions h.steps h.good n
 
   abbrev pub flying : List Entry
-  flying = numbered units forgive (steps_of_unit asked xs)
+  flying = numbered_entries units forgive (steps_of_unit asked xs)
 
   abbrev pub later : List Entry
-  later = numbered units forgive split.tail
+  later = numbered_entries units forgive split.tail
 
   pub issuing : IsIssuing p log [] (flying ++ later) m0 m
-  issuing = subst (λ (l : List Entry). IsIssuing p log [] l m0 m) (ap (numbered units forgive) split.is ∙ numbered_append units forgive (steps_of_unit asked xs) split.tail) h.issuing
+  issuing = subst (λ (l : List Entry). IsIssuing p log [] l m0 m) (ap (numbered_entries units forgive) split.is ∙ numbered_append units forgive (steps_of_unit asked xs) split.tail) h.issuing
 
   flight : actions_in flying ≡ making xs
   flight = unit_actions_in forgive units asked xs
@@ -180,14 +180,14 @@ module _ (p : Planner) (forgive : Bool) (log : LogState) (asked : AccessUnit) (k
     none_all : NoneFault (target_of m.probe) xs
     none_all = none_clear (target_of m.probe) xs (subst (AreClear (target_of m.probe)) (take_all c.part.confirmed xs (let f = confirmed_all in omega (arith, f))) c.flies.does.made.clear)
 
-    fine : is_fault (acted (after t (making (made ++ leads))) (Makes last)).outcome ≡ false
-    fine = ap (λ (u : TargetState). is_fault (acted u (Makes last)).outcome) (sym at_last) ∙ none_last (target_of m.probe) leads last none_all
+    fine : is_fault (action_attempt (after t (making (made ++ leads))) (Makes last)).outcome ≡ false
+    fine = ap (λ (u : TargetState). is_fault (action_attempt u (Makes last)).outcome) (sym at_last) ∙ none_last (target_of m.probe) leads last none_all
 
     sent : IsSending p log.calls (log.confirmed + length flying) log.came [] later [] (take log.known log.results) m0 o
     sent = whole_sends p log.calls log.confirmed log.came flying later xs (take log.known log.results) m0 m o c.part sending c.flies c.good
 
     grown : work_of o.probe ≡ work_of m.probe + c.part.performed
-    grown = work_is (issued p (target_of m0.probe) log.calls) sending.made flying later xs None m0 m o c.part sending.on c.flies.does
+    grown = work_is (issued_entries p (target_of m0.probe) log.calls) sending.made flying later xs None m0 m o c.part sending.on c.flies.does
 
     target_now : target_of o.probe ≡ after t (making (made ++ xs))
     target_now =
@@ -207,7 +207,7 @@ module _ (p : Planner) (forgive : Bool) (log : LogState) (asked : AccessUnit) (k
 
     -- what the last access gave
     front_entries : List Entry
-    front_entries = numbered units forgive (steps_of_unit asked leads)
+    front_entries = numbered_entries units forgive (steps_of_unit asked leads)
 
     abbrev last_part_is : EntryPart
     last_part_is = if is_last asked last then Ends else Leads
@@ -215,35 +215,35 @@ module _ (p : Planner) (forgive : Bool) (log : LogState) (asked : AccessUnit) (k
     abbrev last_entry : Entry
     last_entry = record { unit = if settles last_part_is then units else units + 1; part = last_part_is; forgiving = forgive && not (settles last_part_is); action = Makes last }
 
-    front_flying : flying ≡ numbered units forgive (steps_of_unit asked leads) ++ last_entry ∷ []
-    front_flying = ap (numbered units forgive) (steps_both asked leads (last ∷ [])) ∙ numbered_append units forgive (steps_of_unit asked leads) (steps_of_unit asked (last ∷ []))
+    front_flying : flying ≡ numbered_entries units forgive (steps_of_unit asked leads) ++ last_entry ∷ []
+    front_flying = ap (numbered_entries units forgive) (steps_both asked leads (last ∷ [])) ∙ numbered_append units forgive (steps_of_unit asked leads) (steps_of_unit asked (last ∷ []))
 
-    seam : issued p (target_of m0.probe) log.calls ≡ (sending.made ++ numbered units forgive (steps_of_unit asked leads)) ++ last_entry ∷ later
+    seam : issued_entries p (target_of m0.probe) log.calls ≡ (sending.made ++ numbered_entries units forgive (steps_of_unit asked leads)) ++ last_entry ∷ later
     seam =
         sending.on.are ∙ ap (λ (l : List Entry). sending.made ++ (l ++ later)) front_flying
-        ∙ ap (λ (l : List Entry). sending.made ++ l) (append_assoc (numbered units forgive (steps_of_unit asked leads)) (last_entry ∷ []) later)
-        ∙ sym (append_assoc sending.made (numbered units forgive (steps_of_unit asked leads)) (last_entry ∷ later))
+        ∙ ap (λ (l : List Entry). sending.made ++ l) (append_assoc (numbered_entries units forgive (steps_of_unit asked leads)) (last_entry ∷ []) later)
+        ∙ sym (append_assoc sending.made (numbered_entries units forgive (steps_of_unit asked leads)) (last_entry ∷ later))
 
-    front_count : length (numbered units forgive (steps_of_unit asked leads)) ≡ length leads
-    front_count = flight_length (numbered units forgive (steps_of_unit asked leads)) leads (unit_actions_in forgive units asked leads)
+    front_count : length (numbered_entries units forgive (steps_of_unit asked leads)) ≡ length leads
+    front_count = flight_length (numbered_entries units forgive (steps_of_unit asked leads)) leads (unit_actions_in forgive units asked leads)
 
-    target_there : target_after (target_of m0.probe) (sending.made ++ numbered units forgive (steps_of_unit asked leads)) ≡ after t (making (made ++ leads))
+    target_there : target_after (target_of m0.probe) (sending.made ++ numbered_entries units forgive (steps_of_unit asked leads)) ≡ after t (making (made ++ leads))
     target_there =
-        after_split (target_of m0.probe) sending.made (numbered units forgive (steps_of_unit asked leads))
+        after_split (target_of m0.probe) sending.made (numbered_entries units forgive (steps_of_unit asked leads))
         ∙ (λ j. after (sym sending.on.target j) (unit_actions_in forgive units asked leads j)) ∙ at_last
 
-    pub value_came : unwrap_or (slot_at values (length leads)) 0 ≡ given (acted (after t (making (made ++ leads))) (Makes last)).outcome
+    pub value_came : unwrap_or (slot_at values (length leads)) 0 ≡ given_number (action_attempt (after t (making (made ++ leads))) (Makes last)).outcome
     value_came =
-        slot_gives (issued p (target_of m0.probe) log.calls) sending.made flying later xs m0 m o c.part values (sending.made ++ numbered units forgive (steps_of_unit asked leads)) last_entry later (length leads)
-        sending.on c.flies c.good c.values_are seam (length-append sending.made (numbered units forgive (steps_of_unit asked leads)) ∙ ap (λ (k : ℕ). length sending.made + k) front_count)
+        slot_gives (issued_entries p (target_of m0.probe) log.calls) sending.made flying later xs m0 m o c.part values (sending.made ++ numbered_entries units forgive (steps_of_unit asked leads)) last_entry later (length leads)
+        sending.on c.flies c.good c.values_are seam (length-append sending.made (numbered_entries units forgive (steps_of_unit asked leads)) ∙ ap (λ (k : ℕ). length sending.made + k) front_count)
         (let l = count in let a = length-append leads (last ∷ []) in omega (arith, l, a))
-        ∙ ap (λ (u : TargetState). given (acted u (Makes last)).outcome) target_there
+        ∙ ap (λ (u : TargetState). given_number (action_attempt u (Makes last)).outcome) target_there
 
   -- ---- its last access faulted
 
   module _ (o : BenchState) (part : Part) (flies : Flies xs part m o) where
     fault_grown : work_of o.probe ≡ work_of m.probe + part.performed
-    fault_grown = work_is (issued p (target_of m0.probe) log.calls) sending.made flying later xs None m0 m o part sending.on flies.does
+    fault_grown = work_is (issued_entries p (target_of m0.probe) log.calls) sending.made flying later xs None m0 m o part sending.on flies.does
 
     pub work_few : work_of o.probe ≤ work_of m.probe + length xs
     work_few = (let g = fault_grown in let most = flies.does.made.most in omega (arith, g, most))
@@ -257,20 +257,20 @@ module _ (p : Planner) (forgive : Bool) (log : LogState) (asked : AccessUnit) (k
     short = flies.does.made.short (λ good. absurd (let x : ◌≡◌ {A = Response} Good Fault = sym good ∙ answer in cc))
 
     -- none but the last faults, and one does
-    bad : is_fault (acted (after t (making (made ++ leads))) (Makes last)).outcome ≡ true
-    bad = by_fault (is_fault (acted (after t (making (made ++ leads))) (Makes last)).outcome) refl
+    bad : is_fault (action_attempt (after t (making (made ++ leads))) (Makes last)).outcome ≡ true
+    bad = by_fault (is_fault (action_attempt (after t (making (made ++ leads))) (Makes last)).outcome) refl
       where
-        by_fault : (b : Bool) → is_fault (acted (after t (making (made ++ leads))) (Makes last)).outcome ≡ b → is_fault (acted (after t (making (made ++ leads))) (Makes last)).outcome ≡ true
+        by_fault : (b : Bool) → is_fault (action_attempt (after t (making (made ++ leads))) (Makes last)).outcome ≡ b → is_fault (action_attempt (after t (making (made ++ leads))) (Makes last)).outcome ≡ true
         by_fault true e = e
         by_fault false e =
-            let journal : List Entry = issued p (target_of m0.probe) log.calls in
+            let journal : List Entry = issued_entries p (target_of m0.probe) log.calls in
             let x : Cutting part.confirmed flying = cut journal sending.made flying later xs None m0 m o part sending.on flies.does answer short in
-            let all : NoneFault (target_of m.probe) xs = none_with (target_of m.probe) leads last none_there (ap (λ (u : TargetState). is_fault (acted u (Makes last)).outcome) at_last ∙ e) in
-            let good : is_fault (acted (after (target_of m.probe) (actions_in x.front)) x.entry.action).outcome ≡ false = none_at (target_of m.probe) x.front x.entry x.back xs all (ap actions_in (sym x.is) ∙ flight) in
+            let all : NoneFault (target_of m.probe) xs = none_with (target_of m.probe) leads last none_there (ap (λ (u : TargetState). is_fault (action_attempt u (Makes last)).outcome) at_last ∙ e) in
+            let good : is_fault (action_attempt (after (target_of m.probe) (actions_in x.front)) x.entry.action).outcome ≡ false = none_at (target_of m.probe) x.front x.entry x.back xs all (ap actions_in (sym x.is) ∙ flight) in
             let there : after (target_of m0.probe) (actions_in (sending.made ++ x.front)) ≡ after (target_of m.probe) (actions_in x.front) =
             after_split (target_of m0.probe) sending.made x.front ∙ ap (λ (u : TargetState). after u (actions_in x.front)) (sym sending.on.target) in
-            let faulted : is_fault (acted (after (target_of m0.probe) (actions_in (sending.made ++ x.front))) x.entry.action).outcome ≡ true = faults journal sending.made flying later xs None m0 m o part sending.on flies.does answer short in
-            absurd (both_ways (is_fault (acted (after (target_of m.probe) (actions_in x.front)) x.entry.action).outcome) good (ap (λ (u : TargetState). is_fault (acted u x.entry.action).outcome) (sym there) ∙ faulted))
+            let faulted : is_fault (action_attempt (after (target_of m0.probe) (actions_in (sending.made ++ x.front))) x.entry.action).outcome ≡ true = faults journal sending.made flying later xs None m0 m o part sending.on flies.does answer short in
+            absurd (both_ways (is_fault (action_attempt (after (target_of m.probe) (actions_in x.front)) x.entry.action).outcome) good (ap (λ (u : TargetState). is_fault (action_attempt u x.entry.action).outcome) (sym there) ∙ faulted))
 
     abbrev pub abort : Entry
     abort = record { unit = units + 1; part = Skips (is_early asked (making (made ++ xs))); forgiving = true; action = Commands forgives }
@@ -279,10 +279,10 @@ module _ (p : Planner) (forgive : Bool) (log : LogState) (asked : AccessUnit) (k
     tail_is = split.bad bad ∙ ap (λ (b : Bool). after_fault b asked (made ++ xs)) forgives_it
 
     pub later_is : later ≡ abort ∷ []
-    later_is = (λ j. numbered units (forgives_it j) (tail_is j))
+    later_is = (λ j. numbered_entries units (forgives_it j) (tail_is j))
 
     pub forgiving_all : AreForgiving flying
-    forgiving_all = subst (λ (b : Bool). AreForgiving (numbered units b (steps_of_unit asked xs))) (sym forgives_it) (unit_forgiving units asked xs)
+    forgiving_all = subst (λ (b : Bool). AreForgiving (numbered_entries units b (steps_of_unit asked xs))) (sym forgives_it) (unit_forgiving units asked xs)
 
     pub flying_abort : IsSending p log.calls log.confirmed log.came flying (abort ∷ []) xs (take log.known log.results) m0 m
     flying_abort = subst (λ (l : List Entry). IsSending p log.calls log.confirmed log.came flying l xs (take log.known log.results) m0 m) later_is sending

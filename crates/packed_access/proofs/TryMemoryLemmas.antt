@@ -5,7 +5,7 @@ use Rattle.std.specs.List.{list_any}
 use Rattle.std.proofs.lemmas.List.Folds.{list_any-append}
 use Rattle.target_machine.specs.Attempt.{attempt}
 use Rattle.target_machine.specs.Lists.{after}
-use Rattle.target_machine.specs.Plain.{Action, Makes, acted, ap_access_of, csw_actions, csw_for, drw_of, given, in_order, memory_actions, select_of, transfer_actions}
+use Rattle.target_machine.specs.Plain.{Action, Makes, action_attempt, ap_access_of, csw_actions, csw_for, drw_of, given_number, in_order, memory_actions, select_of, transfer_actions}
 use Rattle.target_machine.specs.Registers.{csw_register, tar_high_register, tar_register}
 use Rattle.target_machine.specs.State.{TargetState}
 use Rattle.target_machine.specs.declared.access.RegAccess.{RegAccess}
@@ -36,7 +36,7 @@ tried_good p forgive x log asked k t made rest m0 h = fact_of x (λ m. IsTrying 
 
 none_rest : (u : TargetState) (xs ys : List RegAccess) → NoneFault u (xs ++ ys) → NoneFault (after u (making xs)) ys
 none_rest u [] ys h = h
-none_rest u (x ∷ xs) ys h = none_rest (acted u (Makes x)).next xs ys h.1
+none_rest u (x ∷ xs) ys h = none_rest (action_attempt u (Makes x)).next xs ys h.1
 
 -- ---- whether the access that a unit is for is among these
 
@@ -60,7 +60,7 @@ memory_leads large size address csw =
 
 -- CSW as it is read
 abbrev pub csw_read : TargetState → ℕ → ℕ
-csw_read u n = given (in_order u (csw_actions n)).outcome
+csw_read u n = given_number (in_order u (csw_actions n)).outcome
 
 module _ (p : Planner) (forgive : Bool) (x : Option BenchState) (log : LogState) (k : Kept) (t : TargetState) (made : List RegAccess) (rest : List Action) (m0 : BenchState) (large : Bool) (size : ℕ) (read : Bool) (n address value : ℕ)
     (h : LogHasTried p forgive x log (unit.Memory size read n address value) k t made rest m0) (lt : n < 256) (quiet : list_any (is_end (unit.Memory size read n address value)) (making made) ≡ false) (is : rest ≡ memory_actions (after t (making made)) large size read n address value) where
@@ -86,9 +86,9 @@ module _ (p : Planner) (forgive : Bool) (x : Option BenchState) (log : LogState)
     good = none_select;
   }
 
-  pub csw_given : given (acted (after t (making (made ++ select_of n 0 ∷ []))) (Makes (ap_access_of true 0 0))).outcome ≡ csw_read u n
+  pub csw_given : given_number (action_attempt (after t (making (made ++ select_of n 0 ∷ []))) (Makes (ap_access_of true 0 0))).outcome ≡ csw_read u n
   csw_given =
-      ap (λ (v : TargetState). given (acted v (Makes (ap_access_of true 0 0))).outcome) (after_making t made (select_of n 0 ∷ []))
+      ap (λ (v : TargetState). given_number (action_attempt v (Makes (ap_access_of true 0 0))).outcome) (after_making t made (select_of n 0 ∷ []))
       ∙ sym (plan_gives u (select_of n 0 ∷ []) (ap_access_of true csw_register 0) none_select)
 
   -- ---- the transfer

@@ -4,7 +4,7 @@ use Rattle.std.proofs.lemmas.List.{length-map, map-append}
 use Rattle.std.proofs.lemmas.List.Sums.{sum_by-cons}
 use Rattle.std.proofs.lemmas.Bool.{and_from}
 use Rattle.target_machine.specs.Lists.{PassTo, after}
-use Rattle.target_machine.specs.Plain.{Action, Makes, acted, given, is_fault, result_of}
+use Rattle.target_machine.specs.Plain.{Action, Makes, action_attempt, given_number, is_fault, result_of}
 use Rattle.target_machine.specs.State.{TargetState}
 use Rattle.target_machine.specs.declared.access.RegAccess.{RegAccess}
 use Rattle.target_machine.specs.declared.unit.Call.TheVariants.{Access}
@@ -15,7 +15,6 @@ use Rattle.target_calls.specs.Asks.{unit_ask}
 use Rattle.target_machine.specs.Counts.{one_if}
 use Rattle.target_machine.proofs.ActionLists.{pass_append}
 use Rattle.target_calls.specs.Journal.{Entry, settles, target_after}
-use Rattle.target_calls.specs.NeedPoints.{asked}
 use Rattle.target_calls.specs.World.{is_small_end, results, skips, small_now, start_world}
 use Rattle.target_calls.specs.declared.calls.Ask.{Ask}
 use Rattle.target_calls.specs.declared.journal.Part.{Part}
@@ -24,9 +23,9 @@ use Rattle.target_calls.proofs.OneCall.{one_small}
 use Rattle.access_regs.specs.Alone.{alone_after, large_of_all}
 use Rattle.access_regs.specs.Costs.{is_leading_read, leading_reads}
 use Rattle.access_regs.specs.Entries.{NoneFault, kept_by, target_by}
-use Rattle.access_regs.specs.Journal.{Issue, Step, actions_of, is_last, issued, making, numbered, steps_of}
+use Rattle.access_regs.specs.Journal.{Issue, Step, actions_of, is_last, issued_entries, making, numbered_entries, steps_of}
 use Rattle.access_regs.specs.Kept.{Kept}
-use Rattle.access_regs.specs.Plan.{needs_cfg, settle, settled}
+use Rattle.access_regs.specs.Plan.{needs_cfg, settle, kept_after_settling}
 use Rattle.access_regs.specs.Skips.{own_steps}
 use Rattle.access_regs.proofs.EntryLemmas.{journal_grows}
 use Rattle.access_regs.proofs.Seams.{after_split}
@@ -53,7 +52,7 @@ unit_steps_in asked (x ∷ xs) = ap (λ l. Makes x ∷ l) (unit_steps_in asked x
 
 none_first : (u : TargetState) (xs : List RegAccess) (a : RegAccess) → NoneFault u (xs ++ a ∷ []) → NoneFault u xs
 none_first u [] a h = tt
-none_first u (x ∷ xs) a h = (h.0, none_first (acted u (Makes x)).next xs a h.1)
+none_first u (x ∷ xs) a h = (h.0, none_first (action_attempt u (Makes x)).next xs a h.1)
 
 -- settling reads nothing
 pub no_reads : (xs : List RegAccess) (steps : List Step) → leading_reads (steps_of Settles xs ++ steps) ≡ leading_reads steps
@@ -99,7 +98,7 @@ module _ (p : Planner) (forgive : Bool) (t : TargetState) (calls : List Ask) (un
 
   -- ---- it was skipped
 
-  module _ (made : List RegAccess) (last : RegAccess) (forgives : forgive ≡ true) (are : steps ≡ steps_of_unit unit_ (made ++ last ∷ []) ++ abort_after unit_ (made ++ last ∷ []) ∷ []) (good : NoneFault u made) (bad : is_fault (acted (after u (making made)) (Makes last)).outcome ≡ true) where
+  module _ (made : List RegAccess) (last : RegAccess) (forgives : forgive ≡ true) (are : steps ≡ steps_of_unit unit_ (made ++ last ∷ []) ++ abort_after unit_ (made ++ last ∷ []) ∷ []) (good : NoneFault u made) (bad : is_fault (action_attempt (after u (making made)) (Makes last)).outcome ≡ true) where
     forgives_it : (forgive && may_forgive (Access unit_)) ≡ true
     forgives_it = and_from forgive (may_forgive (Access unit_)) forgives may
 
@@ -132,40 +131,40 @@ module _ (p : Planner) (forgive : Bool) (t : TargetState) (calls : List Ask) (un
     last_entry = record { unit = if_units unit_ last (length calls); part = if_last unit_ last; forgiving = forgive && not (settles (if_last unit_ last)); action = Makes last }
 
     abbrev front : List Entry
-    front = issued p t calls ++ (strict_entries (length calls) Settles (settle k) ++ numbered (length calls) forgive (steps_of_unit unit_ made))
+    front = issued_entries p t calls ++ (strict_entries (length calls) Settles (settle k) ++ numbered_entries (length calls) forgive (steps_of_unit unit_ made))
 
-    journal : issued p t (calls ++ the_ask ∷ []) ≡ front ++ last_entry ∷ []
+    journal : issued_entries p t (calls ++ the_ask ∷ []) ≡ front ++ last_entry ∷ []
     journal =
-        (journal_grows p t calls the_ask refl).0 ∙ ap (λ (l : List Entry). issued p t calls ++ l)
-        (entries_are p forgive t calls k unit_ alone may ∙ ap (λ (l : List Step). strict_entries (length calls) Settles (settle k) ++ numbered (length calls) forgive l) (are ∙ steps_both unit_ made (last ∷ []))
+        (journal_grows p t calls the_ask refl).0 ∙ ap (λ (l : List Entry). issued_entries p t calls ++ l)
+        (entries_are p forgive t calls k unit_ alone may ∙ ap (λ (l : List Step). strict_entries (length calls) Settles (settle k) ++ numbered_entries (length calls) forgive l) (are ∙ steps_both unit_ made (last ∷ []))
         ∙ ap (λ (l : List Entry). strict_entries (length calls) Settles (settle k) ++ l) (numbered_append (length calls) forgive (steps_of_unit unit_ made) (steps_of_unit unit_ (last ∷ [])))
-        ∙ sym (append_assoc (strict_entries (length calls) Settles (settle k)) (numbered (length calls) forgive (steps_of_unit unit_ made)) (last_entry ∷ [])))
-        ∙ sym (append_assoc (issued p t calls) (strict_entries (length calls) Settles (settle k) ++ numbered (length calls) forgive (steps_of_unit unit_ made)) (last_entry ∷ []))
+        ∙ sym (append_assoc (strict_entries (length calls) Settles (settle k)) (numbered_entries (length calls) forgive (steps_of_unit unit_ made)) (last_entry ∷ [])))
+        ∙ sym (append_assoc (issued_entries p t calls) (strict_entries (length calls) Settles (settle k) ++ numbered_entries (length calls) forgive (steps_of_unit unit_ made)) (last_entry ∷ []))
 
-    place : length front + 1 ≡ length (issued p t calls) + length (own_steps p t calls the_ask)
+    place : length front + 1 ≡ length (issued_entries p t calls) + length (own_steps p t calls the_ask)
     place =
         let g = ap length ((journal_grows p t calls the_ask refl).0) in
         let j = ap length journal in
-        let a = length-append (issued p t calls) (numbered (length calls) (forgive && may_forgive (Access unit_)) (own_steps p t calls the_ask)) in
-        let n : length (numbered (length calls) (forgive && may_forgive (Access unit_)) (own_steps p t calls the_ask)) ≡ length (own_steps p t calls the_ask) = length-map (own_steps p t calls the_ask) _ in
+        let a = length-append (issued_entries p t calls) (numbered_entries (length calls) (forgive && may_forgive (Access unit_)) (own_steps p t calls the_ask)) in
+        let n : length (numbered_entries (length calls) (forgive && may_forgive (Access unit_)) (own_steps p t calls the_ask)) ≡ length (own_steps p t calls the_ask) = length-map (own_steps p t calls the_ask) _ in
         let c = length-append front (last_entry ∷ []) in
         omega (arith, g, j, a, n, c)
 
     target_there : target_after t front ≡ after u (making made)
     target_there =
-        after_split t (issued p t calls) (strict_entries (length calls) Settles (settle k) ++ numbered (length calls) forgive (steps_of_unit unit_ made))
-        ∙ after_split (target_by p t calls) (strict_entries (length calls) Settles (settle k)) (numbered (length calls) forgive (steps_of_unit unit_ made))
+        after_split t (issued_entries p t calls) (strict_entries (length calls) Settles (settle k) ++ numbered_entries (length calls) forgive (steps_of_unit unit_ made))
+        ∙ after_split (target_by p t calls) (strict_entries (length calls) Settles (settle k)) (numbered_entries (length calls) forgive (steps_of_unit unit_ made))
         ∙ (λ j. after (after (target_by p t calls) (settles_in (length calls) (settle k) j)) (unit_actions_in forgive (length calls) unit_ made j))
 
-    pub pass_results : small_now (start_world t None) calls the_ask ≡ false → results (start_world t None) (calls ++ the_ask ∷ []) ≡ results (start_world t None) calls ++ result_of (Access unit_) (given (acted (after u (making made)) (Makes last)).outcome) ∷ []
+    pub pass_results : small_now (start_world t None) calls the_ask ≡ false → results (start_world t None) (calls ++ the_ask ∷ []) ≡ results (start_world t None) calls ++ result_of (Access unit_) (given_number (action_attempt (after u (making made)) (Makes last)).outcome) ∷ []
     pass_results large =
         pass_given p t calls the_ask front last_entry [] (after u (making (made ++ last ∷ []))) b.fresh b.askable b.whole whole_pass large journal place
-        ∙ ap (λ (v : TargetState). results (start_world t None) calls ++ result_of (Access unit_) (given (acted v (Makes last)).outcome) ∷ []) target_there
+        ∙ ap (λ (v : TargetState). results (start_world t None) calls ++ result_of (Access unit_) (given_number (action_attempt v (Makes last)).outcome) ∷ []) target_there
 
 -- ---- whether its access port has no large addresses
 
 -- bit 1 of CFG says it, where that was read
-pub small_shown : (p : Planner) (forgive : Bool) (t : TargetState) (calls : List Ask) (unit_ : AccessUnit) (b : IsBefore t calls (unit_ask unit_ forgive)) (large : Bool) → needs_cfg (settled (kept_by p t calls)) unit_ ≡ true → CfgShows unit_ (target_settled p t calls (kept_by p t calls)) large →
+pub small_shown : (p : Planner) (forgive : Bool) (t : TargetState) (calls : List Ask) (unit_ : AccessUnit) (b : IsBefore t calls (unit_ask unit_ forgive)) (large : Bool) → needs_cfg (kept_after_settling (kept_by p t calls)) unit_ ≡ true → CfgShows unit_ (target_settled p t calls (kept_by p t calls)) large →
     small_now (start_world t None) calls (unit_ask unit_ forgive) ≡ not large
 small_shown p forgive t calls (unit.Memory size read n address value) b large wide shows =
     small_alone p t calls None size read n address value forgive b.fresh (askable_front calls (unit_ask (unit.Memory size read n address value) forgive) b.askable) b.whole (askable_last calls (unit_ask (unit.Memory size read n address value) forgive) b.askable).range.0 wide shows.0
@@ -174,13 +173,13 @@ small_shown p forgive t calls (unit.Ap read n addr value) b large wide shows = a
 small_shown p forgive t calls (unit.Dp read addr value) b large wide shows = absurd (let x : ◌≡◌ {A = Bool} false true = wide in cc)
 small_shown p forgive t calls (unit.Poll mask value turns) b large wide shows = absurd (let x : ◌≡◌ {A = Bool} false true = wide in cc)
 
-pub small_unread : (p : Planner) (forgive : Bool) (t : TargetState) (calls : List Ask) (unit_ : AccessUnit) (b : IsBefore t calls (unit_ask unit_ forgive)) → needs_cfg (settled (kept_by p t calls)) unit_ ≡ false → small_now (start_world t None) calls (unit_ask unit_ forgive) ≡ false
+pub small_unread : (p : Planner) (forgive : Bool) (t : TargetState) (calls : List Ask) (unit_ : AccessUnit) (b : IsBefore t calls (unit_ask unit_ forgive)) → needs_cfg (kept_after_settling (kept_by p t calls)) unit_ ≡ false → small_now (start_world t None) calls (unit_ask unit_ forgive) ≡ false
 small_unread p forgive t calls unit_ b none =
     let c : IsCalm p t calls = is_calm p t calls (unit_ask unit_ forgive) b in
     one_small (start_world t None) calls (unit_ask unit_ forgive) b.whole
     ∙ ap is_small_end (alone_is t calls (unit_ask unit_ forgive) b.whole)
     ∙ done_small (alone_after t [] calls) (large_of_all t [] calls) forgive (Access unit_)
-    (small_none (alone_after t [] calls) (large_of_all t [] calls) (settled (kept_by p t calls)) unit_ (askable_last calls (unit_ask unit_ forgive) b.askable).range c.follows.larges none)
+    (small_none (alone_after t [] calls) (large_of_all t [] calls) (kept_after_settling (kept_by p t calls)) unit_ (askable_last calls (unit_ask unit_ forgive) b.askable).range c.follows.larges none)
 
 -- its address is too large for its access port
 pub small_outcome : (forgive : Bool) (t : TargetState) (calls : List Ask) (unit_ : AccessUnit) (b : IsBefore t calls (unit_ask unit_ forgive)) → small_now (start_world t None) calls (unit_ask unit_ forgive) ≡ true →

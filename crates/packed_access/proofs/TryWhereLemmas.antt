@@ -3,7 +3,7 @@ use Rattle.std.proofs.Common.{◌≡◌, ◌∙◌, ℕ, ◌+◌, ◌-◌, ◌^�
 use Rattle.std.proofs.lemmas.List.{length-map, map-append}
 use Rattle.std.specs.Option.{unwrap_or}
 use Rattle.target_machine.specs.Lists.{after}
-use Rattle.target_machine.specs.Plain.{Action, Commands, Makes, acted, forgives, given}
+use Rattle.target_machine.specs.Plain.{Action, Commands, Makes, action_attempt, forgives, given_number}
 use Rattle.target_machine.specs.State.{TargetState}
 use Rattle.target_machine.specs.declared.access.RegAccess.{RegAccess}
 use Rattle.target_machine.specs.declared.unit.Unit.{Unit as AccessUnit}
@@ -13,7 +13,7 @@ use Rattle.probe_core.specs.Probe.{work_of}
 use Rattle.target_calls.specs.Journal.{Entry}
 use Rattle.target_calls.specs.declared.journal.Part.{Part}
 use Rattle.target_calls.specs.declared.journal.Part.TheVariants.{Leads, Skips}
-use Rattle.access_regs.specs.Journal.{is_early, making, numbered, steps_of}
+use Rattle.access_regs.specs.Journal.{is_early, making, numbered_entries, steps_of}
 use Rattle.access_regs.specs.Kept.{Kept}
 use Rattle.access_calls.specs.Issued.{kept_of}
 use Rattle.access_calls.specs.Standing.{WhereObservable, flight_accesses}
@@ -42,7 +42,7 @@ use Rattle.flight_laws.specs.Flights.{AreStrict}
 
 -- the entries of a flight
 abbrev pub flight_entries : Bool → LogState → AccessUnit → List RegAccess → List Entry
-flight_entries forgive log asked accesses = numbered (length log.calls - 1) forgive (steps_of_unit asked accesses)
+flight_entries forgive log asked accesses = numbered_entries (length log.calls - 1) forgive (steps_of_unit asked accesses)
 
 -- the write of ABORT after these accesses
 abbrev pub abort_entry : LogState → AccessUnit → List RegAccess → Entry
@@ -88,7 +88,7 @@ module _ (p : Planner) (forgive : Bool) (log : LogState) (asked : AccessUnit) (k
   xs = leads ++ last ∷ []
 
   came_where : (x y : Option BenchState) (values : List (Option ℕ)) → WhereObservable x (λ m. IsTrying p forgive log asked k t made rest m0 m) → StepsTo (λ m o. CanFly m → HasCome xs values m o) x y → log.came ≡ log.whole →
-      WhereObservable y (λ o. IsTrying p forgive (all_confirmed (with_flight log (flight_entries forgive log asked xs))) asked k t (made ++ xs) more m0 o) × (unwrap_or (slot_at values (length leads)) 0 ≡ given (acted (after t (making (made ++ leads))) (Makes last)).outcome)
+      WhereObservable y (λ o. IsTrying p forgive (all_confirmed (with_flight log (flight_entries forgive log asked xs))) asked k t (made ++ xs) more m0 o) × (unwrap_or (slot_at values (length leads)) 0 ≡ given_number (action_attempt (after t (making (made ++ leads))) (Makes last)).outcome)
   came_where None y values h c came = absurd h
   came_where (Some m) None values h c came = absurd c
   came_where (Some m) (Some o) values h c came =
@@ -121,7 +121,7 @@ module _ (p : Planner) (forgive : Bool) (log : LogState) (asked : AccessUnit) (k
       let count : log.confirmed + length (flight_entries forgive log asked xs) ≡ length (log.entries ++ map kept_of (flight_entries forgive log asked xs)) =
       (let a = length-append log.entries (map kept_of (flight_entries forgive log asked xs)) in let b : length (map kept_of (flight_entries forgive log asked xs)) ≡ length (flight_entries forgive log asked xs) = length-map (flight_entries forgive log asked xs) kept_of in let r = at_rest_count p log _ m0 m i in omega (arith, a, b, r)) in
       not_forgiven p forgive bench (Some o) sent got log (log.entries ++ map kept_of (flight_entries forgive log asked xs)) xs (flight_entries forgive log asked xs) _ m0 m o (sending p forgive log asked k t made leads last b rest more m0 m h n few bounded)
-      (entries_more p log (flight_entries forgive log asked xs) _ m0 m i) count held end z new (broke h.issuing.flies) (free_or (forgive ≡ false) (is_fault_end end ≡ false) _ fault (λ none. subst (λ (c : Bool). AreStrict (numbered (length log.calls - 1) c (steps_of_unit asked xs))) (sym none) (unit_strict (length log.calls - 1) asked xs))) either is
+      (entries_more p log (flight_entries forgive log asked xs) _ m0 m i) count held end z new (broke h.issuing.flies) (free_or (forgive ≡ false) (is_fault_end end ≡ false) _ fault (λ none. subst (λ (c : Bool). AreStrict (numbered_entries (length log.calls - 1) c (steps_of_unit asked xs))) (sym none) (unit_strict (length log.calls - 1) asked xs))) either is
 
   uncleared_where : (x y u : Option BenchState) (bench : BenchReported) (sent got : List ℕ) (end end' : FlightEnd) (z : Stop) (new : LogState) → forgive ≡ true → WhereObservable x (λ m. IsTrying p forgive log asked k t made rest m0 m) → StepsTo (λ m o. CanFly m → BrokeOff end xs m o) x y → is_fault_end end ≡ true →
       StepsTo (λ m o. CanFly m → CanClear o) x y → StepsTo (λ m o. CanClear m → work_of m.probe + 1 < 2 ^ 64 → ClearedOff end' m o) y u → LogIsStopped end' (with_abort log (flight_entries forgive log asked xs) (abort_entry log asked (made ++ xs))) new z →
@@ -158,7 +158,7 @@ module _ (p : Planner) (forgive : Bool) (x x' y : Option BenchState) (log log1 :
     (h : LogHasTried p forgive x log asked k t made rest m0) (n : AreNextAccesses asked t made leads last b rest more) (same : x' ≡ x) (are : accesses ≡ leads ++ last ∷ []) (few : length (leads ++ last ∷ []) ≤ 4) (bounded : length log.entries < 2 ^ 32)
     (log_is : log1 ≡ with_flight log (flight_entries forgive log asked (leads ++ last ∷ []))) where
   pub flight_went : (new : LogState) (values : List (Option ℕ)) (value : ℕ) → StepsTo (λ m o. CanFly m → HasCome accesses values m o) x' y → log.came ≡ log.whole → new ≡ all_confirmed log1 → value ≡ unwrap_or (slot_at values (length leads)) 0 →
-      LogHasTried p forgive y new asked k t (made ++ (leads ++ last ∷ [])) more m0 × (value ≡ given (acted (after t (making (made ++ leads))) (Makes last)).outcome)
+      LogHasTried p forgive y new asked k t (made ++ (leads ++ last ∷ [])) more m0 × (value ≡ given_number (action_attempt (after t (making (made ++ leads))) (Makes last)).outcome)
   flight_went new values value c came new_is value_is =
       let r = came_where p forgive log asked k t made leads last b rest more m0 n few bounded x y values h.so (steps_same (λ l m o. CanFly m → HasCome l values m o) x x' y (leads ++ last ∷ []) accesses same are c) came in
       (subst (λ (l : LogState). LogHasTried p forgive y l asked k t (made ++ (leads ++ last ∷ [])) more m0) (sym (new_is ∙ ap all_confirmed log_is)) (record { so = r.0 }), value_is ∙ r.1)

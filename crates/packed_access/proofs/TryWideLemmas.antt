@@ -3,7 +3,7 @@ use Rattle.std.proofs.Common.{◌≡◌, inl, inr, ◌∙◌, ℕ, ◌+◌, ◌/
 use Rattle.dap_base.specs.Bits.{has_bit}
 use Rattle.target_machine.specs.Attempt.{Attempt, attempt}
 use Rattle.target_machine.specs.Lists.{after}
-use Rattle.target_machine.specs.Plain.{Action, Makes, acted, after_cfg, ap_access_of, call_actions, cfg_actions, contains, given, has_large, in_order, is_fault, memory_actions, needs_cfg as wants_cfg, select_of}
+use Rattle.target_machine.specs.Plain.{Action, Makes, action_attempt, after_cfg, ap_access_of, call_actions, cfg_actions, contains, given_number, has_large, in_order, is_fault, memory_actions, needs_cfg as wants_cfg, select_of}
 use Rattle.target_machine.specs.Registers.{cfg_la}
 use Rattle.target_machine.specs.State.{TargetState}
 use Rattle.target_machine.specs.declared.access.Outcome.{Outcome}
@@ -18,7 +18,7 @@ use Rattle.target_machine.specs.Counts.{one_if}
 use Rattle.access_regs.specs.Costs.{leading_reads}
 use Rattle.access_regs.specs.Entries.{NoneFault}
 use Rattle.access_regs.specs.Journal.{alone_at, kept_alone, large_of, making}
-use Rattle.access_regs.specs.Kept.{Kept, forget, known, selected}
+use Rattle.access_regs.specs.Kept.{Kept, forget, known_at, kept_with_select}
 use Rattle.access_regs.specs.Plan.{learned_cfg, needs_cfg, select_value}
 use Rattle.access_regs.proofs.CostLemmas.{alone_reads, port_reads}
 use Rattle.access_regs.proofs.Forgiving.{contains_one}
@@ -35,10 +35,10 @@ use Rattle.access_regs.proofs.Wide.{and_not}
 tried_actions : (p : Planner) (forgive : Bool) (x : Option BenchState) (log : LogState) (asked : AccessUnit) (k : Kept) (t : TargetState) (made : List RegAccess) (rest : List Action) (m0 : BenchState) → LogHasTried p forgive x log asked k t made rest m0 → call_actions t (large_of k asked) (Access asked) ≡ making made ++ rest
 tried_actions p forgive x log asked k t made rest m0 h = fact_of x (λ m. IsTrying p forgive log asked k t made rest m0 m) _ (λ m i. i.actions) h.so
 
-forgiven_bad : (p : Planner) (forgive : Bool) (x : Option BenchState) (log : LogState) (asked : AccessUnit) (k : Kept) (t : TargetState) (made : List RegAccess) (last : RegAccess) (m0 : BenchState) → HasForgiven p forgive x log asked k t made last m0 → is_fault (acted (after t (making made)) (Makes last)).outcome ≡ true
+forgiven_bad : (p : Planner) (forgive : Bool) (x : Option BenchState) (log : LogState) (asked : AccessUnit) (k : Kept) (t : TargetState) (made : List RegAccess) (last : RegAccess) (m0 : BenchState) → HasForgiven p forgive x log asked k t made last m0 → is_fault (action_attempt (after t (making made)) (Makes last)).outcome ≡ true
 forgiven_bad p forgive x log asked k t made last m0 h = fact_of x (λ m. IsForgiven p forgive log asked k t made last m0 m) _ (λ m i. i.bad) h.so
 
-given_fault : (o : Outcome) → is_fault o ≡ true → given o ≡ 0
+given_fault : (o : Outcome) → is_fault o ≡ true → given_number o ≡ 0
 given_fault outcome.Fault e = refl
 given_fault (outcome.Value n) e = absurd (cc)
 given_fault outcome.Done e = absurd (cc)
@@ -53,7 +53,7 @@ module _ (p : Planner) (forgive : Bool) (x : Option BenchState) (log : LogState)
   clear = tried_clear p forgive x log mem k t [] rest m0 h
 
   abbrev large : Bool
-  large = (known k n).large
+  large = (known_at k n).large
 
   wants : wants_cfg (large_of k mem) n address ≡ needs_cfg k mem
   wants = ap (λ (c : Bool). nat_lt 0xFFFF_FFFF address && not c) (contains_one large n)
@@ -66,7 +66,7 @@ module _ (p : Planner) (forgive : Bool) (x : Option BenchState) (log : LogState)
 
   -- CFG is not read
   module _ (narrow : needs_cfg k mem ≡ false) where
-    pub narrow_rest : rest ≡ memory_actions t (known k n).large size read n address value
+    pub narrow_rest : rest ≡ memory_actions t (known_at k n).large size read n address value
     narrow_rest =
         sym (tried_actions p forgive x log mem k t [] rest m0 h)
         ∙ ap (λ (w : Bool). cond w (cfg_actions n ++ after_cfg t size read n address value) (memory_actions t (contains (large_of k mem) n) size read n address value)) (wants ∙ narrow)
@@ -76,7 +76,7 @@ module _ (p : Planner) (forgive : Bool) (x : Option BenchState) (log : LogState)
     small_narrow None = tt
     small_narrow (Some v) = inl narrow
 
-    pub narrow_done : (w : Option ℕ) (y : Option BenchState) (log2 : LogState) (noted : Kept) → noted ≡ selected k (select_value n 0) → CameTo p forgive w y log2 mem k t m0 → IsDoneBy p forgive false w 1 noted y log2 mem k t m0
+    pub narrow_done : (w : Option ℕ) (y : Option BenchState) (log2 : LogState) (noted : Kept) → noted ≡ kept_with_select k (select_value n 0) → CameTo p forgive w y log2 mem k t m0 → IsDoneBy p forgive false w 1 noted y log2 mem k t m0
     narrow_done w y log2 noted is came = record {
       came = came;
       small_is = small_narrow w;
@@ -100,18 +100,18 @@ module _ (p : Planner) (forgive : Bool) (x : Option BenchState) (log : LogState)
     pub cfg_next : AreNextAccesses mem t [] (select_of n 15 ∷ []) (ap_access_of true 4 0) false rest (after_cfg t size read n address value)
     cfg_next = record { may = refl; first = refl; are = wide_rest; parts = refl; early = refl; good = none_select }
 
-    not_large : (known k n).large ≡ false
+    not_large : (known_at k n).large ≡ false
     not_large = and_not (nat_lt 0xFFFF_FFFF address) large wide
 
     -- the read as the last of both
     order_is : in_order t (cfg_actions n) ≡ attempt (after t (making (select_of n 15 ∷ []))) (ap_access_of true 4 0)
     order_is = pass_last t (after t (making (select_of n 15 ∷ []))) (making (select_of n 15 ∷ [])) (Makes (ap_access_of true 4 0)) (pass_makes t (select_of n 15 ∷ []) none_select)
 
-    pub cfg_skipped : (y : Option BenchState) (log2 : LogState) (noted : Kept) (w : Option ℕ) → noted ≡ selected k (select_value n 15) → w ≡ None → WentTo p forgive w y log2 mem k t [] (select_of n 15 ∷ []) (ap_access_of true 4 0) (after_cfg t size read n address value) m0 → IsDoneBy p forgive false None 1 noted y log2 mem k t m0
+    pub cfg_skipped : (y : Option BenchState) (log2 : LogState) (noted : Kept) (w : Option ℕ) → noted ≡ kept_with_select k (select_value n 15) → w ≡ None → WentTo p forgive w y log2 mem k t [] (select_of n 15 ∷ []) (ap_access_of true 4 0) (after_cfg t size read n address value) m0 → IsDoneBy p forgive false None 1 noted y log2 mem k t m0
     cfg_skipped y log2 noted w is none went =
         let f : HasForgiven p forgive y log2 mem k t (select_of n 15 ∷ []) (ap_access_of true 4 0) m0 = subst (λ (v : Option ℕ). WentTo p forgive v y log2 mem k t [] (select_of n 15 ∷ []) (ap_access_of true 4 0) (after_cfg t size read n address value) m0) none went in
         let bad = forgiven_bad p forgive y log2 mem k t (select_of n 15 ∷ []) (ap_access_of true 4 0) m0 f in
-        let it_lacks : has_large t n ≡ false = ap (λ (a : Attempt). has_bit (given a.outcome) cfg_la) order_is ∙ ap (λ (v : ℕ). has_bit v cfg_la) (given_fault (attempt (after t (making (select_of n 15 ∷ []))) (ap_access_of true 4 0)).outcome bad) in
+        let it_lacks : has_large t n ≡ false = ap (λ (a : Attempt). has_bit (given_number a.outcome) cfg_la) order_is ∙ ap (λ (v : ℕ). has_bit v cfg_la) (given_fault (attempt (after t (making (select_of n 15 ∷ []))) (ap_access_of true 4 0)).outcome bad) in
         record {
           came = record { made = select_of n 15 ∷ []; last = ap_access_of true 4 0; forgiven = f };
           small_is = tt;
@@ -133,10 +133,10 @@ module _ (p : Planner) (forgive : Bool) (x : Option BenchState) (log : LogState)
       shows : (b : Bool) → has_bit cfg cfg_la ≡ b → CfgShows mem t b
       shows b e = (
         ap (λ (a : Attempt). is_fault a.outcome) order_is ∙ none_both.1.0,
-        ap (λ (a : Attempt). has_bit (given a.outcome) cfg_la) order_is ∙ ap (λ (v : ℕ). has_bit v cfg_la) (sym went_some.1) ∙ e,
+        ap (λ (a : Attempt). has_bit (given_number a.outcome) cfg_la) order_is ∙ ap (λ (v : ℕ). has_bit v cfg_la) (sym went_some.1) ∙ e,
       )
 
-      pub cfg_small : (noted : Kept) → noted ≡ learned_cfg (selected k (select_value n 15)) n cfg → has_bit cfg cfg_la ≡ false → IsDoneBy p forgive true (Some 0) 1 noted y log2 mem k t m0
+      pub cfg_small : (noted : Kept) → noted ≡ learned_cfg (kept_with_select k (select_value n 15)) n cfg → has_bit cfg cfg_la ≡ false → IsDoneBy p forgive true (Some 0) 1 noted y log2 mem k t m0
       cfg_small noted is it_lacks =
           let s = shows false it_lacks in
           record {
@@ -155,7 +155,7 @@ module _ (p : Planner) (forgive : Bool) (x : Option BenchState) (log : LogState)
       small_large None it_has = tt
       small_large (Some v) it_has = inr (wide, shows true it_has)
 
-      pub wide_done : (v : Option ℕ) (z : Option BenchState) (log3 : LogState) (noted : Kept) → noted ≡ selected (learned_cfg (selected k (select_value n 15)) n cfg) (select_value n 0) → has_bit cfg cfg_la ≡ true → CameTo p forgive v z log3 mem k t m0 → IsDoneBy p forgive false v 2 noted z log3 mem k t m0
+      pub wide_done : (v : Option ℕ) (z : Option BenchState) (log3 : LogState) (noted : Kept) → noted ≡ kept_with_select (learned_cfg (kept_with_select k (select_value n 15)) n cfg) (select_value n 0) → has_bit cfg cfg_la ≡ true → CameTo p forgive v z log3 mem k t m0 → IsDoneBy p forgive false v 2 noted z log3 mem k t m0
       wide_done v z log3 noted is it_has came =
           let s = shows true it_has in
           record {
@@ -181,7 +181,7 @@ module _ (p : Planner) (forgive : Bool) (x : Option BenchState) (log : LogState)
   small_port None = tt
   small_port (Some v) = inl refl
 
-  pub port_done : (w : Option ℕ) (y : Option BenchState) (log2 : LogState) (noted : Kept) → noted ≡ selected k (select_value n (addr / 16)) → WentTo p forgive w y log2 reg k t [] (select_of n (addr / 16) ∷ []) (ap_access_of read (addr % 16) value) [] m0 → IsDoneBy p forgive false w 0 noted y log2 reg k t m0
+  pub port_done : (w : Option ℕ) (y : Option BenchState) (log2 : LogState) (noted : Kept) → noted ≡ kept_with_select k (select_value n (addr / 16)) → WentTo p forgive w y log2 reg k t [] (select_of n (addr / 16) ∷ []) (ap_access_of read (addr % 16) value) [] m0 → IsDoneBy p forgive false w 0 noted y log2 reg k t m0
   port_done w y log2 noted is went = record {
     came = went_came p forgive w y log2 reg k t [] (select_of n (addr / 16) ∷ []) (ap_access_of read (addr % 16) value) m0 went;
     small_is = small_port w;

@@ -1,5 +1,6 @@
 -- The call that was asked is issued whole.
 use Rattle.std.proofs.Common.{◌≡◌, ◌∙◌, ◌⊎◌, inl, inr, ℕ, ◌+◌, ◌-◌, ◌*◌, ◌/◌, ◌%◌, ◌^◌, ◌<◌, ◌≤◌, true, false, List, [], ◌∷◌, ◌++◌, length, Option, Some, None, refl, sym, ap, subst, arith, length-append}
+use Rattle.packed_access.specs.Marks.{unmarked_append, unmarked_last}
 use Rattle.std.proofs.Math.Nat.{zero-div, zero-mod}
 use Rattle.std.proofs.lemmas.Bool.{cases_lt}
 use Rattle.std.specs.Prelude.{slice_get}
@@ -21,7 +22,6 @@ use Rattle.access_regs.proofs.EntryLemmas.{journal_grows}
 use Rattle.access_calls.specs.Standing.{WhereObservable}
 use Rattle.access_calls.specs.declared.stop.Stop.{Stop}
 use Rattle.flight_laws.proofs.ComeLemmas.{small_given}
-use Rattle.packed_access.specs.Marks.{unmarked_append, unmarked_last}
 use Rattle.packed_access.specs.Begun.{HasBegun, HasIssued, IsIssuing, IsOpenAt, IsSince, LogHasAsked}
 use Rattle.packed_access.specs.Logs.{LogState, all_confirmed, all_issued, reported_by, result_for, with_result}
 use Rattle.packed_access.proofs.ActionLemmas.{at_rest_count}

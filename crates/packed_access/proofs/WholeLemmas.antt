@@ -1,10 +1,12 @@
 -- A flight that came whole.
-use Rattle.std.proofs.Common.{◌≡◌, ◌∙◌, ℕ, zero, suc, ◌+◌, ◌-◌, ◌*◌, ◌^◌, ◌<◌, ◌≤◌, List, [], ◌∷◌, ◌++◌, length, take, drop, get_or, Option, Some, None, refl, sym, ap, subst, arith, append-nil, append_assoc, length-append}
-use Rattle.std.proofs.Math.Seq.{take-append_seam, take-length}
+use Rattle.std.proofs.Common.{◌≡◌, ◌∙◌, ℕ, zero, suc, ◌+◌, ◌-◌, ◌*◌, ◌^◌, ◌<◌, ◌≤◌, List, [], ◌∷◌, ◌++◌, length, take, drop, get_or, Option, Some, None, refl, sym, ap, subst, arith, append_assoc, append-nil, length-append}
+use Rattle.access_regs.proofs.StopLists.{passing_stops}
+use Rattle.access_regs.specs.Entries.{kept_by, target_by}
+use Rattle.std.proofs.Math.Seq.{take-length, take-append_seam}
 use Rattle.std.proofs.lemmas.List.{take-append-drop, length-take-le}
 use Rattle.std.specs.Option.{unwrap_or}
 use Rattle.std.specs.Prelude.{slice_get, slice_index}
-use Rattle.target_machine.specs.Plain.{acted, given, result_of}
+use Rattle.target_machine.specs.Plain.{action_attempt, given_number, result_of}
 use Rattle.target_machine.specs.State.{TargetState}
 use Rattle.target_machine.specs.declared.access.RegAccess.{RegAccess}
 use Rattle.probe_core.specs.Bench.{BenchState, StepsTo}
@@ -15,11 +17,9 @@ use Rattle.target_calls.specs.World.{World, results, skips, start_world, stop, w
 use Rattle.target_calls.specs.declared.calls.Ask.{Ask}
 use Rattle.target_calls.proofs.CallLists.{append_skips}
 use Rattle.target_calls.proofs.EndLemmas.{none_skipped}
-use Rattle.access_regs.specs.Entries.{kept_by, target_by}
-use Rattle.access_regs.specs.Journal.{issue_of, issued, issued_from, kept_from}
-use Rattle.access_regs.specs.Kept.{Kept, nothing_kept}
+use Rattle.access_regs.specs.Journal.{issued_entries, issued_from, kept_from, issue_of}
+use Rattle.access_regs.specs.Kept.{nothing_kept, Kept}
 use Rattle.access_regs.proofs.Joins.{journal_joins}
-use Rattle.access_regs.proofs.StopLists.{passing_stops}
 use Rattle.access_calls.specs.Standing.{WhereObservable}
 use Rattle.batch_packer.specs.SlotList.{slot_at}
 use Rattle.batch_packer.specs.Flying.{CanFly}
@@ -93,26 +93,26 @@ module _ (p : Planner) (log : LogState) (accesses : List RegAccess) (rest : List
     stop_there : stop (start_world t0 None) (g.asks ++ g.ask ∷ others) ≡ None
     stop_there = subst (λ (l : List Ask). stop (start_world t0 None) l ≡ None) first_is (come.none_stops.stops None tt)
 
-    cut : Cutting (slice_index log.places index) (issued p t0 (g.asks ++ g.ask ∷ others))
-    cut = cut_list (slice_index log.places index) (issued p t0 (g.asks ++ g.ask ∷ others)) (let w = place_within p t0 g.asks g.ask others in let part_is = g.place_is in omega (arith, w, part_is))
+    cut : Cutting (slice_index log.places index) (issued_entries p t0 (g.asks ++ g.ask ∷ others))
+    cut = cut_list (slice_index log.places index) (issued_entries p t0 (g.asks ++ g.ask ∷ others)) (let w = place_within p t0 g.asks g.ask others in let part_is = g.place_is in omega (arith, w, part_is))
 
     abbrev word : ℕ
-    word = given (acted (target_after t0 cut.front) cut.entry.action).outcome
+    word = given_number (action_attempt (target_after t0 cut.front) cut.entry.action).outcome
 
     given_there : slice_index (results (start_world t0 None) first) index ≡ result_of g.ask.call word
     given_there =
         (λ j. slice_index (results (start_world t0 None) (first_is j)) (sym g.at j))
         ∙ result_given p t0 g.asks g.ask others cut.front cut.entry cut.back h.sending.fresh askable_there stop_there g.mild g.large cut.is (let a = cut.at in let part_is = g.place_is in omega (arith, a, part_is))
 
-    journal_is : issued p t0 log.calls ≡ cut.front ++ cut.entry ∷ (cut.back ++ issued_from p (0 + length first) (kept_from p nothing_kept t0 first) (target_after t0 (issued p t0 first)) (drop log.whole log.calls))
+    journal_is : issued_entries p t0 log.calls ≡ cut.front ++ cut.entry ∷ (cut.back ++ issued_from p (0 + length first) (kept_from p nothing_kept t0 first) (target_after t0 (issued_entries p t0 first)) (drop log.whole log.calls))
     journal_is =
-        ap (issued p t0) (sym (take-append-drop log.whole log.calls)) ∙ journal_joins p 0 nothing_kept t0 first (drop log.whole log.calls)
-        ∙ ap (λ (l : List Entry). l ++ issued_from p (0 + length first) (kept_from p nothing_kept t0 first) (target_after t0 (issued p t0 first)) (drop log.whole log.calls)) (ap (issued p t0) first_is ∙ cut.is)
-        ∙ append_assoc cut.front (cut.entry ∷ cut.back) (issued_from p (0 + length first) (kept_from p nothing_kept t0 first) (target_after t0 (issued p t0 first)) (drop log.whole log.calls))
+        ap (issued_entries p t0) (sym (take-append-drop log.whole log.calls)) ∙ journal_joins p 0 nothing_kept t0 first (drop log.whole log.calls)
+        ∙ ap (λ (l : List Entry). l ++ issued_from p (0 + length first) (kept_from p nothing_kept t0 first) (target_after t0 (issued_entries p t0 first)) (drop log.whole log.calls)) (ap (issued_entries p t0) first_is ∙ cut.is)
+        ∙ append_assoc cut.front (cut.entry ∷ cut.back) (issued_from p (0 + length first) (kept_from p nothing_kept t0 first) (target_after t0 (issued_entries p t0 first)) (drop log.whole log.calls))
 
     slot_there : unwrap_or (slot_at values (pending_place log index)) 0 ≡ word
     slot_there =
-        slot_gives (issued p t0 log.calls) h.sending.made h.flying rest accesses m0 m o c.part values cut.front cut.entry (cut.back ++ issued_from p (0 + length first) (kept_from p nothing_kept t0 first) (target_after t0 (issued p t0 first)) (drop log.whole log.calls)) (pending_place log index)
+        slot_gives (issued_entries p t0 log.calls) h.sending.made h.flying rest accesses m0 m o c.part values cut.front cut.entry (cut.back ++ issued_from p (0 + length first) (kept_from p nothing_kept t0 first) (target_after t0 (issued_entries p t0 first)) (drop log.whole log.calls)) (pending_place log index)
         h.sending.on c.flies c.good c.values_are journal_is
         (let a = cut.at in let k = h.sending.confirmed_is in let i = h.given_in index low high in let i0 = i.0 in omega (arith, a, k, i0))
         (let n = h.count in let i = h.given_in index low high in let i0 = i.0 in let i1 = i.1 in omega (arith, n, i0, i1))

@@ -16,7 +16,7 @@ use Rattle.target_calls.specs.World.{results, skips, small_now, start_world}
 use Rattle.target_calls.specs.declared.calls.Ask.{Ask}
 use Rattle.target_calls.specs.declared.journal.Part.{Part}
 use Rattle.access_regs.specs.Entries.{kept_by, target_by}
-use Rattle.access_regs.specs.Journal.{Step, issue_of, issued, numbered}
+use Rattle.access_regs.specs.Journal.{Step, issue_of, issued_entries, numbered_entries}
 use Rattle.access_regs.specs.Kept.{Kept}
 use Rattle.access_calls.specs.Answers.{AtCut}
 use Rattle.access_calls.specs.Issued.{AreKeptOf}
@@ -46,7 +46,7 @@ pub record IsGivenAt (p : Planner) (t : TargetState) (calls : List Ask) (index p
   pub at : length asks ≡ index
   pub mild : is_forgiving ask ≡ false
   pub large : small_now (start_world t None) asks ask ≡ false
-  pub place_is : place + 1 ≡ length (issued p t asks) + length (issue_of p (target_by p t asks) (kept_by p t asks) ask).steps
+  pub place_is : place + 1 ≡ length (issued_entries p t asks) + length (issue_of p (target_by p t asks) (kept_by p t asks) ask).steps
 
 -- Of the entries of the calls the first are confirmed, the next lie in the flight as these accesses, and the rest is still to be issued. The
 -- calls that came have all their entries among those that are confirmed, and these results. Those that were issued whole have all their entries
@@ -56,12 +56,12 @@ pub record IsIssuing (p : Planner) (log : LogState) (accesses : List RegAccess) 
   pub sending : IsSending p log.calls log.confirmed log.came flying rest accesses (take log.known log.results) m0 m
   pub known_is : log.known ≡ log.came
   pub count : log.confirmed + length flying ≡ length log.entries
-  pub entries_are : AreKeptOf (take (length log.entries) (issued p (target_of m0.probe) log.calls)) log.entries
+  pub entries_are : AreKeptOf (take (length log.entries) (issued_entries p (target_of m0.probe) log.calls)) log.entries
   pub strict : AreStrict flying
   pub in_order : log.came ≤ log.whole
   pub within : log.whole ≤ length log.calls
-  pub came_made : length (issued p (target_of m0.probe) (take log.came (unmarked_last log.calls))) ≤ log.confirmed
-  pub whole_issued : length (issued p (target_of m0.probe) (take log.whole (unmarked_last log.calls))) ≤ length log.entries
+  pub came_made : length (issued_entries p (target_of m0.probe) (take log.came (unmarked_last log.calls))) ≤ log.confirmed
+  pub whole_issued : length (issued_entries p (target_of m0.probe) (take log.whole (unmarked_last log.calls))) ≤ length log.entries
   pub came_are : take log.known log.results ≡ results (start_world (target_of m0.probe) None) (take log.came log.calls)
   pub skipped_is : log.skipped ≡ skips (start_world (target_of m0.probe) None) (take log.came log.calls)
   pub given : (index : ℕ) → log.came ≤ index → index < log.whole → IsGivenAt p (target_of m0.probe) log.calls index (slice_index log.places index)
@@ -84,11 +84,11 @@ IsNoPoll other = ⊤
 
 -- steps of the last of so many calls, which forgives nothing
 abbrev pub steps_left : LogState → List Step → List Entry
-steps_left log steps = numbered (length log.calls - 1) false steps
+steps_left log steps = numbered_entries (length log.calls - 1) false steps
 
 -- the target after the entries that were issued
 abbrev pub target_issued : Planner → LogState → BenchState → TargetState
-target_issued p log m0 = target_after (target_of m0.probe) (take (length log.entries) (issued p (target_of m0.probe) log.calls))
+target_issued p log m0 = target_after (target_of m0.probe) (take (length log.entries) (issued_entries p (target_of m0.probe) log.calls))
 
 -- Between two calls: all that was asked is issued, and this is known of the registers. Once a `finish` was made after the last call nothing
 -- lies in the flight.
@@ -118,7 +118,7 @@ pub record StopsAfterLines (m0 : BenchState) (answered : Option ℕ) (calls : Li
 
 -- the entries that a call issues after others
 abbrev pub entries_for_call : Planner → TargetState → List Ask → Kept → Ask → List Entry
-entries_for_call p t calls kept ask = numbered (length calls) (is_forgiving ask) (issue_of p (target_by p t calls) kept ask).steps
+entries_for_call p t calls kept ask = numbered_entries (length calls) (is_forgiving ask) (issue_of p (target_by p t calls) kept ask).steps
 
 -- The last call was asked after these, and nothing of it is issued; this is known of the registers after those before it.
 pub record LogHasAsked (p : Planner) (state : Option BenchState) (log : LogState) (accesses : List RegAccess) (kept : Kept) (calls : List Ask) (ask : Ask)

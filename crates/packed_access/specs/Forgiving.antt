@@ -2,7 +2,7 @@
 use Rattle.std.specs.Prelude.{◌≡◌, ◌⊎◌, ℕ, ◌+◌, ◌-◌, ◌^◌, min, Bool, true, false, not, if◌then◌else◌, List, [], ◌∷◌, ◌++◌, length, map, slice_get, take, Option, ⊤}
 use Rattle.std.specs.Prelude.{Some, None}
 use Rattle.target_machine.specs.Lists.{after}
-use Rattle.target_machine.specs.Plain.{Action, Makes, acted, call_actions, cfg_actions, given, has_large, in_order, is_fault, may_forgive}
+use Rattle.target_machine.specs.Plain.{Action, Makes, action_attempt, call_actions, cfg_actions, given_number, has_large, in_order, is_fault, may_forgive}
 use Rattle.target_machine.specs.State.{TargetState}
 use Rattle.target_machine.specs.declared.access.RegAccess.{RegAccess}
 use Rattle.target_machine.specs.declared.unit.Call.TheVariants.{Access}
@@ -13,7 +13,7 @@ use Rattle.target_calls.specs.declared.calls.Ask.{Ask}
 use Rattle.target_calls.specs.declared.journal.Part.{Part}
 use Rattle.target_calls.specs.declared.journal.Part.TheVariants.{Ends, Leads}
 use Rattle.access_regs.specs.Entries.{NoneFault}
-use Rattle.access_regs.specs.Journal.{Step, alone_at, is_early, large_of, making, numbered, port_of, steps_of}
+use Rattle.access_regs.specs.Journal.{Step, alone_at, is_early, large_of, making, numbered_entries, port_of, steps_of}
 use Rattle.access_regs.specs.Costs.{leading_reads}
 use Rattle.access_regs.specs.Kept.{Kept, forget}
 use Rattle.access_regs.specs.Plan.{needs_cfg}
@@ -32,7 +32,7 @@ use Rattle.access_regs.specs.declared.planner.Planner.{Planner}
 pub record IsTrying (p : Planner) (forgive : Bool) (log : LogState) (asked : AccessUnit) (k : Kept) (t : TargetState) (made : List RegAccess)
     (rest : List Action) (m0 m : BenchState) : Type 0 where
   pub left : List Step
-  pub issuing : IsIssuing p log [] (numbered (length log.calls - 1) forgive left) m0 m
+  pub issuing : IsIssuing p log [] (numbered_entries (length log.calls - 1) forgive left) m0 m
   pub actions : call_actions t (large_of k asked) (Access asked) ≡ making made ++ rest
   pub steps : (alone_at forgive asked t k).steps ≡ steps_of_unit asked made ++ left
   pub good : NoneFault t made
@@ -51,7 +51,7 @@ pub record IsForgiven (p : Planner) (forgive : Bool) (log : LogState) (asked : A
   pub issuing : IsIssuing p log [] [] m0 m
   pub steps : (alone_at forgive asked t k).steps ≡ steps_of_unit asked (made ++ access ∷ []) ++ abort_after asked (made ++ access ∷ []) ∷ []
   pub good : NoneFault t made
-  pub bad : is_fault (acted (after t (making made)) (Makes access)).outcome ≡ true
+  pub bad : is_fault (action_attempt (after t (making made)) (Makes access)).outcome ≡ true
 
 -- So it is where the bench is observable.
 pub record HasForgiven (p : Planner) (forgive : Bool) (state : Option BenchState) (log : LogState) (asked : AccessUnit) (k : Kept) (t : TargetState)
@@ -81,7 +81,8 @@ pub record AreNextAccesses (asked : AccessUnit) (t : TargetState) (made leads : 
 abbrev pub WentTo : Planner → Bool → Option ℕ → Option BenchState → LogState → AccessUnit → Kept → TargetState → List RegAccess → List RegAccess → RegAccess →
     List Action → BenchState → Type 0
 WentTo p forgive (Some v) state log asked k t made leads last more m0 =
-    LogHasTried p forgive state log asked k t (made ++ (leads ++ last ∷ [])) more m0 × (v ≡ given (acted (after t (making (made ++ leads))) (Makes last)).outcome)
+    LogHasTried p forgive state log asked k t (made ++ (leads ++ last ∷ [])) more m0
+    × (v ≡ given_number (action_attempt (after t (making (made ++ leads))) (Makes last)).outcome)
 WentTo p forgive None state log asked k t made leads last more m0 = HasForgiven p forgive state log asked k t (made ++ leads) last m0
 
 -- Those before the last came one by one, and the last comes next; or one of them faulted, which none does.
@@ -102,7 +103,7 @@ pub record LogHasAnswered (p : Planner) (forgive : Bool) (v : ℕ) (state : Opti
   pub made : List RegAccess
   pub last : RegAccess
   pub tried : LogHasTried p forgive state log asked k t (made ++ last ∷ []) [] m0
-  pub value : v ≡ given (acted (after t (making made)) (Makes last)).outcome
+  pub value : v ≡ given_number (action_attempt (after t (making made)) (Makes last)).outcome
 
 -- One of them faulted, and ABORT was written.
 pub record HasSkipped (p : Planner) (forgive : Bool) (state : Option BenchState) (log : LogState) (asked : AccessUnit) (k : Kept) (t : TargetState)

@@ -9,7 +9,7 @@ use Rattle.target_calls.specs.Journal.{Entry, target_after}
 use Rattle.target_calls.specs.declared.calls.Ask.{Ask}
 use Rattle.target_calls.specs.declared.journal.Part.TheVariants.{Settles}
 use Rattle.access_regs.specs.Entries.{kept_by}
-use Rattle.access_regs.specs.Journal.{issued, issued_from, kept_from, numbered, steps_of}
+use Rattle.access_regs.specs.Journal.{issued_entries, issued_from, kept_from, numbered_entries, steps_of}
 use Rattle.access_regs.specs.Kept.{nothing_kept}
 use Rattle.access_regs.specs.Plan.{settle}
 use Rattle.access_regs.specs.declared.planner.Planner.{Planner}
@@ -18,11 +18,11 @@ use Rattle.access_regs.proofs.Joins.{journal_joins, later_entries}
 use Rattle.access_calls.specs.Growing.{IsAfter, JournalGoesOn, JournalSettles}
 
 -- The journal of more calls is that of the first calls, and entries of later calls after it.
-pub grows_packed : (p : Planner) → JournalGoesOn (issued p)
+pub grows_packed : (p : Planner) → JournalGoesOn (issued_entries p)
 grows_packed p t asks more =
     let n : ℕ = 0 + length asks in
-    let rest : List Entry = issued_from p n (kept_from p nothing_kept t asks) (target_after t (issued p t asks)) more in
-    let later : AllByRecursion (IsAfter n) rest = later_entries p n (kept_from p nothing_kept t asks) (target_after t (issued p t asks)) more in
+    let rest : List Entry = issued_from p n (kept_from p nothing_kept t asks) (target_after t (issued_entries p t asks)) more in
+    let later : AllByRecursion (IsAfter n) rest = later_entries p n (kept_from p nothing_kept t asks) (target_after t (issued_entries p t asks)) more in
     let number : n ≡ length asks = omega arith in
     record {
       rest = rest;
@@ -31,14 +31,14 @@ grows_packed p t asks more =
     }
 
 -- what settles so many calls is issued after them
-settling_later : (n : ℕ) (accesses : List RegAccess) → AllByRecursion (IsAfter n) (numbered n false (steps_of Settles accesses))
+settling_later : (n : ℕ) (accesses : List RegAccess) → AllByRecursion (IsAfter n) (numbered_entries n false (steps_of Settles accesses))
 settling_later n [] = tt
 settling_later n (a ∷ accesses) = (omega arith, settling_later n accesses)
 
 -- The journal of calls that a `finish` follows is that of the calls, and what settles them after it.
-pub settles_packed : (p : Planner) → JournalSettles (issued p)
+pub settles_packed : (p : Planner) → JournalSettles (issued_entries p)
 settles_packed p t asks = record {
-  rest = numbered (length asks) false (steps_of Settles (settle (kept_by p t asks)));
+  rest = numbered_entries (length asks) false (steps_of Settles (settle (kept_by p t asks)));
   joined = (journal_marks p t asks).0;
   later = settling_later (length asks) (settle (kept_by p t asks));
 }

@@ -12,7 +12,7 @@ use Rattle.target_calls.specs.World.{start_world, stop}
 use Rattle.target_calls.specs.declared.calls.Ask.{Ask}
 use Rattle.access_regs.specs.Journal.{gives, making, port_of}
 use Rattle.access_regs.specs.Kept.{Kept}
-use Rattle.access_regs.specs.Plan.{cfg_plan, learned_cfg, needs_cfg, needs_csw, needs_settle, settle, settled}
+use Rattle.access_regs.specs.Plan.{cfg_plan, learned_cfg, needs_cfg, needs_csw, needs_settle, settle, kept_after_settling}
 
 -- the settling before the unit, where there is one
 abbrev pub settle_before : Kept → AccessUnit → List RegAccess
@@ -20,7 +20,7 @@ settle_before k asked = if needs_settle k asked then settle k else []
 
 -- what is known of the registers after that settling
 abbrev pub settled_before : Kept → AccessUnit → Kept
-settled_before k asked = if needs_settle k asked then settled k else k
+settled_before k asked = if needs_settle k asked then kept_after_settling k else k
 
 -- the target after that settling
 abbrev pub target_before : TargetState → Kept → AccessUnit → TargetState

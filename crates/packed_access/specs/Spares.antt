@@ -27,8 +27,8 @@ use Rattle.target_calls.specs.Journal.{Entry}
 use Rattle.target_calls.specs.Weights.{registers_in}
 use Rattle.target_calls.specs.declared.calls.Ask.{Ask}
 use Rattle.access_regs.specs.Costs.{cost_by, leading_reads}
-use Rattle.access_regs.specs.Journal.{gives, issued, planned}
-use Rattle.access_regs.specs.Kept.{Kept, known, nothing_kept}
+use Rattle.access_regs.specs.Journal.{gives, issued_entries, issue_of_plan}
+use Rattle.access_regs.specs.Kept.{Kept, known_at, nothing_kept}
 use Rattle.access_regs.specs.Plan.{cfg_plan, learned_cfg, needs_csw}
 use Rattle.access_regs.specs.declared.known.Known.{Known}
 use Rattle.access_regs.specs.declared.planner.Planner.{Planner}
@@ -68,9 +68,9 @@ paid_few before after paid full left needs few counts covers = omega (arith, few
 -- at most three starting packets, one for each need point, and k / c for k register accesses, of which a flight holds c
 spared_few : (limits given : Limits) (log : LogState) (paid left : ℕ) (m0 m : BenchState) (n : Option ℕ) → IsSpared Managed limits given log paid m0 m →
     min (paid + left) (2 ^ 64 - 1) ≤ log.needs →
-    starting_since (began m0 n) m ≤ 3 + log.needs + registers_in (issued Managed (target_of m0.probe) log.calls) / flight_capacity given
+    starting_since (began m0 n) m ≤ 3 + log.needs + registers_in (issued_entries Managed (target_of m0.probe) log.calls) / flight_capacity given
 spared_few limits given log paid left m0 m n h covers =
-    let j : List Entry = issued Managed (target_of m0.probe) log.calls in
+    let j : List Entry = issued_entries Managed (target_of m0.probe) log.calls in
     let few = paid_few m0.starting m.starting paid h.full left log.needs h.few h.counts covers in
     let some : 0 < flight_capacity limits = (let c = capacity_seven limits h.fits in omega (arith, c)) in
     let most : starting_since (began m0 n) m ≤ 3 + log.needs + registers_in (take log.confirmed j ++ drop log.confirmed j) / flight_capacity limits =
@@ -157,10 +157,10 @@ abbrev write_at : ℕ → ℕ → ℕ → ℕ → AccessUnit
 write_at size m address value = unit.Memory size false m address value
 
 -- the first of all reads CSW
-first_reads : (t : TargetState) (size m address value : ℕ) → address < 2 ^ 32 → leading_reads (planned t nothing_kept (write_at size m address value)).steps ≡ 1
+first_reads : (t : TargetState) (size m address value : ℕ) → address < 2 ^ 32 → leading_reads (issue_of_plan t nothing_kept (write_at size m address value)).steps ≡ 1
 first_reads t size m address value low =
     planned_reads t nothing_kept (write_at size m address value)
-    ∙ ap (λ (b : Bool). cond (b && not (known nothing_kept m).large)
+    ∙ ap (λ (b : Bool). cond (b && not (known_at nothing_kept m).large)
     (1 + cond (has_bit (gives t (cfg_plan nothing_kept m)) 2) (one_if
     (needs_csw (learned_cfg nothing_kept m (gives t (cfg_plan nothing_kept m))) (write_at size m address value))) 0)
     (one_if (needs_csw nothing_kept (write_at size m address value))))
@@ -209,9 +209,9 @@ spared_blocks limits given log paid left m0 m n size ap_ address h covers needed
         let first = first_needs (target_of m0.probe) c cs size ap_ address w.value w.is w.strict low in
         let marks : marks_in (c ∷ cs) ≤ 1 = (let k = needed.so in let f = ap (first_cost Managed (target_of m0.probe)) same in let g = ap marks_in same in
         omega (arith, k, f, g, first, two)) in
-        let blocks : AreBlocks h.full limits (issued Managed (target_of m0.probe) (c ∷ cs)) log.confirmed =
-        subst (λ (l : List Ask). AreBlocks h.full limits (issued Managed (target_of m0.probe) l) log.confirmed) same h.blocks in
-        let most = blocks_few h.full log.confirmed limits (issued Managed (target_of m0.probe) (c ∷ cs)) (length (c ∷ cs)) h.fits blocks (let x = j.0 in
+        let blocks : AreBlocks h.full limits (issued_entries Managed (target_of m0.probe) (c ∷ cs)) log.confirmed =
+        subst (λ (l : List Ask). AreBlocks h.full limits (issued_entries Managed (target_of m0.probe) l) log.confirmed) same h.blocks in
+        let most = blocks_few h.full log.confirmed limits (issued_entries Managed (target_of m0.probe) (c ∷ cs)) (length (c ∷ cs)) h.fits blocks (let x = j.0 in
         omega (arith, x, marks)) (let y = j.1 in omega (arith, y, marks)) (writes_are_few Managed (target_of m0.probe) (c ∷ cs)) some in
         let all : starting_since (began m0 n) m ≤ 6 + (length (c ∷ cs) + block_words limits - 1) / block_words limits = (let f = few in omega (arith, f, most, two)) in
         subst (λ (l : Limits). starting_since (began m0 n) m ≤ 6 + (length log.calls + block_words l - 1) / block_words l) h.limits_are
@@ -224,7 +224,7 @@ keeps_where : (x : Option BenchState) (limits : Limits) (a : BenchReported) (sta
     (accesses : List RegAccess) (paid left : ℕ) (m0 : BenchState) (n : Option ℕ) → WhereObservable x (λ m. IsOpenAt Managed log kept accesses m0 m) →
     WhereObservable x (λ m. IsSpared Managed limits a.limits log paid m0 m) → min (paid + left) (2 ^ 64 - 1) ≤ log.needs →
     AreNeeded Managed (target_of m0.probe) (asks_of log) →
-    WhereObservable x (λ m. KeepsBounds (issued Managed (target_of m0.probe) log.calls) (reported_by a state log sent got) (began m0 n) m)
+    WhereObservable x (λ m. KeepsBounds (issued_entries Managed (target_of m0.probe) log.calls) (reported_by a state log sent got) (began m0 n) m)
 keeps_where None limits a state log sent got kept accesses paid left m0 n h s covers needed = absurd h
 keeps_where (Some m) limits a state log sent got kept accesses paid left m0 n h s covers needed = record {
   few = spared_few limits a.limits log paid left m0 m n s covers;
@@ -235,7 +235,7 @@ keeps_where (Some m) limits a state log sent got kept accesses paid left m0 n h 
 -- The law `spares` by the managed planner.
 pub spares_packed : (limits : Limits) (bench : BenchReported) (state : Option BenchState) (log : LogState) (sent got : List ℕ) (kept : Kept)
     (accesses : List RegAccess) (m0 : BenchState) (n : Option ℕ) → HasBegunSparing Managed limits bench state log sent got kept accesses m0 →
-    KeepsBoundsIf true (issued Managed (target_of m0.probe) log.calls) (reported_by bench state log sent got) (began m0 n)
+    KeepsBoundsIf true (issued_entries Managed (target_of m0.probe) log.calls) (reported_by bench state log sent got) (began m0 n)
 spares_packed limits bench state log sent got kept accesses m0 n h = λ none.
     let p = h.paid none in
     keeps_where state limits bench state log sent got kept accesses p.paid (points_left log) m0 n
@@ -245,6 +245,6 @@ spares_packed limits bench state log sent got kept accesses m0 n h = λ none.
 -- by either planner
 pub spares_by : (p : Planner) (limits : Limits) (bench : BenchReported) (state : Option BenchState) (log : LogState) (sent got : List ℕ) (kept : Kept)
     (accesses : List RegAccess) (m0 : BenchState) (n : Option ℕ) → HasBegunSparing p limits bench state log sent got kept accesses m0 →
-    KeepsBoundsIf (keeps_bounds p) (issued p (target_of m0.probe) log.calls) (reported_by bench state log sent got) (began m0 n)
+    KeepsBoundsIf (keeps_bounds p) (issued_entries p (target_of m0.probe) log.calls) (reported_by bench state log sent got) (began m0 n)
 spares_by Managed limits bench state log sent got kept accesses m0 n h = spares_packed limits bench state log sent got kept accesses m0 n h
 spares_by Plain limits bench state log sent got kept accesses m0 n h = tt

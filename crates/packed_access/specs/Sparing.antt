@@ -12,7 +12,7 @@ use Rattle.target_calls.specs.NeedPoints.{Asks, capped_sum}
 use Rattle.target_calls.specs.Weights.{registers_in}
 use Rattle.target_calls.specs.declared.calls.Ask.{Ask}
 use Rattle.access_regs.specs.Costs.{cost_by}
-use Rattle.access_regs.specs.Journal.{is_alone, issued}
+use Rattle.access_regs.specs.Journal.{is_alone, issued_entries}
 use Rattle.access_regs.specs.Kept.{Kept}
 use Rattle.access_calls.specs.Bounds.{flight_capacity}
 use Rattle.access_calls.specs.Standing.{WhereObservable}
@@ -32,11 +32,11 @@ use Rattle.access_regs.specs.declared.planner.Planner.TheVariants.{Managed, Plai
 pub record IsSpared (p : Planner) (limits given : Limits) (log : LogState) (points : ℕ) (m0 m : BenchState) : Type 0 where
   pub full : ℕ
   pub few : m.starting ≤ m0.starting + 3 + points + full
-  pub filled : full * flight_capacity limits ≤ registers_in (take log.confirmed (issued p (target_of m0.probe) log.calls))
+  pub filled : full * flight_capacity limits ≤ registers_in (take log.confirmed (issued_entries p (target_of m0.probe) log.calls))
   pub counts : m.starting < 2 ^ 64
   pub limits_are : limits ≡ given
   pub fits : AreLimits limits
-  pub blocks : AreBlocks full limits (issued p (target_of m0.probe) log.calls) log.confirmed
+  pub blocks : AreBlocks full limits (issued_entries p (target_of m0.probe) log.calls) log.confirmed
 
 -- So it is by the managed planner, where the bench is observable.
 pub record HasSpared (p : Planner) (limits given : Limits) (state : Option BenchState) (log : LogState) (points : ℕ) (m0 : BenchState) : Type 0 where

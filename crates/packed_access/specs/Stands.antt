@@ -15,7 +15,7 @@ use Rattle.target_calls.specs.Asks.{ForgiveNothing, is_forgiving, is_settled}
 use Rattle.target_calls.specs.Journal.{Entry, actions_in, target_after}
 use Rattle.target_calls.specs.declared.calls.Ask.{Ask}
 use Rattle.access_regs.specs.Entries.{kept_by}
-use Rattle.access_regs.specs.Journal.{issued, issued_from, kept_from, making}
+use Rattle.access_regs.specs.Journal.{issued_entries, issued_from, kept_from, making}
 use Rattle.access_regs.specs.Kept.{Kept, nothing_kept}
 use Rattle.access_regs.proofs.Joins.{journal_joins}
 use Rattle.access_calls.specs.Issued.{kept_of}
@@ -98,10 +98,10 @@ module _ (p : Planner) (bench : BenchReported) (state : Option BenchState) (log 
   split = sym (take-append-drop log.came log.calls)
 
   -- the journal is that of the calls that came, and then that of the others
-  joined : issued p t0 log.calls ≡ issued p t0 (take log.came log.calls)
+  journal_is_joined : issued_entries p t0 log.calls ≡ issued_entries p t0 (take log.came log.calls)
       ++ issued_from p (0 + length (take log.came log.calls)) (kept_from p nothing_kept t0 (take log.came log.calls))
-      (target_after t0 (issued p t0 (take log.came log.calls))) (drop log.came log.calls)
-  joined = ap (issued p t0) split ∙ journal_joins p 0 nothing_kept t0 (take log.came log.calls) (drop log.came log.calls)
+      (target_after t0 (issued_entries p t0 (take log.came log.calls))) (drop log.came log.calls)
+  journal_is_joined = ap (issued_entries p t0) split ∙ journal_joins p 0 nothing_kept t0 (take log.came log.calls) (drop log.came log.calls)
 
   -- a call that has not come forgives nothing
   mild_at : (index : ℕ) → log.came ≤ index → index < length log.calls → IsMildAt log.calls index
@@ -121,22 +121,22 @@ module _ (p : Planner) (bench : BenchReported) (state : Option BenchState) (log 
       drop_all (x ∷ xs) = drop_all xs
 
   -- the calls that came have all their entries among those that are confirmed, a settling after the last one too
-  all_confirmed : is_settled log.calls ≡ true → length (issued p (target_of m0.probe) (take log.came log.calls)) ≤ log.confirmed
+  all_confirmed : is_settled log.calls ≡ true → length (issued_entries p (target_of m0.probe) (take log.came log.calls)) ≤ log.confirmed
   all_confirmed settled =
-      let e = ap (λ (n : ℕ). length (issued p t0 (take n log.calls))) (h.calm settled).0 in
-      let f = ap (λ (l : List Ask). length (issued p t0 l)) (take-length log.calls) in
+      let e = ap (λ (n : ℕ). length (issued_entries p t0 (take n log.calls))) (h.calm settled).0 in
+      let f = ap (λ (l : List Ask). length (issued_entries p t0 l)) (take-length log.calls) in
       let j = ap length (i.sending.on.are ∙ ap (λ (l : List Entry). i.sending.made ++ (l ++ [])) (calm_here settled).1 ∙ append-nil i.sending.made) in
       let c = i.sending.confirmed_is in
       omega (arith, e, f, j, c)
 
   -- the calls that came have all their entries among those that are confirmed, with a `finish` or without
-  came_by : (b : Bool) → is_settled log.calls ≡ b → length (issued p (target_of m0.probe) (take log.came log.calls)) ≤ log.confirmed
+  came_by : (b : Bool) → is_settled log.calls ≡ b → length (issued_entries p (target_of m0.probe) (take log.came log.calls)) ≤ log.confirmed
   came_by true settled = all_confirmed settled
-  came_by false unsettled = (let a = i.came_made in let e = ap (λ (l : List Ask). length (issued p t0 (take log.came l))) (unmarked_same log.calls unsettled) in
+  came_by false unsettled = (let a = i.came_made in let e = ap (λ (l : List Ask). length (issued_entries p t0 (take log.came l))) (unmarked_same log.calls unsettled) in
       omega (arith, a, e))
 
   -- the calls that came have all their entries among those that are confirmed
-  pub came_there : length (issued p (target_of m0.probe) (take log.came log.calls)) ≤ log.confirmed
+  pub came_there : length (issued_entries p (target_of m0.probe) (take log.came log.calls)) ≤ log.confirmed
   came_there = came_by (is_settled log.calls) refl
 
   -- an open access is as the laws of calls in flight say it
@@ -154,10 +154,10 @@ module _ (p : Planner) (bench : BenchReported) (state : Option BenchState) (log 
     front = take log.came log.calls;
     back = drop log.came log.calls;
     calls = split;
-    part = take (length i.sending.made - length (issued p t0 (take log.came log.calls)))
+    part = take (length i.sending.made - length (issued_entries p t0 (take log.came log.calls)))
         (issued_from p (0 + length (take log.came log.calls)) (kept_from p nothing_kept t0 (take log.came log.calls))
-        (target_after t0 (issued p t0 (take log.came log.calls))) (drop log.came log.calls));
-    made_is = begins_with _ _ i.sending.made (i.flying ++ []) (sym joined ∙ i.sending.on.are) (let a = came_there in let b = i.sending.confirmed_is in
+        (target_after t0 (issued_entries p t0 (take log.came log.calls))) (drop log.came log.calls));
+    made_is = begins_with _ _ i.sending.made (i.flying ++ []) (sym journal_is_joined ∙ i.sending.on.are) (let a = came_there in let b = i.sending.confirmed_is in
         omega (arith, a, b));
     came_is = sym (length-take-le log.came log.calls within);
     came_are = i.came_are;
@@ -194,6 +194,6 @@ is_begun p bench state log sent got kept accesses m0 h = record { so = begun_whe
 pub stands_packed : (p : Planner) (bench : BenchReported) (state : Option BenchState) (log : LogState) (sent got : List ℕ) (kept : Kept)
     (accesses : List RegAccess) (m0 : BenchState) (n : Option ℕ) →
     HasBegun p bench state log sent got kept accesses m0 → IsLeft (reported_by bench state log sent got) n →
-    AccessStands (issued p) (reported_by bench state log sent got) (began m0 n)
+    AccessStands (issued_entries p) (reported_by bench state log sent got) (began m0 n)
 stands_packed p bench state log sent got kept accesses m0 n h left =
     begun_stands p (reported_by bench state log sent got) kept accesses (take log.known log.results) m0 n (is_begun p bench state log sent got kept accesses m0 h) left

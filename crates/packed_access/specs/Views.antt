@@ -10,7 +10,7 @@ use Rattle.probe_core.specs.Bench.{Reported as BenchReported}
 use Rattle.probe_core.specs.Probe.{target_of}
 use Rattle.probe_core.specs.declared.job.Limits.{Limits}
 use Rattle.target_calls.specs.Journal.{Entry}
-use Rattle.target_calls.specs.NeedPoints.{asked}
+use Rattle.target_calls.specs.NeedPoints.{asks_with_call}
 use Rattle.target_calls.specs.declared.calls.Ask.{Ask}
 use Rattle.access_regs.specs.Costs.{cost_by}
 use Rattle.access_regs.specs.Kept.{Kept}
@@ -86,11 +86,11 @@ HasSpace s = (next : RegAccess) → IsTaken next → s.admits next ≡ true
 -- the need points of the last call, asked after these, were counted
 abbrev pub SenderHasNeeds : SenderView → SenderView → List Ask → Ask → BenchState → Type 0
 SenderHasNeeds old new calls ask m0 =
-    asks_of new.log ≡ asked (cost_by old.planner (target_of m0.probe) calls ask) ask (record { calls = calls; needs = old.log.needs; fence = old.log.fence })
+    asks_of new.log ≡ asks_with_call (cost_by old.planner (target_of m0.probe) calls ask) ask (record { calls = calls; needs = old.log.needs; fence = old.log.fence })
 
 -- a unit that is made alone has made these accesses, and these actions follow where no later one does
 abbrev pub IsTried : SenderView → Bool → AccessUnit → Kept → TargetState → List RegAccess → List Action → BenchState → Type 0
-IsTried s forgive asked k t made rest m0 = LogHasTried s.planner forgive s.state s.log asked k t made rest m0
+IsTried s forgive asks_with_call k t made rest m0 = LogHasTried s.planner forgive s.state s.log asks_with_call k t made rest m0
 
 -- the access has ended so, and there the calls stop
 abbrev pub SenderIsBroken : SenderView → List Ask → BenchState → Stop → Type 0

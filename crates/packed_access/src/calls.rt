@@ -121,7 +121,7 @@ impl<F: Flights> Sender<F> {
 }
 
 impl<F: Flights> Access for PackedAccess<F> {
-    ghost use Rattle.access_regs.specs.Journal.{issued};
+    ghost use Rattle.access_regs.specs.Journal.{issued_entries};
     ghost use Rattle.packed_access.specs.Sparing.{HasBegunSet, keeps_bounds};
     ghost use Rattle.access_regs.specs.Costs.{cost_by};
     ghost use Rattle.packed_access.specs.Logs.{keeps_by, reported_by};
@@ -137,7 +137,7 @@ impl<F: Flights> Access for PackedAccess<F> {
         (F.limits s.sender.flights) (F.reported s.sender.flights) (F.state s.sender.flights) s.sender.log
         (F.packet s.sender.flights) (F.reply s.sender.flights) s.sender.managed (F.accesses s.sender.flights) m };
 
-    ghost journal = { issued F.planner };
+    ghost journal = { issued_entries F.planner };
 
     ghost cost = { cost_by F.planner };
 

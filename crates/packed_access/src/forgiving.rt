@@ -18,7 +18,7 @@ ghost use Rattle.target_calls.specs.Asks.{unit_ask};
 ghost use Rattle.probe_core.specs.Probe.{target_of};
 ghost use Rattle.target_machine.specs.declared.unit.Call.TheVariants.{Access};
 ghost use Rattle.access_regs.specs.Journal.{is_end, making};
-ghost use Rattle.access_regs.specs.Kept.{Kept, known, selected};
+ghost use Rattle.access_regs.specs.Kept.{Kept, known_at, kept_with_select};
 ghost use Rattle.access_regs.specs.Plan.{needs_cfg, select_value};
 ghost use Rattle.access_regs.specs.declared.planner.Planner.TheVariants.{Managed};
 ghost use Rattle.packed_access.specs.Gives.{AsksFor};
@@ -108,7 +108,7 @@ impl<F: Flights> Sender<F> {
             → IfErr result (SenderIsBroken (⟦<Self as Viewed>⟧.view self.new) self.old.log.calls m0) }
         ensures packets { F.planner ≡ Managed → OnOk result (StepsTo (λ m o. CanFly m → SendsFew 3 m o) (F.state self.old.flights) (F.state self.new.flights)) }
         ensures tries { Tries result 8 (⟦<Self as Viewed>⟧.view self.old) (⟦<Self as Viewed>⟧.view self.new) }
-        ensures managed { self.new.managed ≡ selected self.old.managed (select_value ap 0) }
+        ensures managed { self.new.managed ≡ kept_with_select self.old.managed (select_value ap 0) }
     {
         let csw = match self.try_port(ap, 0, access_ap(true, CSW, 0), false, forgive) {
             Ok(Some(csw)) => csw,
@@ -128,7 +128,7 @@ impl<F: Flights> Sender<F> {
 
     // Whether the access port is known to have large addresses.
     pub(crate) fn is_large(&self, ap: u8) -> bool
-        ensures { result ≡ (known self.now.managed ap).large }
+        ensures { result ≡ (known_at self.now.managed ap).large }
     {
         !self.managed.needs_cfg(&Unit::Memory {
             size: 4,

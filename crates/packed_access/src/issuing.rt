@@ -1,13 +1,13 @@
 //! How the accesses of calls come into flights, and flights are sent.
 ghost use Rattle.std.specs.Prelude.{◌≡◌, ◌<◌, ◌≤◌, ◌+◌, ◌-◌, ◌++◌, ◌∷◌, [], ℕ, List, Option, None, false, length, slice_get, IfErr, IfOk, OnOk};
 ghost use Rattle.std.specs.List.{AllByRecursion};
-ghost use Rattle.target_machine.specs.Plain.{Commands, Makes, acted, given};
+ghost use Rattle.target_machine.specs.Plain.{Commands, Makes, action_attempt, given_number};
 ghost use Rattle.target_machine.specs.declared.access.RegAccess.{RegAccess};
 ghost use Rattle.std.specs.Option.{unwrap_or};
 ghost use Rattle.probe_core.specs.Probe.{target_of};
 ghost use Rattle.batch_packer.specs.SlotList.{slot_at};
 ghost use Rattle.access_regs.specs.Costs.{command_cost};
-ghost use Rattle.access_regs.specs.Journal.{gives, issued};
+ghost use Rattle.access_regs.specs.Journal.{gives, issued_entries};
 ghost use Rattle.target_calls.specs.Asks.{probe_ask};
 ghost use Rattle.target_calls.specs.declared.calls.Ask.{Ask};
 ghost use Rattle.flight_forms.specs.Packing.{IsTaken};
@@ -17,7 +17,7 @@ ghost use Rattle.access_calls.specs.Answers.{AtCut};
 ghost use Rattle.bench_flights.specs.Full.{IsFull};
 ghost use Rattle.access_calls.specs.Issued.{kept_of, lines_before_kept};
 ghost use Rattle.access_calls.specs.Left.{IsLeft};
-ghost use Rattle.access_regs.specs.Plan.{settle, settled};
+ghost use Rattle.access_regs.specs.Plan.{settle, kept_after_settling};
 ghost use Rattle.access_regs.specs.Plans.{accesses_of};
 ghost use Rattle.target_calls.specs.declared.journal.Part.TheVariants.{Ends, Leads, Settles};
 ghost use Rattle.access_regs.specs.declared.planner.Planner.TheVariants.{Managed};
@@ -65,10 +65,10 @@ impl<F: Flights> Sender<F> {
         requires open { self.old.log.end ≡ None }
         ensures gives { Sends result (⟦<Self as Viewed>⟧.view self.old) (⟦<Self as Viewed>⟧.view self.new) (λ rest. rest) }
         ensures last { (m0 : BenchState) (rest front : List Entry) (e : Entry) (more : List Entry) → IsToIssue (⟦<Self as Viewed>⟧.view self.old) rest m0
-            → issued F.planner (target_of m0.probe) self.old.log.calls ≡ front ++ e ∷ more → length front + 1 ≡ length self.old.log.entries
+            → issued_entries F.planner (target_of m0.probe) self.old.log.calls ≡ front ++ e ∷ more → length front + 1 ≡ length self.old.log.entries
             → self.old.log.confirmed < length self.old.log.entries
             → OnOk result (unwrap_or (slot_at (F.values self.new.flights) (length self.old.log.entries - self.old.log.confirmed - 1)) 0
-            ≡ given (acted (target_after (target_of m0.probe) front) e.action).outcome) }
+            ≡ given_number (action_attempt (target_after (target_of m0.probe) front) e.action).outcome) }
         ensures full { (m0 : BenchState) (e : Entry) (rest : List Entry) (next : RegAccess) (points : ℕ) → IsToIssue (⟦<Self as Viewed>⟧.view self.old) (e ∷ rest) m0
             → e.action ≡ Makes next → SenderIsSparing (⟦<Self as Viewed>⟧.view self.old) points m0
             → (F.planner ≡ Managed → IsFull (F.limits self.old.flights) (F.accesses self.old.flights) next)
@@ -174,7 +174,7 @@ impl<F: Flights> Sender<F> {
         requires later { 0 < length (settle self.old.managed) → self.old.log.whole ≤ unit }
         ensures gives { Issues result (⟦<Self as Viewed>⟧.view self.old) (⟦<Self as Viewed>⟧.view self.new)
             (λ rest. strict_entries unit Settles (settle self.old.managed) ++ rest) }
-        ensures further { Further result (settled self.old.managed) (⟦<Self as Viewed>⟧.view self.old) (⟦<Self as Viewed>⟧.view self.new) }
+        ensures further { Further result (kept_after_settling self.old.managed) (⟦<Self as Viewed>⟧.view self.old) (⟦<Self as Viewed>⟧.view self.new) }
         ensures entries { OnOk result (length self.new.log.entries ≡ length self.old.log.entries + length (settle self.old.managed)) }
     {
         let plan = self.managed.settle();

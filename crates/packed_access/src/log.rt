@@ -2,7 +2,7 @@
 ghost use Rattle.std.specs.Prelude.{◌≡◌, ◌+◌, ◌-◌, ◌<◌, ◌≤◌, Some, None, length, take, slice_get, ◌^◌, ◌*◌, min, nat_lt, OnOk, OnErr};
 ghost use Rattle.target_machine.specs.Sound.{IsSoundCall};
 ghost use Rattle.target_calls.specs.Asks.{settled_last};
-ghost use Rattle.target_calls.specs.NeedPoints.{used};
+ghost use Rattle.target_calls.specs.NeedPoints.{asks_at_use};
 ghost use Rattle.access_calls.specs.Issued.{lines_before_kept};
 ghost use Rattle.access_calls.specs.declared.stop.Stop.TheVariants as Stop;
 ghost use Rattle.batch_packer.specs.FlightEnds.{IsShort};
@@ -265,7 +265,7 @@ impl CallLog {
 
     // The value of a slot is used: the result of its call where it is known, and else 0.
     pub(crate) fn use_slot(&mut self, slot: Slot) -> u64
-        ensures answer { Becomes self.new (with_asks self.old (used slot (asks_of self.old))) }
+        ensures answer { Becomes self.new (with_asks self.old (asks_at_use slot (asks_of self.old))) }
         ensures value { result ≡ result_at self.old slot.index }
         ensures bound { result < 2 ^ 32 }
     {

@@ -9,7 +9,7 @@ ghost use Rattle.target_calls.specs.declared.journal.Part.TheVariants.{Ends, Lea
 ghost use Rattle.target_calls.specs.NeedPoints.{capped_sum};
 ghost use Rattle.target_machine.specs.Counts.{one_if};
 ghost use Rattle.access_regs.specs.Journal.{by_csw, gives, port_of};
-ghost use Rattle.access_regs.specs.Plan.{cfg_plan, first_plan, last_access, leads, learned, learned_cfg, made, needs_cfg, needs_csw};
+ghost use Rattle.access_regs.specs.Plan.{cfg_plan, first_plan, last_access, leads, kept_after_csw, learned_cfg, kept_after_plan, needs_cfg, needs_csw};
 ghost use Rattle.bench_flights.specs.Flown.{IsSetTo};
 ghost use Rattle.packed_access.specs.Begun.{steps_left, strict_entries, target_issued};
 ghost use Rattle.packed_access.specs.Logs.{asks_of, most_entries, with_needs};
@@ -75,7 +75,7 @@ impl<F: Flights> Sender<F> {
         requires ready { CanIssue 2 (⟦<Self as Viewed>⟧.view self.old) }
         ensures gives { Reads result (⟦<Self as Viewed>⟧.view self.old) (⟦<Self as Viewed>⟧.view self.new)
             (λ rest. strict_entries (length self.old.log.calls) Leads (first_plan self.old.managed (port_of unit.now)) ++ rest)
-            (λ m0. learned self.old.managed (port_of unit.now)
+            (λ m0. kept_after_csw self.old.managed (port_of unit.now)
             (gives (target_issued F.planner self.old.log m0) (first_plan self.old.managed (port_of unit.now)))) }
         ensures spare { (m0 : BenchState) (rest : List Entry) (left : ℕ)
             → IsToIssue (⟦<Self as Viewed>⟧.view self.old) (strict_entries (length self.old.log.calls) Leads (first_plan self.old.managed (port_of unit.now)) ++ rest) m0
@@ -103,7 +103,7 @@ impl<F: Flights> Sender<F> {
         ensures gives { Issues result (⟦<Self as Viewed>⟧.view self.old) (⟦<Self as Viewed>⟧.view self.new)
             (λ rest. strict_entries (length self.old.log.calls) Leads (leads self.old.managed unit.now)
             ++ (strict_entries (length self.old.log.calls) Ends (last_access unit.now ∷ []) ++ rest)) }
-        ensures further { Further result (made self.old.managed unit.now) (⟦<Self as Viewed>⟧.view self.old) (⟦<Self as Viewed>⟧.view self.new) }
+        ensures further { Further result (kept_after_plan self.old.managed unit.now) (⟦<Self as Viewed>⟧.view self.old) (⟦<Self as Viewed>⟧.view self.new) }
         ensures entries { OnOk result (length self.new.log.entries ≤ length self.old.log.entries + 5) }
         ensures pending { OnOk result (self.new.log.confirmed < length self.new.log.entries) }
     {

@@ -1,6 +1,6 @@
 //! Polls of CTRL/STAT.
 ghost use Rattle.std.specs.Prelude.{◌≡◌, ◌<◌, ◌≤◌, ◌+◌, ◌-◌, [], ℕ, List, Option, None, true, length, if◌then◌else◌, IfErr, IfOk, OnOk};
-ghost use Rattle.target_machine.specs.Plain.{Polls, polled};
+ghost use Rattle.target_machine.specs.Plain.{Polls, poll_result};
 ghost use Rattle.target_machine.specs.Sound.{IsSound};
 ghost use Rattle.target_machine.specs.declared.unit.Unit.TheVariants as unit;
 ghost use Rattle.probe_core.specs.Bench.{BenchState, StepsTo};
@@ -52,7 +52,7 @@ fn make_poll<F: Flights>(
         → SendsFew (found.points - 1) m o) (F.state flights.old) (F.state flights.new)) }
     ensures some { IfOk result (λ found. 1 ≤ found.points) }
     ensures points { IfOk result (λ found. StepsTo (λ m o. CanFly m
-        → found.points ≡ 1 + (if zero then portions turns else (polled turns mask requested (target_of m.probe)).reads)) (F.state flights.old) (F.state flights.new)) }
+        → found.points ≡ 1 + (if zero then portions turns else (poll_result turns mask requested (target_of m.probe)).reads)) (F.state flights.old) (F.state flights.new)) }
     ensures left { IfErr result (λ end. StepsTo (λ m o. CanFly m → (zero ≡ true → CanMatch config.idle config.retry m)
         → LeftActionOff (Polls mask requested turns) end m o) (F.state flights.old) (F.state flights.new)) }
     ensures none { IfErr result NamesNoAccess }

@@ -14,7 +14,7 @@ ghost use Rattle.packed_access.specs.Forgiving.{AreNextAccesses, LeadsCame, with
 ghost use Rattle.packed_access.specs.Sparing.{WentFew};
 ghost use Rattle.batch_packer.specs.Flying.{CanFly};
 ghost use Rattle.packed_access.specs.Logs.{IsOfCall};
-ghost use Rattle.access_regs.specs.Kept.{Kept, selected};
+ghost use Rattle.access_regs.specs.Kept.{Kept, kept_with_select};
 ghost use Rattle.access_regs.specs.Plan.{select_value};
 ghost use Rattle.access_regs.specs.declared.planner.Planner.TheVariants.{Managed};
 ghost use Rattle.packed_access.specs.Gives.{TriesNext};
@@ -176,7 +176,7 @@ impl<F: Flights> Sender<F> {
         ensures tries { Tries result 3 (⟦<Self as Viewed>⟧.view self.old) (⟦<Self as Viewed>⟧.view self.new) }
         ensures packets { F.planner ≡ Managed → IfOk result (λ w. StepsTo (λ m o. CanFly m → WentFew w m o) (F.state self.old.flights) (F.state self.new.flights)) }
         ensures space { IfOk result (λ w. IfSome w (λ _. HasSpace (⟦<Self as Viewed>⟧.view self.new))) }
-        ensures managed { self.new.managed ≡ selected self.old.managed (select_value ap bank) }
+        ensures managed { self.new.managed ≡ kept_with_select self.old.managed (select_value ap bank) }
     {
         let write = select(ap, bank);
         self.managed.note_select(write.value);

@@ -50,16 +50,16 @@ unanswered_lines known [] = []
 unanswered_lines known (c ∷ commands) = command_lines known c None ++ unanswered_lines (after_command known c None) commands
 
 -- commands without a reply
-abbrev pub unanswered : KnownRegisters → List CommandValue → Bool → Said
-unanswered known commands good = record { text = unanswered_lines known commands; known = nothing_known; good = good }
+abbrev pub unanswered_words : KnownRegisters → List CommandValue → Bool → Said
+unanswered_words known commands good = record { text = unanswered_lines known commands; known = nothing_known; good = good }
 
 -- the line of a reply that is none: its fault, and the bytes in which the place counts
 unfoldable pub misanswer_line : MessageError → List ℕ → List ℕ
 misanswer_line fault bytes = codes "  no reply: " ++ message_fault_words fault ++ codes " of " ++ encode_lower bytes ++ codes "\n"
 
 -- commands of which these bytes are no reply, with the fault of the bytes
-abbrev pub misanswered : KnownRegisters → List CommandValue → MessageError → List ℕ → Said
-misanswered known commands fault bytes = record {
+abbrev pub misanswered_words : KnownRegisters → List CommandValue → MessageError → List ℕ → Said
+misanswered_words known commands fault bytes = record {
   text = misanswer_line fault bytes ++ unanswered_lines known commands;
   known = nothing_known;
   good = false;
@@ -76,7 +76,7 @@ commands_said known [] bytes = record { text = []; known = known; good = true }
 commands_said known (c ∷ commands) bytes =
     by_reply (reply_read c (take (own_bytes commands c bytes) bytes))
     (λ reply. after_text (command_lines known c (Some reply)) (commands_said (after_command known c (Some reply)) commands (drop (own_bytes commands c bytes) bytes)))
-    (λ fault. misanswered known (c ∷ commands) fault bytes)
+    (λ fault. misanswered_words known (c ∷ commands) fault bytes)
 
 -- ---- packets
 
@@ -106,7 +106,7 @@ head_fault kind count (id ∷ number ∷ bytes) = if is_head kind id then (if nu
 
 -- the reply to several commands: after its first two bytes their replies
 abbrev pub by_head : Option MessageError → KnownRegisters → List CommandValue → List ℕ → Said
-by_head (Some fault) known commands bytes = misanswered known commands fault bytes
+by_head (Some fault) known commands bytes = misanswered_words known commands fault bytes
 by_head None known commands bytes = commands_said known commands (drop 2 bytes)
 
 -- the reply to several commands
@@ -132,7 +132,7 @@ unreplied_line number p size =
 
 -- a packet of this number and size, with its reply where there is one
 abbrev pub packet_said : KnownRegisters → ℕ → ℕ → Packet → Option (List ℕ) → Said
-packet_said known number size p None = after_text (unreplied_line number p size) (unanswered known p.commands true)
+packet_said known number size p None = after_text (unreplied_line number p size) (unanswered_words known p.commands true)
 packet_said known number size p (Some reply) = after_text (replied_line number p size reply) (packet_answered p.kind known p.commands reply)
 
 -- the line of what is no packet

@@ -40,12 +40,12 @@ fate_of_read None = fates.NoWord
 fate_of_read (Some word) = fates.Gave word
 
 -- what became of a request that was executed
-abbrev pub executed : Request → List ℕ → Fate
-executed r words = if gives_word (kind r) then fate_of_read (first_read_word words) else fates.Done
+abbrev pub executed_fate : Request → List ℕ → Fate
+executed_fate r words = if gives_word (kind r) then fate_of_read (first_read_word words) else fates.Done
 
 -- what became of the first request that is left
 unfoldable pub fate_of : RequestsLeft → Request → Fate
-fate_of left r = if left.read then (if left.done == 0 then fates.Skipped else executed r left.words) else fates.NotKnown
+fate_of left r = if left.read then (if left.done == 0 then fates.Skipped else executed_fate r left.words) else fates.NotKnown
 
 -- the words that are left after it
 abbrev pub words_after : RequestsLeft → Request → List ℕ

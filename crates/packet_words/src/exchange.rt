@@ -4,7 +4,7 @@ ghost use Rattle.std.specs.Option.{option_copied};
 ghost use Rattle.dap_messages.specs.PacketReading.{packet_read};
 ghost use Rattle.register_words.specs.Known.{nothing_known};
 ghost use Rattle.packet_words.specs.Saying.{AddsSaid, SaysAll};
-ghost use Rattle.packet_words.specs.Exchange.{unanswered_lines, misanswer_line, misanswered, commands_said, kind_words, head_words, is_head};
+ghost use Rattle.packet_words.specs.Exchange.{unanswered_lines, misanswer_line, misanswered_words, commands_said, kind_words, head_words, is_head};
 ghost use Rattle.packet_words.specs.Exchange.{head_fault, all_answered, packet_answered, replied_line, unreplied_line, packet_said};
 ghost use Rattle.packet_words.specs.Exchange.{no_packet_line, no_packet, said_of, reply_line, trace_lines, exchange};
 
@@ -69,7 +69,7 @@ fn with_misanswered(
     fault: MessageError,
     bytes: &[u8],
 ) -> Result<Said, OutOfMemory>
-    ensures { IfOk result (λ s. AddsSaid line (misanswered known.old commands.now fault bytes.now) s known.new) }
+    ensures { IfOk result (λ s. AddsSaid line (misanswered_words known.old commands.now fault bytes.now) s known.new) }
 {
     let line = with_misanswer(alloc, line, fault, bytes)?;
     let line = with_unanswered(alloc, line, known, commands)?;
@@ -89,7 +89,7 @@ fn with_misanswered_first(
     fault: MessageError,
     bytes: &[u8],
 ) -> Result<Said, OutOfMemory>
-    ensures { IfOk result (λ s. AddsSaid line (misanswered known.old (command.now ∷ later.now) fault bytes.now) s known.new) }
+    ensures { IfOk result (λ s. AddsSaid line (misanswered_words known.old (command.now ∷ later.now) fault bytes.now) s known.new) }
 {
     let line = with_misanswer(alloc, line, fault, bytes)?;
     let line = with_command(alloc, line, known, command, &None)?;

@@ -3,7 +3,7 @@ ghost use Rattle.std.specs.Prelude.{◌≡◌};
 ghost use Rattle.dap_messages.specs.Words.{words_in};
 ghost use Rattle.dap_messages.specs.Requests.{kind_of};
 ghost use Rattle.register_words.specs.Registers.{register_of};
-ghost use Rattle.packet_words.specs.Requests.{first_read_word, words_after_first, fate_of_read, executed, fate_of, left_after_request, after_done, after_request};
+ghost use Rattle.packet_words.specs.Requests.{first_read_word, words_after_first, fate_of_read, executed_fate, fate_of, left_after_request, after_done, after_request};
 
 use dap_messages::{Request, RequestKind};
 use register_words::{KnownRegisters, register_of};
@@ -66,7 +66,7 @@ fn other_words(bytes: &[u8]) -> &[u8]
 
 // What became of a request that was executed.
 fn fate_of_executed(request: Request, words: &[u8]) -> Fate
-    ensures { result ≡ executed request (words_in words.now) }
+    ensures { result ≡ executed_fate request (words_in words.now) }
 {
     if !request.is_read() {
         return Fate::Done;

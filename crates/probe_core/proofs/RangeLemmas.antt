@@ -1,6 +1,6 @@
 -- What a bench reports stays in range.
 use Rattle.std.proofs.Common.{◌≡◌, ℕ, ◌+◌, ◌^◌, ◌<◌, ◌==◌, Bool, true, false, cond, if◌then◌else◌, List, [], ◌∷◌, ◌++◌, length, length-append, refl, ap, ◌∙◌, arith}
-use Rattle.probe_core.specs.Bench.{CanSend, Exchange, Reported, counted_up, last_with, loaded, received, sent}
+use Rattle.probe_core.specs.Bench.{CanSend, Exchange, Reported, counted_up, last_with, reported_after_load, reported_after_reply, reported_after_packet}
 use Rattle.probe_core.specs.Probe.{is_queued}
 use Rattle.probe_core.specs.Ranges.{AreLimits, IsBenchJob}
 use Rattle.probe_core.specs.Reports.{AreInRange, IsInRange}
@@ -46,7 +46,7 @@ in_range_as false limits held waiting exchanges last range few none room packets
   few_exchanges = few_exchanges;
 }
 
-pub loaded_in_range : (r : Reported) (job : BenchJob) → IsBenchJob job → r.exchanges < 2 ^ 64 → IsInRange (loaded r job)
+pub loaded_in_range : (r : Reported) (job : BenchJob) → IsBenchJob job → r.exchanges < 2 ^ 64 → IsInRange (reported_after_load r job)
 loaded_in_range r job range few_exchanges = record {
   limits_in_range = range.limits;
   few_held = (let low = range.limits.count_low in omega (arith, low));
@@ -65,12 +65,12 @@ few_as : (z : Bool) (n : ℕ) → n < 2 ^ 64 → cond z (counted_up n) n < 2 ^ 6
 few_as true n few = omega arith
 few_as false n few = few
 
-pub sent_in_range : (r : Reported) (packet : List ℕ) → CanSend r packet → IsInRange r → IsInRange (sent r packet)
+pub sent_in_range : (r : Reported) (packet : List ℕ) → CanSend r packet → IsInRange r → IsInRange (reported_after_packet r packet)
 sent_in_range r packet can range =
     in_range_as (is_queued packet) r.limits r.held r.waiting (exchanges_with r) (last_with r packet) range.limits_in_range range.few_held can.none_waits can.room
     (packets_as (r.held == 0) r packet refl range) (replies_as (r.held == 0) r packet refl range) (few_as (r.held == 0) r.exchanges range.few_exchanges)
 
-pub received_in_range : (r : Reported) (reply : List ℕ) → 0 < r.waiting → IsInRange r → IsInRange (received r reply)
+pub received_in_range : (r : Reported) (reply : List ℕ) → 0 < r.waiting → IsInRange r → IsInRange (reported_after_reply r reply)
 received_in_range r reply waits range = record {
   limits_in_range = range.limits_in_range;
   few_held = range.few_held;

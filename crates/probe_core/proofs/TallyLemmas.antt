@@ -1,13 +1,14 @@
 -- When a log is kept whole: of all its entries, and of the packets and replies of a bench.
 use Rattle.std.proofs.Common.{◌≡◌, ◌↔◌, ℕ, zero, suc, ◌+◌, ◌-◌, ◌*◌, ◌^◌, ◌<◌, ◌≤◌, min, nat_le, Bool, true, false, cond, ◌&&◌, List, [], ◌∷◌, ◌++◌, length, take, slice_get, Some, refl, sym, ap, subst, ◌∙◌, arith, length-append}
+use Rattle.dap_base.proofs.Basics.{first_true}
 use Rattle.std.proofs.Math.Nat.{mul-suc, suc-mul}
 use Rattle.std.proofs.lemmas.Nat.{mul-le}
 use Rattle.std.proofs.lemmas.List.{length-drop}
 use Rattle.std.proofs.lemmas.Bool.{both_ways}
 use Rattle.std.proofs.lemmas.Grind.{common_steps}
 use Rattle.probe_core.specs.Bench.{BenchState, counted_up}
-use Rattle.probe_core.specs.Log.{Entry, IsCountedLog, IsLongestFront, IsMeasuredLog, Log, empty_log, keeps, logged, logged_all, packet_entry, reply_entry, size_of, total_size}
-use Rattle.probe_core.specs.Packet.{accepted}
+use Rattle.probe_core.specs.Log.{Entry, IsCountedLog, IsLongestFront, IsMeasuredLog, Log, empty_log, keeps, log_with, logged_all, packet_entry, reply_entry, size_of, total_size}
+use Rattle.probe_core.specs.Packet.{probe_after_packet}
 use Rattle.probe_core.specs.Probe.{ProbeState, is_queued}
 use Rattle.probe_core.specs.Ranges.{AreLimits}
 use Rattle.probe_core.specs.Reports.{AreTallied, IsTallied}
@@ -22,10 +23,10 @@ more_as : (k b : Bool) (kept : List Entry) (e : Entry) → k ≡ b → cond k (k
 more_as k b kept e is = ap (λ (b : Bool). cond b (kept ++ e ∷ []) kept) is
 
 -- a log that kept an entry
-kept_more : (log : Log) (e : Entry) → keeps log e ≡ true → (logged log e).kept ≡ log.kept ++ e ∷ []
+kept_more : (log : Log) (e : Entry) → keeps log e ≡ true → (log_with log e).kept ≡ log.kept ++ e ∷ []
 kept_more log e k = more_as (keeps log e) true log.kept e k
 
-kept_same : (log : Log) (e : Entry) → keeps log e ≡ false → (logged log e).kept ≡ log.kept
+kept_same : (log : Log) (e : Entry) → keeps log e ≡ false → (log_with log e).kept ≡ log.kept
 kept_same log e k = more_as (keeps log e) false log.kept e k
 
 -- an entry that is not kept by a whole log does not fit
@@ -36,10 +37,7 @@ too_big log e whole k = by (nat_le (total_size log.kept + size_of e) log.room) r
   by false is other = grind (arith, common_steps, is)
 
 was_whole : (log : Log) (e : Entry) → keeps log e ≡ true → log.whole ≡ true
-was_whole log e k = by log.whole (nat_le (total_size log.kept + size_of e) log.room) k where
-  by : (w fits : Bool) → (w && fits) ≡ true → w ≡ true
-  by true fits e = refl
-  by false fits e = e
+was_whole log e k = first_true log.whole (nat_le (total_size log.kept + size_of e) log.room) k
 
 -- an entry that fits is kept by a whole log
 fits_keeps : (log : Log) (e : Entry) → log.whole ≡ true → total_size log.kept + size_of e ≤ log.room → keeps log e ≡ true
@@ -53,18 +51,18 @@ fits_keeps log e whole fits = by (keeps log e) refl where
 -- a log is whole only where it was
 all_was_whole : (es : List Entry) (log : Log) → (logged_all log es).whole ≡ true → log.whole ≡ true
 all_was_whole [] log whole = whole
-all_was_whole (e ∷ es) log whole = was_whole log e (all_was_whole es (logged log e) whole)
+all_was_whole (e ∷ es) log whole = was_whole log e (all_was_whole es (log_with log e) whole)
 
-size_more : (log : Log) (e : Entry) → keeps log e ≡ true → total_size (logged log e).kept ≡ total_size log.kept + size_of e
+size_more : (log : Log) (e : Entry) → keeps log e ≡ true → total_size (log_with log e).kept ≡ total_size log.kept + size_of e
 size_more log e k = ap total_size (kept_more log e k) ∙ total_size-append log.kept e
 
 whole_fits : (es : List Entry) (log : Log) → total_size log.kept ≤ log.room → (logged_all log es).whole ≡ true → total_size log.kept + total_size es ≤ log.room
 whole_fits [] log fits whole = omega (arith, fits)
 whole_fits (e ∷ es) log fits whole =
-    let k = all_was_whole es (logged log e) whole in
+    let k = all_was_whole es (log_with log e) whole in
     let more = size_more log e k in
     let here = kept_fits log e k in
-    let rest = whole_fits es (logged log e) (omega (arith, more, here)) whole in
+    let rest = whole_fits es (log_with log e) (omega (arith, more, here)) whole in
     omega (arith, more, rest)
 
 fits_whole : (es : List Entry) (log : Log) → log.whole ≡ true → total_size log.kept + total_size es ≤ log.room → (logged_all log es).whole ≡ true
@@ -72,14 +70,14 @@ fits_whole [] log whole fits = whole
 fits_whole (e ∷ es) log whole fits =
     let k = fits_keeps log e whole (omega (arith, fits)) in
     let more = size_more log e k in
-    fits_whole es (logged log e) k (omega (arith, more, fits))
+    fits_whole es (log_with log e) k (omega (arith, more, fits))
 
 -- once an entry was not kept, none is
 none_kept : (es : List Entry) (log : Log) → log.whole ≡ false → (logged_all log es).kept ≡ log.kept
 none_kept [] log cut = refl
 none_kept (e ∷ es) log cut =
     let k : keeps log e ≡ false = ap (λ (w : Bool). w && nat_le (total_size log.kept + size_of e) log.room) cut in
-    none_kept es (logged log e) k ∙ kept_same log e k
+    none_kept es (log_with log e) k ∙ kept_same log e k
 
 -- what is kept of further entries
 record KeepsFront (log : Log) (es : List Entry) : Type 0 where
@@ -108,8 +106,8 @@ keeps_front [] log whole fits = record {
   fits = omega (arith, fits);
   longest = λ less. absurd (omega (arith, less));
 }
-keeps_front (e ∷ es) log whole fits = by (keeps log e) refl (keeps_front es (logged log e)) where
-  by : (b : Bool) → keeps log e ≡ b → ((logged log e).whole ≡ true → total_size (logged log e).kept ≤ log.room → KeepsFront (logged log e) es) → KeepsFront log (e ∷ es)
+keeps_front (e ∷ es) log whole fits = by (keeps log e) refl (keeps_front es (log_with log e)) where
+  by : (b : Bool) → keeps log e ≡ b → ((log_with log e).whole ≡ true → total_size (log_with log e).kept ≤ log.room → KeepsFront (log_with log e) es) → KeepsFront log (e ∷ es)
   by true k go =
       let more = size_more log e k in
       let here = kept_fits log e k in
@@ -125,7 +123,7 @@ keeps_front (e ∷ es) log whole fits = by (keeps log e) refl (keeps_front es (l
       }
   by false k go = record {
     front = [];
-    kept = none_kept es (logged log e) k ∙ kept_same log e k ∙ sym (append_nil log.kept);
+    kept = none_kept es (log_with log e) k ∙ kept_same log e k ∙ sym (append_nil log.kept);
     part = refl;
     fits = omega (arith, fits);
     longest = λ less. let over = too_big log e whole k in omega (arith, over);
@@ -181,7 +179,7 @@ le_of a b k le = mul-le a k b k le (omega arith)
 few_kept : (log : Log) → IsCountedLog log → 3 * length log.kept ≤ 1048576
 few_kept log c = let each = size_of_each log.kept in let fits = c.fits in let room = c.room in omega (arith, each, fits, room)
 
-measured_by : (most : ℕ) (log : Log) (e : Entry) (k : Bool) → keeps log e ≡ k → IsCountedLog log → IsMeasuredLog most log → length e.bytes ≤ most → IsMeasuredLog most (logged log e)
+measured_by : (most : ℕ) (log : Log) (e : Entry) (k : Bool) → keeps log e ≡ k → IsCountedLog log → IsMeasuredLog most log → length e.bytes ≤ most → IsMeasuredLog most (log_with log e)
 measured_by most log e true k c m size =
     let whole = was_whole log e k in
     let all = m.all whole in
@@ -191,15 +189,15 @@ measured_by most log e true k c m size =
     let total = m.size whole in
     let product = one_more_of log.count (most + 3) in record {
       all = λ _. ap length (kept_more log e k) ∙ length-append log.kept (e ∷ []) ∙ (let sum : length log.kept + 1 ≡ log.count + 1 = omega (arith, all) in sum) ∙ sym count;
-      size = λ _. subst (λ (n : ℕ). total_size (logged log e).kept ≤ n * (most + 3)) (sym count) (omega (arith, more, total, product, size));
+      size = λ _. subst (λ (n : ℕ). total_size (log_with log e).kept ≤ n * (most + 3)) (sym count) (omega (arith, more, total, product, size));
       lacks = λ cut. absurd (both_ways (keeps log e) cut k);
       over = λ cut. absurd (both_ways (keeps log e) cut k);
     }
 measured_by most log e false k c m size = by log.whole refl where
-  same : length (logged log e).kept ≡ length log.kept
+  same : length (log_with log e).kept ≡ length log.kept
   same = ap length (kept_same log e k)
 
-  by : (w : Bool) → log.whole ≡ w → IsMeasuredLog most (logged log e)
+  by : (w : Bool) → log.whole ≡ w → IsMeasuredLog most (log_with log e)
   by true whole =
       let all = m.all whole in
       let few = few_kept log c in
@@ -224,7 +222,7 @@ measured_by most log e false k c m size = by log.whole refl where
         over = λ _. omega (arith, over, product);
       }
 
-measured : (most : ℕ) (log after : Log) (e : Entry) → after ≡ logged log e → IsCountedLog log → IsMeasuredLog most log → length e.bytes ≤ most → IsMeasuredLog most after
+measured : (most : ℕ) (log after : Log) (e : Entry) → after ≡ log_with log e → IsCountedLog log → IsMeasuredLog most log → length e.bytes ≤ most → IsMeasuredLog most after
 measured most log after e is c m size = subst (λ (l : Log). IsMeasuredLog most l) (sym is) (measured_by most log e (keeps log e) refl c m size)
 
 -- ---- how many entries exchanges have
@@ -266,10 +264,10 @@ packet_by false p packet starting log range room none c few = few_answered log.c
 -- the same where the parts are those of a probe after the packet
 pub tallied_packet : (p q : ProbeState) (packet : List ℕ) (starting next : ℕ) (queued : Bool) (log after : Log) → AreLimits p.executor.limits → length p.held < p.executor.limits.packet_count
     → length p.waiting ≡ 0 → length packet ≤ p.executor.limits.packet_size → IsCountedLog log → AreTallied p.executor.limits (length p.held) (length p.waiting) starting log
-    → q ≡ accepted p packet → next ≡ cond queued starting (counted_up starting) → queued ≡ is_queued packet → after ≡ logged log (packet_entry packet)
+    → q ≡ probe_after_packet p packet → next ≡ cond queued starting (counted_up starting) → queued ≡ is_queued packet → after ≡ log_with log (packet_entry packet)
     → AreTallied q.executor.limits (length q.held) (length q.waiting) next after
 tallied_packet p q packet starting next queued log after range room none size c t is_q is_next is_queue is_log =
-    rw is_q (subst (λ (l : Limits). AreTallied l (length (accepted p packet).held) (length (accepted p packet).waiting) next after) (sym (limits_as (is_queued packet) p packet)) (record {
+    rw is_q (subst (λ (l : Limits). AreTallied l (length (probe_after_packet p packet).held) (length (probe_after_packet p packet).waiting) next after) (sym (limits_as (is_queued packet) p packet)) (record {
       measured = measured p.executor.limits.packet_size log after (packet_entry packet) is_log c t.measured size;
       few =
           rw (is_log, is_next, is_queue, held_as (is_queued packet) p packet, waiting_as (is_queued packet) p packet none)
@@ -278,7 +276,7 @@ tallied_packet p q packet starting next queued log after range room none size c 
 
 -- the same after a reply
 pub tallied_reply : (p q : ProbeState) (reply : List ℕ) (starting : ℕ) (log after : Log) → length reply ≤ p.executor.limits.packet_size → slice_get p.waiting 0 ≡ Some reply
-    → IsCountedLog log → AreTallied p.executor.limits (length p.held) (length p.waiting) starting log → q ≡ without_oldest p → after ≡ logged log (reply_entry reply)
+    → IsCountedLog log → AreTallied p.executor.limits (length p.held) (length p.waiting) starting log → q ≡ without_oldest p → after ≡ log_with log (reply_entry reply)
     → AreTallied q.executor.limits (length q.held) (length q.waiting) starting after
 tallied_reply p q reply starting log after size at c t is_q is_log =
     rw is_q (record {

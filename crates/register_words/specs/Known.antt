@@ -44,19 +44,19 @@ moved_by tar None = None
 moved_by tar (Some size) = tar_after tar size
 
 -- TAR after an access, by CSW.AddrInc: the same where it is off, moved where it is single; else not known
-unfoldable pub stepped : ℕ → ℕ → Option ℕ
-stepped csw tar =
+unfoldable pub stepped_tar : ℕ → ℕ → Option ℕ
+stepped_tar csw tar =
     if bit_and csw csw_addrinc == 0 then Some tar else
     if bit_and csw csw_addrinc == addrinc_single then moved_by tar (bytes_of (bit_and csw csw_size)) else None
 
 -- the same where CSW or TAR may not be known
 abbrev pub known_next_tar : Option ℕ → Option ℕ → Option ℕ
-known_next_tar (Some csw) (Some tar) = stepped csw tar
+known_next_tar (Some csw) (Some tar) = stepped_tar csw tar
 known_next_tar csw tar = None
 
 -- a port after one access of DRW
-abbrev pub accessed : KnownPort → KnownPort
-accessed port = record port { tar = known_next_tar port.csw port.tar }
+abbrev pub accessed_port : KnownPort → KnownPort
+accessed_port port = record port { tar = known_next_tar port.csw port.tar }
 
 -- TAR after several accesses whose number is not known: the same where AddrInc is off
 abbrev pub kept_tar : Option ℕ → Option ℕ → Option ℕ
@@ -70,14 +70,14 @@ unfoldable pub port_written : KnownPort → ℕ → ℕ → KnownPort
 port_written port register word =
     if register == csw_register then record port { csw = Some word } else
     if register == tar_register then record port { tar = Some word } else
-    if register == drw_register then accessed port else port
+    if register == drw_register then accessed_port port else port
 
 -- a port after a read of this register, whose value came or not
 unfoldable pub port_read : KnownPort → ℕ → Option ℕ → KnownPort
 port_read port register value =
     if register == csw_register then record port { csw = value } else
     if register == tar_register then record port { tar = value } else
-    if register == drw_register then accessed port else port
+    if register == drw_register then accessed_port port else port
 
 -- a port after a read that was repeated until its value matched
 unfoldable pub port_matched : KnownPort → ℕ → KnownPort

@@ -17,15 +17,15 @@ in_bank bank =
     if bank == 4 then at.Eventstat else at.Banked
 
 -- the same where SELECT may not be known
-abbrev pub banked : Option ℕ → Register
-banked None = at.Banked
-banked (Some select) = in_bank (bit_and select dpbanksel)
+abbrev pub register_in_bank : Option ℕ → Register
+register_in_bank None = at.Banked
+register_in_bank (Some select) = in_bank (bit_and select dpbanksel)
 
 -- a register of the debug port, by SELECT, whether it is read, and its address
 unfoldable pub selected_dp_register : Option ℕ → Bool → ℕ → Register
 selected_dp_register select read addr =
     if addr == 0x0 then (if read then at.Dpidr else at.Abort) else
-    if addr == 0x4 then banked select else
+    if addr == 0x4 then register_in_bank select else
     if addr == 0x8 then (if read then at.Resend else at.Select) else
     (if read then at.Rdbuff else at.Targetsel)
 

@@ -1,7 +1,7 @@
 //! What is known of SELECT, and of CSW and TAR of each access port.
 ghost use Rattle.std.specs.Prelude.{◌≡◌, ◌⊎◌, Option, bit_and};
 ghost use Rattle.target_machine.specs.Registers.{csw_size};
-ghost use Rattle.register_words.specs.Known.{unknown_port, nothing_known, unknown_ports, port_at, known_with_port, tar_after, bytes_of, moved_by, stepped, known_next_tar, accessed, kept_tar, port_written, port_read, port_matched, after_abort, after_write, after_read, after_match};
+ghost use Rattle.register_words.specs.Known.{unknown_port, nothing_known, unknown_ports, port_at, known_with_port, tar_after, bytes_of, moved_by, stepped_tar, known_next_tar, accessed_port, kept_tar, port_written, port_read, port_matched, after_abort, after_write, after_read, after_match};
 
 use crate::register::Register;
 use target_machine::registers::{ADDRINC_SINGLE, CSW, CSW_ADDRINC, CSW_SIZE, DRW, TAR};
@@ -49,9 +49,9 @@ fn moved_by(tar: u32, csw: u32) -> Option<u32>
     }
 }
 
-#[tactic(auto, unfolding(crate::specs::Known::stepped))]
+#[tactic(auto, unfolding(crate::specs::Known::stepped_tar))]
 fn step_tar(csw: u32, tar: u32) -> Option<u32>
-    ensures { result ≡ stepped csw tar }
+    ensures { result ≡ stepped_tar csw tar }
 {
     match csw & CSW_ADDRINC {
         0 => Some(tar),
@@ -63,7 +63,7 @@ fn step_tar(csw: u32, tar: u32) -> Option<u32>
 impl KnownPort {
     // One access of DRW.
     fn after_access(self) -> KnownPort
-        ensures { result ≡ accessed self }
+        ensures { result ≡ accessed_port self }
     {
         let tar = match (self.csw, self.tar) {
             (Some(csw), Some(tar)) => step_tar(csw, tar),

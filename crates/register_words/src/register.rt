@@ -1,6 +1,6 @@
 //! The register that a request accesses, and its name.
 ghost use Rattle.std.specs.Prelude.{◌≡◌, ◌<◌, ◌++◌, Option, IfOk, codes};
-ghost use Rattle.register_words.specs.Registers.{in_bank, banked, selected_dp_register, apsel, selected_ap_register, register_of, ap_name, register_name};
+ghost use Rattle.register_words.specs.Registers.{in_bank, register_in_bank, selected_dp_register, apsel, selected_ap_register, register_of, ap_name, register_name};
 
 use dap_base::OutOfMemory;
 use dap_messages::{ADDRESS_BITS, APNDP, RNW};
@@ -55,7 +55,7 @@ fn in_bank(bank: u32) -> Register
 }
 
 fn banked_register(select: Option<u32>) -> Register
-    ensures { result ≡ banked select }
+    ensures { result ≡ register_in_bank select }
 {
     match select {
         Some(select) => in_bank(select & DPBANKSEL),

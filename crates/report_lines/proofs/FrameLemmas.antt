@@ -5,7 +5,7 @@ use Rattle.std.proofs.KnownBytes.{Appends-trans, Appends-nil}
 use Rattle.std.specs.Io.KnownBytes.{Appends}
 use Rattle.dap_base.specs.Streams.{AppendsPrefix, PutAppends}
 use Rattle.dap_base.proofs.Known.{whole_put}
-use Rattle.probe_core.specs.Bench.{BenchState, Reported, seen}
+use Rattle.probe_core.specs.Bench.{BenchState, Reported, seen_bench}
 use Rattle.text_lines.specs.Causes.{NamesFault}
 use Rattle.text_lines.proofs.PutLemmas.{prefix_first, put_after}
 use Rattle.report_lines.specs.declared.put.TextEnd.{TextEnd}
@@ -125,7 +125,7 @@ module _ {B : Type 0} (reported : B → Reported) (state : B → Option BenchSta
   bench_none a = record { same = record { reported = refl; state = refl }; same_bench = refl }
 
   -- a bench as what shows its target
-  pub bench_viewed : (a b : B) → IsViewedAsBefore (bench_view (seen reported state a) (identity a)) (bench_view (seen reported state b) (identity b)) → KeepsBench reported state identity a b
+  pub bench_viewed : (a b : B) → IsViewedAsBefore (bench_view (seen_bench reported state a) (identity a)) (bench_view (seen_bench reported state b) (identity b)) → KeepsBench reported state identity a b
   bench_viewed a b h = record { same = h.bench; same_bench = h.identity }
 
 pub viewed_none : (a : View) → IsViewedAsBefore a a

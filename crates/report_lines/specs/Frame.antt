@@ -3,7 +3,7 @@ use Rattle.std.specs.Prelude.{◌≡◌, ◌≢◌, ℕ, List, ◌++◌, Option,
 use Rattle.std.specs.Io.KnownBytes.{Appends}
 use Rattle.dap_base.specs.Streams.{PutAppends}
 use Rattle.target_machine.specs.State.{TargetState}
-use Rattle.probe_core.specs.Bench.{BenchState, IsAsBefore, Reported, seen}
+use Rattle.probe_core.specs.Bench.{BenchState, IsAsBefore, Reported, seen_bench}
 use Rattle.text_lines.specs.Causes.{NamesFault}
 use Rattle.report_lines.specs.Views.{IsViewedAsBefore, View}
 use Rattle.report_lines.specs.declared.put.TextEnd.{TextEnd}
@@ -21,7 +21,7 @@ pub record PutsFirst {E : Type 0} (lines : List ℕ) (old new : Option (List ℕ
 
 -- A call keeps its bench: all is as it was except the count of faults, and it is the same loan.
 pub record KeepsBench {B : Type 0} (reported : B → Reported) (state : B → Option BenchState) (identity : B → ℕ) (old new : B) : Type 0 where
-  pub same : IsAsBefore (seen reported state old) (seen reported state new)
+  pub same : IsAsBefore (seen_bench reported state old) (seen_bench reported state new)
   pub same_bench : identity new ≡ identity old
 
 -- How a call ends that asks no bench. What the sink held stays in front, and no answer says that a bench failed. The sink's count of faults rose

@@ -1,7 +1,7 @@
 -- The lines of a target, as its images show it.
 use Rattle.std.specs.Prelude.{ℕ, zero, suc, ◌+◌, ◌*◌, ◌^◌, ◌==◌, ◌≤◌, List, [], ◌++◌, if◌then◌else◌}
 use Rattle.std.specs.List.{flat_map, list_any}
-use Rattle.target_machine.specs.Image.{shown}
+use Rattle.target_machine.specs.Image.{image_part}
 use Rattle.target_machine.specs.State.{TargetState}
 use Rattle.target_machine.specs.declared.image.ImageAsk.{ImageAsk}
 use Rattle.target_machine.specs.declared.image.ImageAsk.TheVariants as ask
@@ -21,7 +21,7 @@ part_line asked other = []
 
 -- the line of what a target shows
 unfoldable pub shown_line : TargetState → ImageAsk → List ℕ
-shown_line t asked = part_line asked (shown t asked)
+shown_line t asked = part_line asked (image_part t asked)
 
 -- the lines of the numbers below one
 abbrev pub lines_below : (ℕ → List ℕ) → ℕ → List ℕ

@@ -7,9 +7,9 @@ use Rattle.std.proofs.Math.Seq.{take-append-add}
 use Rattle.target_calls.specs.declared.calls.Ask.{Ask}
 use Rattle.sequels.specs.Sequel.{Sequel, Ends, Writes, followed_by, written_and_end}
 use Rattle.sequels.proofs.SequelLemmas.{answered_after}
-use Rattle.rom_scan.specs.Components.{base_ask, by_words, component_at, component_line, identified, is_component, is_no_base, is_table, known_as, named_by, page, unknown_at, word_ask, words_sequel}
+use Rattle.rom_scan.specs.Components.{base_ask, by_words, component_at, component_line, identified_component, is_component, is_no_base, is_table, known_as, named_by, page, unknown_at, word_ask, words_sequel}
 use Rattle.rom_scan.specs.Listing.{ListsComponents, component_lines, component_of, components_by, listed_within, row_of_words, with_component, with_entries}
-use Rattle.rom_scan.specs.Walk.{Walked, Listed, Full, component, entries, entry, is_listed, on, on_listed, visited}
+use Rattle.rom_scan.specs.Walk.{Walked, Listed, Full, component, entries, entry, is_listed, on, on_listed, visited_component}
 use Rattle.rom_scan.specs.declared.component.Component.{Component}
 
 -- ---- a list only grows
@@ -145,7 +145,7 @@ module _ (f : Ask → ℕ) (most : ℕ) where
     words_are (suc n) address read =
         words_are n (address + 4) (read ++ word address ∷ []) ∙ ap (λ (l : List ℕ). ([], l)) (append_assoc read (word address ∷ []) (row_of_words word n (address + 4)))
 
-    identified_is : (address depth : ℕ) (cidr : List ℕ) → written_and_end f (identified ap_ address depth cidr) ≡ ([], known_as address depth cidr (row_of_words word 1 (address + 0xFD0)) (row_of_words word 4 (address + 0xFE0)))
+    identified_is : (address depth : ℕ) (cidr : List ℕ) → written_and_end f (identified_component ap_ address depth cidr) ≡ ([], known_as address depth cidr (row_of_words word 1 (address + 0xFD0)) (row_of_words word 4 (address + 0xFE0)))
     identified_is address depth cidr =
         silent (words_sequel ap_ 1 (address + 0xFD0) []) (λ fourth. followed_by (words_sequel ap_ 4 (address + 0xFE0) []) (λ first. Ends (known_as address depth cidr fourth first))) (row_of_words word 1 (address + 0xFD0)) (words_are 1 (address + 0xFD0) [])
         ∙ silent (words_sequel ap_ 4 (address + 0xFE0) []) (λ first. Ends (known_as address depth cidr (row_of_words word 1 (address + 0xFD0)) first)) (row_of_words word 4 (address + 0xFE0)) (words_are 4 (address + 0xFE0) [])
@@ -156,7 +156,7 @@ module _ (f : Ask → ℕ) (most : ℕ) where
         silent (words_sequel ap_ 4 (address + 0xFF0) []) (λ cidr. by_words ap_ address depth cidr) (row_of_words word 4 (address + 0xFF0)) (words_are 4 (address + 0xFF0) [])
         ∙ one (is_component (row_of_words word 4 (address + 0xFF0)))
       where
-        one : (b : Bool) → written_and_end f (cond b (identified ap_ address depth (row_of_words word 4 (address + 0xFF0))) (Ends (unknown_at address depth)))
+        one : (b : Bool) → written_and_end f (cond b (identified_component ap_ address depth (row_of_words word 4 (address + 0xFF0))) (Ends (unknown_at address depth)))
             ≡ ([], cond b (known_as address depth (row_of_words word 4 (address + 0xFF0)) (row_of_words word 1 (address + 0xFD0)) (row_of_words word 4 (address + 0xFE0))) (unknown_at address depth))
         one true = identified_is address depth (row_of_words word 4 (address + 0xFF0))
         one false = refl
@@ -165,7 +165,7 @@ module _ (f : Ask → ℕ) (most : ℕ) where
     goes_visiting : (depth address : ℕ) (listed all : List Component) (inside : Component → List Component → Sequel Walked) → length listed ≤ most
         → Adds (listed ++ component_of word address depth ∷ []) all
         → (length (listed ++ component_of word address depth ∷ []) ≤ most → Goes f most (inside (component_of word address depth) (listed ++ component_of word address depth ∷ [])) (listed ++ component_of word address depth ∷ []) all)
-        → Goes f most (visited most ap_ depth address listed inside) listed all
+        → Goes f most (visited_component most ap_ depth address listed inside) listed all
     goes_visiting depth address listed all inside le grows rest = one (nat_lt (length listed) most) refl
       where
         c : Component

@@ -3,9 +3,9 @@ use Rattle.std.proofs.Common.{◌≡◌, ℕ, zero, suc, ◌+◌, ◌-◌, ◌*�
 use Rattle.target_calls.specs.declared.calls.Ask.{Ask}
 use Rattle.sequels.specs.Sequel.{Sequel, Asks, Ends, Writes, followed_by}
 use Rattle.sequels.specs.Steady.{OnlyAsks}
-use Rattle.rom_scan.specs.Components.{by_words, component_at, component_line, identified, is_component, is_no_base, is_table, known_as, named_by, page, unknown_at, word_ask}
+use Rattle.rom_scan.specs.Components.{by_words, component_at, component_line, identified_component, is_component, is_no_base, is_table, known_as, named_by, page, unknown_at, word_ask}
 use Rattle.rom_scan.specs.Components.{words_sequel as words_from}
-use Rattle.rom_scan.specs.Walk.{Walked, Listed, Full, components_below, component, entries, entry, is_listed, on, on_listed, visited}
+use Rattle.rom_scan.specs.Walk.{Walked, Listed, Full, components_below, component, entries, entry, is_listed, on, on_listed, visited_component}
 use Rattle.rom_scan.specs.declared.component.Component.{Component}
 
 -- a read of a word of the first 4 GB
@@ -53,7 +53,7 @@ module _ (n : ℕ) where
   only_words (suc count) address read aligned low =
       (record { address = address; aligned = aligned; low = omega (arith, low); is = refl }, λ word. only_words count (address + 4) (read ++ word ∷ []) (omega (arith, aligned)) (omega (arith, low)))
 
-  only_identified : (address depth : ℕ) (cidr : List ℕ) → address % 4096 ≡ 0 → address < 2 ^ 32 → OnlyAsks (Reads n) (identified n address depth cidr)
+  only_identified : (address depth : ℕ) (cidr : List ℕ) → address % 4096 ≡ 0 → address < 2 ^ 32 → OnlyAsks (Reads n) (identified_component n address depth cidr)
   only_identified address depth cidr aligned low =
       only_then (words_from n 1 (address + 0xFD0) []) (λ fourth. followed_by (words_from n 4 (address + 0xFE0) []) (λ first. Ends (known_as address depth cidr fourth first))) (only_words 1 (address + 0xFD0) [] (omega (arith, aligned)) (omega (arith, aligned, low)))
       (λ fourth. only_then (words_from n 4 (address + 0xFE0) []) (λ first. Ends (known_as address depth cidr fourth first)) (only_words 4 (address + 0xFE0) [] (omega (arith, aligned)) (omega (arith, aligned, low))) (λ first. tt))
@@ -62,7 +62,7 @@ module _ (n : ℕ) where
   unfolding component_at
   only_component address depth aligned low =
       only_then (words_from n 4 (address + 0xFF0) []) (λ cidr. by_words n address depth cidr) (only_words 4 (address + 0xFF0) [] (omega (arith, aligned)) (omega (arith, aligned, low)))
-      (λ cidr. only_either (is_component cidr) (identified n address depth cidr) (Ends (unknown_at address depth)) (only_identified address depth cidr aligned low) tt)
+      (λ cidr. only_either (is_component cidr) (identified_component n address depth cidr) (Ends (unknown_at address depth)) (only_identified address depth cidr aligned low) tt)
 
   -- it stands where it was read
   IsAt : ℕ → Component → Type 0
@@ -72,7 +72,7 @@ module _ (n : ℕ) where
   unfolding component_at EachEnd IsAt
   component_ends address depth = ends_after (IsAt address) (words_from n 4 (address + 0xFF0) []) (λ cidr. by_words n address depth cidr) (λ cidr. one cidr (is_component cidr))
     where
-      one : (cidr : List ℕ) (b : Bool) → EachEnd (IsAt address) (cond b (identified n address depth cidr) (Ends (unknown_at address depth)))
+      one : (cidr : List ℕ) (b : Bool) → EachEnd (IsAt address) (cond b (identified_component n address depth cidr) (Ends (unknown_at address depth)))
       one cidr true =
           ends_after (IsAt address) (words_from n 1 (address + 0xFD0) []) (λ fourth. followed_by (words_from n 4 (address + 0xFE0) []) (λ first. Ends (known_as address depth cidr fourth first)))
           (λ fourth. ends_after (IsAt address) (words_from n 4 (address + 0xFE0) []) (λ first. Ends (known_as address depth cidr fourth first)) (λ first. refl))
@@ -86,7 +86,7 @@ module _ (n : ℕ) where
       each Full = tt
 
   only_visited : (most depth address : ℕ) (listed : List Component) (inside : Component → List Component → Sequel Walked) → address % 4096 ≡ 0 → address < 2 ^ 32
-      → ((c : Component) (l : List Component) → c.address ≡ address → OnlyAsks (Reads n) (inside c l)) → OnlyAsks (Reads n) (visited most n depth address listed inside)
+      → ((c : Component) (l : List Component) → c.address ≡ address → OnlyAsks (Reads n) (inside c l)) → OnlyAsks (Reads n) (visited_component most n depth address listed inside)
   unfolding IsAt
   only_visited most depth address listed inside aligned low h =
       only_either (nat_lt (length listed) most) (followed_by (component_at n address depth) (λ c. Writes (component_line c) (inside c (listed ++ c ∷ [])))) (Ends Full)

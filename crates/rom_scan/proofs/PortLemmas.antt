@@ -7,9 +7,9 @@ use Rattle.std.proofs.lemmas.Nat.{and_assoc, and_block, and_le_r, and_mask}
 use Rattle.std.specs.Int.Bits.{and_zero_r}
 use Rattle.target_machine.proofs.AimLemmas.{inserted_twice}
 use Rattle.target_machine.proofs.Maps.{got_inserted, same_map}
-use Rattle.target_machine.specs.Attempt.{Attempt, above, acknowledges, attempt, done, drw_address, drw_read, lanes, memory_read, next_tar, posted, read_through, size_of, stored_csw, with_ap}
+use Rattle.target_machine.specs.Attempt.{Attempt, above, acknowledges, attempt, done_attempt, drw_address, drw_read, lanes, memory_read, next_tar, posted_attempt, read_through, size_of, stored_csw, with_ap}
 use Rattle.target_machine.specs.Memory.{word_read}
-use Rattle.target_machine.specs.Plain.{Makes, ap_access_of, csw_actions, csw_for, dp_write_of, drw_of, given, in_order, memory_actions, select_of, then_acted}
+use Rattle.target_machine.specs.Plain.{Makes, ap_access_of, csw_actions, csw_for, dp_write_of, drw_of, given_number, in_order, memory_actions, select_of, then_acted}
 use Rattle.target_machine.specs.State.{TargetState}
 use Rattle.target_machine.specs.declared.ap.ApState.{ApState}
 
@@ -76,12 +76,12 @@ module _ (n : ℕ) (port : n < 256) where
         let rest : bit_and r 0xFF ≡ r = and_mask r 8 ∙ omega arith in
         and_block 24 n 0xFF r 0xFF (omega arith) (omega arith) ∙ omega (arith, top, rest)
 
-    select_done : (t : TargetState) → t.sticky ≡ false → attempt t (dp_write_of 8 chosen) ≡ done (record t { select = bit_and chosen 0xFF00_00FF })
+    select_done : (t : TargetState) → t.sticky ≡ false → attempt t (dp_write_of 8 chosen) ≡ done_attempt (record t { select = bit_and chosen 0xFF00_00FF })
     unfolding attempt
     select_done t clear = rw clear refl
 
-    select_write : (t : TargetState) → t.sticky ≡ false → attempt t (dp_write_of 8 chosen) ≡ done (record t { select = chosen })
-    select_write t clear = select_done t clear ∙ ap (λ (v : ℕ). done (record t { select = v })) chosen_kept
+    select_write : (t : TargetState) → t.sticky ≡ false → attempt t (dp_write_of 8 chosen) ≡ done_attempt (record t { select = chosen })
+    select_write t clear = select_done t clear ∙ ap (λ (v : ℕ). done_attempt (record t { select = v })) chosen_kept
 
   -- the port is selected, with a bank
   record Chosen (t : TargetState) (p : ApState) (r : ℕ) : Type 0 where
@@ -110,36 +110,36 @@ module _ (n : ℕ) (port : n < 256) where
     there : map.get t.aps (t.select / 2 ^ 24) ≡ Some p
     there = ap (map.get t.aps) here ∙ c.some
 
-    placed : (q : ApState) → done (with_ap t q) ≡ done (put t q)
-    placed q = ap (λ (i : ℕ). done (record t { aps = map.insert t.aps i q })) here
+    placed : (q : ApState) → done_attempt (with_ap t q) ≡ done_attempt (put t q)
+    placed q = ap (λ (i : ℕ). done_attempt (record t { aps = map.insert t.aps i q })) here
 
   module _ (t : TargetState) (p : ApState) (c : Chosen t p 0) where
     none_bank : bit_and t.select 0xF0 ≡ 0
     none_bank = bank t p 0 (omega arith) c
 
-    csw_read : attempt t (ap_access_of true 0 0) ≡ posted (bit_or p.csw 0x40) t
+    csw_read : attempt t (ap_access_of true 0 0) ≡ posted_attempt (bit_or p.csw 0x40) t
     unfolding attempt
     csw_read = let at = there t p 0 (omega arith) c in rw (c.clear, c.power, at, none_bank) refl
 
-    csw_done : (v : ℕ) → attempt t (ap_access_of false 0 v) ≡ done (with_ap t (record p { csw = stored_csw v }))
+    csw_done : (v : ℕ) → attempt t (ap_access_of false 0 v) ≡ done_attempt (with_ap t (record p { csw = stored_csw v }))
     unfolding attempt
     csw_done v = let at = there t p 0 (omega arith) c in rw (c.clear, c.power, at, none_bank) refl
 
-    csw_write : (v : ℕ) → attempt t (ap_access_of false 0 v) ≡ done (put t (record p { csw = stored_csw v }))
+    csw_write : (v : ℕ) → attempt t (ap_access_of false 0 v) ≡ done_attempt (put t (record p { csw = stored_csw v }))
     csw_write v = csw_done v ∙ placed t p 0 (omega arith) c (record p { csw = stored_csw v })
 
-    high_done : (v : ℕ) → attempt t (ap_access_of false 8 v) ≡ done (with_ap t (cond p.large (record p { high = v }) p))
+    high_done : (v : ℕ) → attempt t (ap_access_of false 8 v) ≡ done_attempt (with_ap t (cond p.large (record p { high = v }) p))
     unfolding attempt
     high_done v = let at = there t p 0 (omega arith) c in rw (c.clear, c.power, at, none_bank) refl
 
-    high_write : (v : ℕ) → attempt t (ap_access_of false 8 v) ≡ done (put t (cond p.large (record p { high = v }) p))
+    high_write : (v : ℕ) → attempt t (ap_access_of false 8 v) ≡ done_attempt (put t (cond p.large (record p { high = v }) p))
     high_write v = high_done v ∙ placed t p 0 (omega arith) c (cond p.large (record p { high = v }) p)
 
-    tar_done : (v : ℕ) → attempt t (ap_access_of false 4 v) ≡ done (with_ap t (record p { tar = v }))
+    tar_done : (v : ℕ) → attempt t (ap_access_of false 4 v) ≡ done_attempt (with_ap t (record p { tar = v }))
     unfolding attempt
     tar_done v = let at = there t p 0 (omega arith) c in rw (c.clear, c.power, at, none_bank) refl
 
-    tar_write : (v : ℕ) → attempt t (ap_access_of false 4 v) ≡ done (put t (record p { tar = v }))
+    tar_write : (v : ℕ) → attempt t (ap_access_of false 4 v) ≡ done_attempt (put t (record p { tar = v }))
     tar_write v = tar_done v ∙ placed t p 0 (omega arith) c (record p { tar = v })
 
     drw_reads : attempt t (ap_access_of true 12 0) ≡ drw_read t p (size_of p.csw)
@@ -168,12 +168,12 @@ module _ (n : ℕ) (port : n < 256) where
 
   -- ---- BASE
 
-  base_read : (t : TargetState) (p : ApState) (c : Chosen t p 0xF0) → attempt t (ap_access_of true 8 0) ≡ posted p.base t
+  base_read : (t : TargetState) (p : ApState) (c : Chosen t p 0xF0) → attempt t (ap_access_of true 8 0) ≡ posted_attempt p.base t
   unfolding attempt
   base_read t p c = let at = there t p 0xF0 (omega arith) c in let high = bank t p 0xF0 (omega arith) c in rw (c.clear, c.power, at, high) refl
 
   pub base_gives : (t : TargetState) (p : ApState) → t.sticky ≡ false → acknowledges t 0x1000_0000 ≡ true → map.get t.aps n ≡ Some p
-      → in_order t (Makes (select_of n 15) ∷ Makes (ap_access_of true 8 0) ∷ []) ≡ posted p.base (record t { select = n * 2 ^ 24 + 240 })
+      → in_order t (Makes (select_of n 15) ∷ Makes (ap_access_of true 8 0) ∷ []) ≡ posted_attempt p.base (record t { select = n * 2 ^ 24 + 240 })
   base_gives t p clear power some =
       ap (λ (x : Attempt). then_acted x (Makes (ap_access_of true 8 0))) (select_write 240 (omega arith) t clear)
       ∙ base_read (record t { select = n * 2 ^ 24 + 240 }) p (record { clear = clear; power = power; at = refl; some = some })
@@ -205,29 +205,29 @@ module _ (n : ℕ) (port : n < 256) where
     chosen_at : (q : ApState) → Chosen (put shown q) q 0
     chosen_at q = record { clear = clear; power = power; at = refl; some = got_put shown q }
 
-    first_two : in_order t (csw_actions n) ≡ posted csw (record t { select = n * 2 ^ 24 + 0 })
+    first_two : in_order t (csw_actions n) ≡ posted_attempt csw (record t { select = n * 2 ^ 24 + 0 })
     first_two =
         ap (λ (x : Attempt). then_acted x (Makes (ap_access_of true 0 0))) (select_write 0 (omega arith) t clear)
         ∙ csw_read (record t { select = n * 2 ^ 24 + 0 }) p (record { clear = clear; power = power; at = refl; some = some })
 
-    third : attempt shown (ap_access_of false 0 (csw_for csw 4)) ≡ done (put shown sized_port)
+    third : attempt shown (ap_access_of false 0 (csw_for csw 4)) ≡ done_attempt (put shown sized_port)
     third = csw_write shown p (record { clear = clear; power = power; at = refl; some = some }) (csw_for csw 4)
 
-    upper : attempt (put shown sized_port) (ap_access_of false 8 (address / 2 ^ 32)) ≡ done (put shown (raised true))
-    upper = high_write (put shown sized_port) sized_port (chosen_at sized_port) (address / 2 ^ 32) ∙ ap done (put_twice shown sized_port (raised true))
+    upper : attempt (put shown sized_port) (ap_access_of false 8 (address / 2 ^ 32)) ≡ done_attempt (put shown (raised true))
+    upper = high_write (put shown sized_port) sized_port (chosen_at sized_port) (address / 2 ^ 32) ∙ ap done_attempt (put_twice shown sized_port (raised true))
 
-    lower : (b : Bool) → attempt (put shown (raised b)) (ap_access_of false 4 (address % 2 ^ 32)) ≡ done (aimed_at b)
-    lower b = tar_write (put shown (raised b)) (raised b) (chosen_at (raised b)) (address % 2 ^ 32) ∙ ap done (put_twice shown (raised b) (pointed b))
+    lower : (b : Bool) → attempt (put shown (raised b)) (ap_access_of false 4 (address % 2 ^ 32)) ≡ done_attempt (aimed_at b)
+    lower b = tar_write (put shown (raised b)) (raised b) (chosen_at (raised b)) (address % 2 ^ 32) ∙ ap done_attempt (put_twice shown (raised b) (pointed b))
 
     word_made : (b : Bool) → in_order t (memory_actions t b 4 true n address 0) ≡ attempt (aimed_at b) (ap_access_of true 12 0)
     word_made true =
-        ap (λ (x : Attempt). then_acted (then_acted (then_acted (then_acted x (Makes (ap_access_of false 0 (csw_for (given x.outcome) 4)))) (Makes (ap_access_of false 8 (address / 2 ^ 32)))) (Makes (ap_access_of false 4 (address % 2 ^ 32))))
+        ap (λ (x : Attempt). then_acted (then_acted (then_acted (then_acted x (Makes (ap_access_of false 0 (csw_for (given_number x.outcome) 4)))) (Makes (ap_access_of false 8 (address / 2 ^ 32)))) (Makes (ap_access_of false 4 (address % 2 ^ 32))))
         (Makes (drw_of true address 0))) first_two
         ∙ ap (λ (x : Attempt). then_acted (then_acted (then_acted x (Makes (ap_access_of false 8 (address / 2 ^ 32)))) (Makes (ap_access_of false 4 (address % 2 ^ 32)))) (Makes (drw_of true address 0))) third
         ∙ ap (λ (x : Attempt). then_acted (then_acted x (Makes (ap_access_of false 4 (address % 2 ^ 32)))) (Makes (drw_of true address 0))) upper
         ∙ ap (λ (x : Attempt). then_acted x (Makes (drw_of true address 0))) (lower true)
     word_made false =
-        ap (λ (x : Attempt). then_acted (then_acted (then_acted x (Makes (ap_access_of false 0 (csw_for (given x.outcome) 4)))) (Makes (ap_access_of false 4 (address % 2 ^ 32)))) (Makes (drw_of true address 0))) first_two
+        ap (λ (x : Attempt). then_acted (then_acted (then_acted x (Makes (ap_access_of false 0 (csw_for (given_number x.outcome) 4)))) (Makes (ap_access_of false 4 (address % 2 ^ 32)))) (Makes (drw_of true address 0))) first_two
         ∙ ap (λ (x : Attempt). then_acted (then_acted x (Makes (ap_access_of false 4 (address % 2 ^ 32)))) (Makes (drw_of true address 0))) third
         ∙ ap (λ (x : Attempt). then_acted x (Makes (drw_of true address 0))) (lower false)
 

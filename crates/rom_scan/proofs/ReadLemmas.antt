@@ -6,7 +6,7 @@ use Rattle.access_calls.specs.declared.stop.Stop.{Stop}
 use Rattle.sequels.specs.Meeting.{Gave, Reaches}
 use Rattle.sequels.specs.Sequel.{Sequel, Asks, Ends, followed_by, asks}
 use Rattle.sequels.proofs.MeetingLemmas.{gave_by, reaches_by, reaches_on, reaches_same, reaches_to}
-use Rattle.rom_scan.specs.Components.{by_words, component_at, identified, is_component, known_as, unknown_at, word_ask, words_sequel}
+use Rattle.rom_scan.specs.Components.{by_words, component_at, identified_component, is_component, known_as, unknown_at, word_ask, words_sequel}
 use Rattle.rom_scan.specs.Meets.{StopsIn}
 use Rattle.rom_scan.specs.declared.component.Component.{Component}
 use Rattle.rom_scan.proofs.StopLemmas.{stops_by, stops_on}
@@ -63,12 +63,12 @@ module _ (w : World) (n address depth : ℕ) (old : List Ask) (written : Option 
   abbrev last : List ℕ → List ℕ → Sequel Component
   last cidr fourth = followed_by (words_sequel n 4 (address + 0xFE0) []) (λ first. Ends (known_as address depth cidr fourth first))
 
-  by_test : (cidr : List ℕ) (b : Bool) → is_component cidr ≡ b → by_words n address depth cidr ≡ cond b (identified n address depth cidr) (Ends (unknown_at address depth))
-  by_test cidr b e = ap (λ (x : Bool). cond x (identified n address depth cidr) (Ends (unknown_at address depth))) e
+  by_test : (cidr : List ℕ) (b : Bool) → is_component cidr ≡ b → by_words n address depth cidr ≡ cond b (identified_component n address depth cidr) (Ends (unknown_at address depth))
+  by_test cidr b e = ap (λ (x : Bool). cond x (identified_component n address depth cidr) (Ends (unknown_at address depth))) e
 
-  pub known_reach : (new : List Ask) (cidr : List ℕ) → Gave w (words_sequel n 4 (address + 0xFF0) []) old new written written cidr → is_component cidr ≡ true → Reaches w all old new written written (identified n address depth cidr)
+  pub known_reach : (new : List Ask) (cidr : List ℕ) → Gave w (words_sequel n 4 (address + 0xFF0) []) old new written written cidr → is_component cidr ≡ true → Reaches w all old new written written (identified_component n address depth cidr)
   unfolding component_at
-  known_reach new cidr g e = reaches_to w all (by_words n address depth cidr) (identified n address depth cidr) old new written written (by_test cidr true e)
+  known_reach new cidr g e = reaches_to w all (by_words n address depth cidr) (identified_component n address depth cidr) old new written written (by_test cidr true e)
       (reaches_by w (words_sequel n 4 (address + 0xFF0) []) (λ x. by_words n address depth x) cidr old new written written g)
 
   pub unknown_gave : (new : List Ask) (cidr : List ℕ) → Gave w (words_sequel n 4 (address + 0xFF0) []) old new written written cidr → is_component cidr ≡ false → Gave w all old new written written (unknown_at address depth)
@@ -82,12 +82,12 @@ module _ (w : World) (n address depth : ℕ) (old : List Ask) (written : Option 
   cidr_stops lines new e h = stops_by w lines (words_sequel n 4 (address + 0xFF0) []) (λ x. by_words n address depth x) old new written written e h
 
   module _ (whole : stop w old ≡ None) (mid : List Ask) (cidr : List ℕ) where
-    pub fourth_reach : (new : List Ask) (fourth : List ℕ) → Reaches w all old mid written written (identified n address depth cidr) → Gave w (words_sequel n 1 (address + 0xFD0) []) mid new written written fourth → Reaches w all old new written written (last cidr fourth)
-    fourth_reach new fourth r g = reaches_on w all (identified n address depth cidr) (last cidr fourth) old mid new written written written whole r
+    pub fourth_reach : (new : List Ask) (fourth : List ℕ) → Reaches w all old mid written written (identified_component n address depth cidr) → Gave w (words_sequel n 1 (address + 0xFD0) []) mid new written written fourth → Reaches w all old new written written (last cidr fourth)
+    fourth_reach new fourth r g = reaches_on w all (identified_component n address depth cidr) (last cidr fourth) old mid new written written written whole r
         (reaches_by w (words_sequel n 1 (address + 0xFD0) []) (last cidr) fourth mid new written written g)
 
-    pub fourth_stops : (lines : ℕ) (new : List Ask) (e : Stop) → Reaches w all old mid written written (identified n address depth cidr) → StopsIn w lines (words_sequel n 1 (address + 0xFD0) []) mid new written written e → StopsIn w lines all old new written written e
-    fourth_stops lines new e r h = stops_on w lines all (identified n address depth cidr) old mid new written written written e whole r (stops_by w lines (words_sequel n 1 (address + 0xFD0) []) (last cidr) mid new written written e h)
+    pub fourth_stops : (lines : ℕ) (new : List Ask) (e : Stop) → Reaches w all old mid written written (identified_component n address depth cidr) → StopsIn w lines (words_sequel n 1 (address + 0xFD0) []) mid new written written e → StopsIn w lines all old new written written e
+    fourth_stops lines new e r h = stops_on w lines all (identified_component n address depth cidr) old mid new written written written e whole r (stops_by w lines (words_sequel n 1 (address + 0xFD0) []) (last cidr) mid new written written e h)
 
     pub first_gave : (new : List Ask) (fourth first : List ℕ) → Reaches w all old mid written written (last cidr fourth) → Gave w (words_sequel n 4 (address + 0xFE0) []) mid new written written first → Gave w all old new written written (known_as address depth cidr fourth first)
     first_gave new fourth first r g = gave_by w all (known_as address depth cidr fourth first) old new written written

@@ -21,7 +21,7 @@ use Rattle.rom_scan.specs.Components.{base_ask, is_no_base, page}
 use Rattle.rom_scan.specs.Meets.{Finished, StopsIn, StopsInFinish}
 use Rattle.rom_scan.specs.Scans.{ScanComesTo}
 use Rattle.rom_scan.specs.Tables.{unwound, walk_from_component}
-use Rattle.rom_scan.specs.Walk.{Walked, Listed, Full, components_below, component, scanned}
+use Rattle.rom_scan.specs.Walk.{Walked, Listed, Full, components_below, component, scanned_port}
 use Rattle.rom_scan.specs.declared.component.Component.{Component}
 use Rattle.rom_scan.specs.declared.scan_end.ScanEnd.{ScanEnd}
 use Rattle.rom_scan.specs.declared.scan_end.ScanEnd.TheVariants as e
@@ -82,7 +82,7 @@ lists_on w lines s rest (Err (e.Stop st)) old mid new b m now whole q h = stops_
 
 module _ (w : World) (n : ℕ) (old : List Ask) (before : Option (List ℕ)) (u : Ask) (is : u ≡ base_ask n) where
   abbrev all : Sequel Walked
-  all = scanned 1024 n
+  all = scanned_port 1024 n
 
   pub base_stops : (lines : ℕ) (new : List Ask) (st : Stop) → StopsIn w lines (asks u) old new before before st → StopsIn w lines all old new before before st
   base_stops lines new st h =

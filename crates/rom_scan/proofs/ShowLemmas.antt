@@ -4,11 +4,11 @@ use Rattle.std.specs.FinMap as map
 use Rattle.std.specs.Ordering.{nat_cmp}
 use Rattle.std.proofs.lemmas.Bool.{le-ltb}
 use Rattle.std.proofs.lemmas.Nat.{and_mask}
-use Rattle.target_machine.specs.Attempt.{Attempt, above, acknowledges, attempt, done, is_free, read_through}
+use Rattle.target_machine.specs.Attempt.{Attempt, above, acknowledges, attempt, done_attempt, is_free, read_through}
 use Rattle.target_machine.specs.InRange.{EachValue, IsCellInRange}
 use Rattle.target_machine.proofs.AccessRanges.{shown_in_range}
 use Rattle.target_machine.specs.Memory.{Cell, Memory, moved_on, read_cell, shown_value, word_read}
-use Rattle.target_machine.specs.Plain.{CallDone, Action, after_cfg, call_done, cfg_actions, commanded, contains, ended, forgives, from_lanes, given, has_large, in_order, is_fault, issued, memory_actions, unit_actions}
+use Rattle.target_machine.specs.Plain.{CallDone, Action, after_cfg, call_done, cfg_actions, command_attempt, contains, ended_call, forgives, from_lanes, given_number, has_large, in_order, is_fault, issued_actions, memory_actions, unit_actions}
 use Rattle.target_machine.specs.State.{TargetState}
 use Rattle.target_machine.specs.declared.ap.ApState.{ApState}
 use Rattle.target_machine.specs.declared.unit.Call.TheVariants.{Access, Probe}
@@ -66,7 +66,7 @@ module _ (n : ℕ) (port : n < 256) (words : Memory) (single : EachValue HasOneV
     actions = memory_actions t (contains large n) 4 true n address 0
 
     abbrev made : Attempt → List Action → CallDone
-    made x all = ended (is_fault x.outcome) true false (from_lanes 4 address (given x.outcome)) x.next large all
+    made x all = ended_call (is_fault x.outcome) true false (from_lanes 4 address (given_number x.outcome)) x.next large all
 
     narrow : nat_lt 0xFFFF_FFFF address ≡ false
     narrow = le-ltb 0xFFFF_FFFF address (omega (arith, low))
@@ -78,22 +78,22 @@ module _ (n : ℕ) (port : n < 256) (words : Memory) (single : EachValue HasOneV
     -- what it comes to, by what is issued, and by whether CFG is read
     as_made : List Action → Bool → CallDone
     as_made all b =
-        ended (is_fault (in_order t all).outcome) true ((b && not (contains large n)) && not (has_large t n)) (from_lanes 4 address (given (in_order t all).outcome)) (in_order t all).next
-        (cond ((b && not (contains large n)) && has_large t n) (large ++ n ∷ []) large) (issued t all)
+        ended_call (is_fault (in_order t all).outcome) true ((b && not (contains large n)) && not (has_large t n)) (from_lanes 4 address (given_number (in_order t all).outcome)) (in_order t all).next
+        (cond ((b && not (contains large n)) && has_large t n) (large ++ n ∷ []) large) (issued_actions t all)
 
     unfolded : call_done t large true (Access (unit.Memory 4 true n address 0)) ≡ as_made (unit_actions t large (unit.Memory 4 true n address 0)) (nat_lt 0xFFFF_FFFF address)
     unfolding call_done as_made
     unfolded = refl
 
-    folded : (all : List Action) → as_made all false ≡ made (in_order t all) (issued t all)
+    folded : (all : List Action) → as_made all false ≡ made (in_order t all) (issued_actions t all)
     unfolding as_made
     folded all = refl
 
-    called : call_done t large true (Access (unit.Memory 4 true n address 0)) ≡ made (in_order t actions) (issued t actions)
+    called : call_done t large true (Access (unit.Memory 4 true n address 0)) ≡ made (in_order t actions) (issued_actions t actions)
     called = unfolded ∙ ap (λ (all : List Action). as_made all (nat_lt 0xFFFF_FFFF address)) actions_are ∙ ap (as_made actions) narrow ∙ folded actions
 
     -- the target after the forgiven fault
-    cleared : (u : TargetState) → commanded (record u { sticky = true }) forgives ≡ done (record u { sticky = false })
+    cleared : (u : TargetState) → command_attempt (record u { sticky = true }) forgives ≡ done_attempt (record u { sticky = false })
     unfolding attempt is_free
     cleared u = refl
 
@@ -114,7 +114,7 @@ module _ (n : ℕ) (port : n < 256) (words : Memory) (single : EachValue HasOneV
         goes = refl;
         result_is = refl;
         large_is = refl;
-        next = ready_after (commanded (record (aimed b) { sticky = true }) forgives).next (ap (λ (x : Attempt). x.next.sticky) (cleared (aimed b))) (ap (λ (x : Attempt). acknowledges x.next 0x1000_0000) (cleared (aimed b)) ∙ r.power)
+        next = ready_after (command_attempt (record (aimed b) { sticky = true }) forgives).next (ap (λ (x : Attempt). x.next.sticky) (cleared (aimed b))) (ap (λ (x : Attempt). acknowledges x.next 0x1000_0000) (cleared (aimed b)) ∙ r.power)
             (ap (λ (x : Attempt). x.next.aps) (cleared (aimed b))) (ap (λ (x : Attempt). x.next.words) (cleared (aimed b)) ∙ r.words_are);
       }
       by_cell (Some c) is =
@@ -140,7 +140,7 @@ module _ (n : ℕ) (port : n < 256) (words : Memory) (single : EachValue HasOneV
     pub word_call : Gives n words (cell_value (map.get words address)) large (call_done t large true (Access (unit.Memory 4 true n address 0)))
     word_call =
         subst (Gives n words (cell_value (map.get words address)) large) (sym called)
-        (by_read (in_order t actions) (issued t actions) (word_gives n port t r.port address r.clear r.power r.some (contains large n) (points (contains large n) refl).0 aligned low))
+        (by_read (in_order t actions) (issued_actions t actions) (word_gives n port t r.port address r.clear r.power r.some (contains large n) (points (contains large n) refl).0 aligned low))
 
 -- ---- the base
 
@@ -154,7 +154,7 @@ base_call n port words large t r =
     actions = unit_actions t large (unit.Ap true n 0xF8 0)
 
     made : Attempt → CallDone
-    made x = ended (is_fault x.outcome) true false (given x.outcome) x.next large (issued t actions)
+    made x = ended_call (is_fault x.outcome) true false (given_number x.outcome) x.next large (issued_actions t actions)
 
     called : call_done t large true (Access (unit.Ap true n 0xF8 0)) ≡ made (in_order t actions)
     called = refl

@@ -15,7 +15,7 @@ use Rattle.sequels.proofs.SequelLemmas.{steady_comes}
 use Rattle.rom_scan.specs.Components.{base_ask, word_ask}
 use Rattle.rom_scan.specs.Listing.{ListsComponents, component_lines, components, components_by, listed_within}
 use Rattle.rom_scan.specs.Showing.{CanScan, HasLowTar, ListsTarget, base_at, base_in, shows}
-use Rattle.rom_scan.specs.Walk.{Walked, components_below, scanned}
+use Rattle.rom_scan.specs.Walk.{Walked, components_below, scanned_port}
 use Rattle.rom_scan.specs.declared.component.Component.{Component}
 use Rattle.rom_scan.proofs.ListLemmas.{lists_components}
 use Rattle.rom_scan.proofs.OnlyLemmas.{Reads, only_all}
@@ -96,10 +96,10 @@ module _ (w : World) (most n : ℕ) (port : n < 2 ^ 8) (can : CanScan w n) where
   shown : components_by g n ≡ components (shows w.target) base
   shown = ap (components (λ address. g (word_ask n address))) by_base ∙ ap (λ (word : ℕ → ℕ). components word base) (λ i address. by_words address i)
 
-  from_base : written_and_end g (scanned most n) ≡ written_and_end g (components_below most n base)
+  from_base : written_and_end g (scanned_port most n) ≡ written_and_end g (components_below most n base)
   from_base = ap (λ (k : ℕ). written_and_end g (components_below most n k)) by_base
 
-  comes_is : comes w (scanned most n) ≡ call_first (base_ask n) (comes after_base (components_below most n base))
+  comes_is : comes w (scanned_port most n) ≡ call_first (base_ask n) (comes after_base (components_below most n base))
   comes_is = asks_comes w (base_ask n) (λ k. components_below most n k) base goes first.result_is
 
   pub lists_target : ListsTarget w most n

@@ -1,11 +1,12 @@
 -- A walk with the tables that are open.
 use Rattle.std.proofs.Common.{◌≡◌, ◌∙◌, ℕ, zero, suc, ◌+◌, ◌-◌, ◌*◌, ◌%◌, ◌==◌, ◌<◌, ◌≤◌, ◌&&◌, Bool, true, false, cond, List, [], ◌∷◌, ◌++◌, length, refl, sym, ap, arith}
+use Rattle.std.proofs.Math.Bool.{and-false}
 use Rattle.std.proofs.lemmas.Bool.{lt-ltb, le-ltb}
 use Rattle.sequels.specs.Sequel.{Sequel, Asks, Ends, Writes, followed_by}
 use Rattle.sequels.proofs.SequelLemmas.{after_after, after_ends, after_same}
 use Rattle.rom_scan.specs.declared.component.Component.{Component}
 use Rattle.rom_scan.specs.Components.{component_at, component_line, is_table, named_by, word_ask}
-use Rattle.rom_scan.specs.Walk.{Walked, Listed, Full, component, entries, entry, is_listed, on, on_listed, visited}
+use Rattle.rom_scan.specs.Walk.{Walked, Listed, Full, component, entries, entry, is_listed, on, on_listed, visited_component}
 use Rattle.rom_scan.specs.declared.tables.Table.{Table}
 use Rattle.rom_scan.specs.Tables.{GoesOnByEntry, OpensTables, next_entry, tables_after, unwound, walk_from_component}
 
@@ -28,13 +29,13 @@ on_listed_same s = after_same s _ _ each ∙ after_ends s
 module _ (most ap_ : ℕ) where
   -- a component that has room, and then the rest of a walk
   room_on : (depth address : ℕ) (listed : List Component) (inside : Component → List Component → Sequel Walked) (next : List Component → Sequel Walked) → length listed < most
-      → on (visited most ap_ depth address listed inside) next ≡ followed_by (component_at ap_ address depth) (λ c. Writes (component_line c) (on (inside c (listed ++ c ∷ [])) next))
+      → on (visited_component most ap_ depth address listed inside) next ≡ followed_by (component_at ap_ address depth) (λ c. Writes (component_line c) (on (inside c (listed ++ c ∷ [])) next))
   room_on depth address listed inside next less =
       ap (λ (b : Bool). on (cond b (followed_by (component_at ap_ address depth) (λ c. Writes (component_line c) (inside c (listed ++ c ∷ [])))) (Ends Full)) next) (lt-ltb (length listed) most less)
       ∙ after_after (component_at ap_ address depth) (λ c. Writes (component_line c) (inside c (listed ++ c ∷ []))) (on_listed next)
 
   full_on : (depth address : ℕ) (listed : List Component) (inside : Component → List Component → Sequel Walked) (next : List Component → Sequel Walked) → most ≤ length listed
-      → on (visited most ap_ depth address listed inside) next ≡ Ends Full
+      → on (visited_component most ap_ depth address listed inside) next ≡ Ends Full
   full_on depth address listed inside next le =
       ap (λ (b : Bool). on (cond b (followed_by (component_at ap_ address depth) (λ c. Writes (component_line c) (inside c (listed ++ c ∷ [])))) (Ends Full)) next) (le-ltb (length listed) most le)
 
@@ -55,11 +56,7 @@ module _ (most ap_ : ℕ) where
 
   last_of : (tables : List Table) (c : Component) (more : List Component) → 7 - length tables ≡ 0 → length tables ≤ 7 → unwound most ap_ tables more ≡ unwound most ap_ (tables_after tables c) more
   last_of tables c more is le = ap (λ (b : Bool). unwound most ap_ (cond b (record { address = c.address; left = 960 } ∷ tables) tables) more)
-      (sym (and_false (is_table c.known) ∙ refl)) ∙ ap (λ (b : Bool). unwound most ap_ (cond (is_table c.known && b) (record { address = c.address; left = 960 } ∷ tables) tables) more) (sym (le-ltb (length tables) 7 (omega (arith, is, le))))
-    where
-      and_false : (b : Bool) → (b && false) ≡ false
-      and_false true = refl
-      and_false false = refl
+      (sym (and-false (is_table c.known))) ∙ ap (λ (b : Bool). unwound most ap_ (cond (is_table c.known && b) (record { address = c.address; left = 960 } ∷ tables) tables) more) (sym (le-ltb (length tables) 7 (omega (arith, is, le))))
 
   pub opens : (tables : List Table) (address : ℕ) (listed : List Component) → OpensTables most ap_ tables address listed
   opens tables address listed = record {

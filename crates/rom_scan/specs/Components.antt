@@ -54,14 +54,14 @@ abbrev pub unknown_at : ℕ → ℕ → Component
 unknown_at address depth = record { address = address; depth = depth; known = None }
 
 -- what is read of a component that is known
-abbrev pub identified : ℕ → ℕ → ℕ → List ℕ → Sequel Component
-identified ap address depth cidr =
+abbrev pub identified_component : ℕ → ℕ → ℕ → List ℕ → Sequel Component
+identified_component ap address depth cidr =
     followed_by (words_sequel ap 1 (address + 0xFD0) [])
     (λ fourth. followed_by (words_sequel ap 4 (address + 0xFE0) []) (λ first. Ends (known_as address depth cidr fourth first)))
 
 -- what is read after the first four words
 abbrev pub by_words : ℕ → ℕ → ℕ → List ℕ → Sequel Component
-by_words ap address depth cidr = if is_component cidr then identified ap address depth cidr else Ends (unknown_at address depth)
+by_words ap address depth cidr = if is_component cidr then identified_component ap address depth cidr else Ends (unknown_at address depth)
 
 -- What is read of a component.
 unfoldable pub component_at : ℕ → ℕ → ℕ → Sequel Component

@@ -5,7 +5,7 @@ use Rattle.target_calls.specs.declared.calls.Ask.{Ask}
 use Rattle.sequels.specs.Sequel.{written_and_end}
 use Rattle.rom_scan.specs.declared.component.Component.{Component}
 use Rattle.rom_scan.specs.Components.{base_ask, component_line, is_component, is_no_base, is_table, known_as, named_by, page, unknown_at, word_ask}
-use Rattle.rom_scan.specs.Walk.{Walked, Listed, Full, is_listed, scanned}
+use Rattle.rom_scan.specs.Walk.{Walked, Listed, Full, is_listed, scanned_port}
 
 -- so many words in a row
 abbrev pub row_of_words : (ℕ → ℕ) → ℕ → ℕ → List ℕ
@@ -61,5 +61,5 @@ components_by f ap = components (λ address. f (word_ask ap address)) (f (base_a
 
 -- A scan writes the lines of these components, of the first ones where there are more than it may list, and is full exactly there.
 pub record ListsComponents (f : Ask → ℕ) (most ap : ℕ) : Type 0 where
-  pub written : (written_and_end f (scanned most ap)).0 ≡ component_lines (take most (components_by f ap))
-  pub end : (written_and_end f (scanned most ap)).1 ≡ listed_within most (components_by f ap)
+  pub written : (written_and_end f (scanned_port most ap)).0 ≡ component_lines (take most (components_by f ap))
+  pub end : (written_and_end f (scanned_port most ap)).1 ≡ listed_within most (components_by f ap)

@@ -10,7 +10,7 @@ use Rattle.target_machine.specs.declared.ap.ApState.{ApState}
 use Rattle.target_calls.specs.World.{World, world_after}
 use Rattle.sequels.specs.Sequel.{comes}
 use Rattle.rom_scan.specs.Listing.{component_lines, components, listed_within}
-use Rattle.rom_scan.specs.Walk.{scanned}
+use Rattle.rom_scan.specs.Walk.{scanned_port}
 
 -- the value of a word, and 0 where there is none
 abbrev pub cell_value : Option Cell → ℕ
@@ -51,6 +51,6 @@ pub record CanScan (w : World) (ap : ℕ) : Type 0 where
 -- A scan writes the lines of the components that the target's words show. Where there are more than it may list it writes those of the first
 -- ones, and is full exactly there. No call stops, and the words stay.
 pub record ListsTarget (w : World) (most ap : ℕ) : Type 0 where
-  pub written : (comes w (scanned most ap)).written ≡ component_lines (take most (components (shows w.target) (base_at w.target ap)))
-  pub end : (comes w (scanned most ap)).end ≡ Some (listed_within most (components (shows w.target) (base_at w.target ap)))
-  pub words : (world_after w (comes w (scanned most ap)).calls).target.words ≡ w.target.words
+  pub written : (comes w (scanned_port most ap)).written ≡ component_lines (take most (components (shows w.target) (base_at w.target ap)))
+  pub end : (comes w (scanned_port most ap)).end ≡ Some (listed_within most (components (shows w.target) (base_at w.target ap)))
+  pub words : (world_after w (comes w (scanned_port most ap)).calls).target.words ≡ w.target.words

@@ -41,15 +41,15 @@ entries ap visit table (suc n) listed = Asks (word_ask ap (table + 4 * (959 - n)
 -- ---- components
 
 -- a component is read and its line written, unless there were as many as may be listed
-abbrev pub visited : ℕ → ℕ → ℕ → ℕ → List Component → (Component → List Component → Sequel Walked) → Sequel Walked
-visited most ap depth address listed inside =
+abbrev pub visited_component : ℕ → ℕ → ℕ → ℕ → List Component → (Component → List Component → Sequel Walked) → Sequel Walked
+visited_component most ap depth address listed inside =
     if nat_lt (length listed) most then followed_by (component_at ap address depth) (λ c. Writes (component_line c) (inside c (listed ++ c ∷ []))) else Ends Full
 
 -- A component and all below it, down to depth 8: so many levels.
 abbrev pub component : ℕ → ℕ → ℕ → ℕ → List Component → Sequel Walked
-component most ap zero address listed = visited most ap 8 address listed (λ c more. Ends (Listed more))
+component most ap zero address listed = visited_component most ap 8 address listed (λ c more. Ends (Listed more))
 component most ap (suc levels) address listed =
-    visited most ap (7 - levels) address listed
+    visited_component most ap (7 - levels) address listed
     (λ c more. if is_table c.known then entries ap (component most ap levels) c.address 960 more else Ends (Listed more))
 
 -- all below a base
@@ -57,5 +57,5 @@ abbrev pub components_below : ℕ → ℕ → ℕ → Sequel Walked
 components_below most ap base = if is_no_base base then Ends (Listed []) else component most ap 7 (page base) []
 
 -- The components of an access port.
-abbrev pub scanned : ℕ → ℕ → Sequel Walked
-scanned most ap = Asks (base_ask ap) (λ base. components_below most ap base)
+abbrev pub scanned_port : ℕ → ℕ → Sequel Walked
+scanned_port most ap = Asks (base_ask ap) (λ base. components_below most ap base)

@@ -5,7 +5,7 @@ ghost use Rattle.rom_scan.specs.Arrivals.{AtFull};
 ghost use Rattle.rom_scan.specs.Components.{is_no_base, page};
 ghost use Rattle.rom_scan.specs.Frame.{EndsCounting, GivesWriting, MayScan};
 ghost use Rattle.rom_scan.specs.Scans.{ScanComesTo, Scans};
-ghost use Rattle.rom_scan.specs.Walk.{component, scanned};
+ghost use Rattle.rom_scan.specs.Walk.{component, scanned_port};
 
 use crate::asking::{ask_now, base_unit};
 use crate::scan_end::ScanEnd;
@@ -71,7 +71,7 @@ fn list_all<A: Access, K: Sink>(
     units: &mut u32,
 ) -> Result<u32, ScanEnd>
     requires may { MayScan units.old (A.reported access.old) }
-    ensures gives { GivesWriting A.begun A.reported K.written access.old access.new sink.old sink.new (λ w lines. ScanComesTo w lines (scanned 1024 ap) result) }
+    ensures gives { GivesWriting A.begun A.reported K.written access.old access.new sink.old sink.new (λ w lines. ScanComesTo w lines (scanned_port 1024 ap) result) }
     ensures full { AtFull result (length (A.reported access.new).asks.calls + units.old ≡ length (A.reported access.old).asks.calls + units.new) }
     ensures most { units.new ≤ units.old + 7000011 }
     ensures ends { EndsCounting 993281 A.begun A.reported A.identity K.written K.faults result access.old access.new sink.old sink.new }

@@ -75,10 +75,10 @@ abbrev pub one_deeper : SetTrees → List (List ℕ) → List (List ℕ)
 one_deeper set names = names_with_more names (flat_map (sequence_names set) names)
 
 -- the sequences that so many calls, one in the other, lead to; itself first, then in the order of the first call
-unfoldable pub reached : SetTrees → ℕ → List ℕ → List (List ℕ)
-reached set zero start = start ∷ []
-reached set (suc deep) start = one_deeper set (reached set deep start)
+unfoldable pub reached_sequences : SetTrees → ℕ → List ℕ → List (List ℕ)
+reached_sequences set zero start = start ∷ []
+reached_sequences set (suc deep) start = one_deeper set (reached_sequences set deep start)
 
 -- the sequences that the run of a sequence can reach: calls are at most 31 deep
 abbrev pub reached_names : SetTrees → List ℕ → List (List ℕ)
-reached_names set start = reached set 31 start
+reached_names set start = reached_sequences set 31 start

@@ -1,7 +1,7 @@
 -- A coverage as text.
 use Rattle.std.specs.Prelude.{ℕ, Bool, ◌&&◌, List, [], ◌++◌, length, filter, codes, decimal, if◌then◌else◌}
 use Rattle.std.specs.List.{flat_map}
-use Rattle.text_lines.specs.Shown.{shown}
+use Rattle.text_lines.specs.Shown.{shown_text}
 use Rattle.sequence_trees.specs.Trees.{SetTrees}
 use Rattle.run_events.specs.Events.{Event}
 use Rattle.run_coverage.specs.declared.items.Item.{Item}
@@ -21,7 +21,7 @@ module _ (has : List ℕ → Bool) where
 
   -- the line of the sequence of a name
   abbrev pub covered_line : SetTrees → List ℕ → List ℕ
-  covered_line set name = codes "covered " ++ shown name ++ codes " " ++ count_text (sequence_items set name)
+  covered_line set name = codes "covered " ++ shown_text name ++ codes " " ++ count_text (sequence_items set name)
 
   -- the line of what has not happened
   abbrev pub never_line : Item → List ℕ

@@ -11,11 +11,11 @@ use Rattle.target_machine.specs.declared.unit.HaltCause.TheVariants.{MessageLimi
 use Rattle.target_calls.specs.Asks.{unit_ask, probe_ask}
 use Rattle.target_calls.specs.World.{World, is_over, done_now, next_world}
 use Rattle.target_machine.specs.Plain.{CallEnd, Answered, Skipped, Faulted, Small}
-use Rattle.sequence_rules.specs.Calls.{port_with, port_from, port, or_halt, use_now, missing, given, global, answered, ask, numbered, command, zero_of, if_read, low_and_high, second_half, two_units, one_unit, memory_at, memory, ap_at, ap_register, dp_at, dp_register, abort_at, abort, delay, clock, pins, line_bits, line_result, function_result}
-use Rattle.sequence_rules.specs.Direct.{Now, with_call, answers, made, line_after, with_line, direct}
+use Rattle.sequence_rules.specs.Calls.{port_with, port_from, port, or_halt, use_now, missing, value_or_missing, global, counted_answer, ask, counted_number, command, zero_of, if_read, low_and_high, second_half, two_units, one_unit, memory_at, memory, ap_at, ap_register, dp_at, dp_register, abort_at, abort, delay, clock, pins, line_bits, line_result, function_result}
+use Rattle.sequence_rules.specs.Direct.{Now, with_call, answers, made_call, line_after, with_line, direct}
 use Rattle.sequence_rules.specs.Machine.{Over, Machine, State, Out, halt, line_more, step_more, end_state, rest_of}
 use Rattle.sequence_rules.specs.Steady.{Steady}
-use Rattle.sequence_rules.specs.Steps.{counted, dropped, poll_result_at, poll_result}
+use Rattle.sequence_rules.specs.Steps.{counted_step, dropped_value, poll_result_at, poll_result}
 use Rattle.sequence_rules.specs.Variables.{set_visible}
 use Rattle.sequence_rules.proofs.Goes as g
 use Rattle.sequence_rules.proofs.LateLemmas.{append_none}
@@ -51,11 +51,11 @@ moves_answer ask Skipped t o = record { more = ask ∷ []; calls = refl; world =
 moves_answer ask Faulted t o = record { more = ask ∷ []; calls = refl; world = rw o refl }
 moves_answer ask Small t o = record { more = ask ∷ []; calls = refl; world = rw o refl }
 
-moves_made : (ask : Ask) (t : Now) → Moves t (rest_of (made ask t))
-unfolding made
+moves_made : (ask : Ask) (t : Now) → Moves t (rest_of (made_call ask t))
+unfolding made_call
 moves_made ask t = either (is_over t.world.answered) refl
   where
-    either : (b : Bool) → is_over t.world.answered ≡ b → Moves t (rest_of (made ask t))
+    either : (b : Bool) → is_over t.world.answered ≡ b → Moves t (rest_of (made_call ask t))
     either true o = rw o (record { more = ask ∷ []; calls = refl; world = rw o refl })
     either false o = rw o (moves_answer ask (done_now t.world ask).end t o)
 
@@ -77,8 +77,8 @@ silent : Machine ℕ Now
 silent = record {
   number = λ n. n;
   used = λ n t. (n, t);
-  asked = λ u forgive t. made (unit_ask u forgive) t;
-  commanded = λ c t. made (probe_ask c) t;
+  asked = λ u forgive t. made_call (unit_ask u forgive) t;
+  commanded = λ c t. made_call (probe_ask c) t;
   confirmed = λ t. t;
   written = λ line t. t;
   is_watchful = false;
@@ -93,8 +93,8 @@ lines_answer ask Skipped w t = refl
 lines_answer ask Faulted w t = refl
 lines_answer ask Small w t = refl
 
-lines_made : (ask : Ask) (t : Now) → SameLines t (rest_of (made ask t))
-unfolding made
+lines_made : (ask : Ask) (t : Now) → SameLines t (rest_of (made_call ask t))
+unfolding made_call
 lines_made ask t = either (is_over t.world.answered) _ _ refl (lines_answer ask (done_now t.world ask).end (next_world t.world ask) t)
   where
     either : (c : Bool) (x y : Result (ℕ × Now) (Over × Now)) → SameLines t (rest_of x) → SameLines t (rest_of y) → SameLines t (rest_of (cond c x y))
@@ -137,7 +137,7 @@ lt_more : (n : ℕ) → nat_lt n (n + 1) ≡ true
 lt_more n = lt-ltb n (n + 1) (omega arith)
 
 same_lines : (function : Function) (text n : List ℕ) (s : State ℕ Now) → function_line function text n ≡ None → SameLines s.rest (end_state (function_result (direct false) function text n s)).rest
-unfolding silent direct function_result memory memory_at one_unit two_units second_half low_and_high if_read zero_of command numbered ask answered port port_from port_with global given missing use_now or_halt ap_register ap_at dp_register dp_at abort abort_at delay clock pins line_bits
+unfolding silent direct function_result memory memory_at one_unit two_units second_half low_and_high if_read zero_of command counted_number ask counted_answer port port_from port_with global value_or_missing missing use_now or_halt ap_register ap_at dp_register dp_at abort abort_at delay clock pins line_bits
 same_lines f.Read8 text n s e = (g.goes_memory silent SameLines steady_silent 1 true (slice_index n 0) 0 s).so
 same_lines f.Read16 text n s e = (g.goes_memory silent SameLines steady_silent 2 true (slice_index n 0) 0 s).so
 same_lines f.Read32 text n s e = (g.goes_memory silent SameLines steady_silent 4 true (slice_index n 0) 0 s).so
@@ -242,7 +242,7 @@ polled_lines spot turns [] = refl
 polled_lines spot turns (u ∷ units) = poll_lines spot turns u.end (polled_events spot turns units) ∙ polled_lines spot turns units
 
 poll_same : (form : ℕ × ℕ) (turns : ℕ) (s : State ℕ Now) → SameLines s.rest (end_state (poll_result (direct false) form turns s)).rest
-unfolding silent direct poll_result poll_result_at counted dropped ask answered global given missing use_now
+unfolding silent direct poll_result poll_result_at counted_step dropped_value ask counted_answer global value_or_missing missing use_now
 poll_same form turns s = (g.goes_polled silent SameLines steady_silent form turns s).so
 
 pub tells_poll : (spot : Spot) (form : ℕ × ℕ) (turns : ℕ) (s : State ℕ Now) → Tells s (poll_result (direct false) form turns s) (poll_events spot form turns s)
@@ -259,8 +259,8 @@ tells_poll spot form turns s =
 abbrev counted_by : Bool → State ℕ Now → Out ℕ Now (Unit {0})
 counted_by b s = cond b (Ok (tt, step_more s)) (halt StepLimit s)
 
-pub tells_counted : (s : State ℕ Now) → Tells s (counted (direct false) s) []
-unfolding counted
+pub tells_counted : (s : State ℕ Now) → Tells s (counted_step (direct false) s) []
+unfolding counted_step
 tells_counted s = either (nat_lt s.steps 100000000)
   where
     either : (b : Bool) → Tells s (counted_by b s) []
@@ -268,8 +268,8 @@ tells_counted s = either (nat_lt s.steps 100000000)
     either false = said_none s.rest
 
 -- what a valid set has is given, and 0 or nothing in its place
-pub given_is : {A : Type 0} (x : A) (o : Option A) (s : State ℕ Now) → given (direct false) x o s ≡ Ok (unwrap_or o x, s)
-unfolding given missing direct
+pub given_is : {A : Type 0} (x : A) (o : Option A) (s : State ℕ Now) → value_or_missing (direct false) x o s ≡ Ok (unwrap_or o x, s)
+unfolding value_or_missing missing direct
 given_is x None s = refl
 given_is x (Some y) s = refl
 

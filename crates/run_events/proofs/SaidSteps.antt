@@ -12,7 +12,7 @@ use Rattle.sequence_trees.specs.declared.spot.Spot.{Spot}
 use Rattle.sequence_rules.specs.Direct.{Now, direct}
 use Rattle.sequence_rules.specs.Machine.{State, Out}
 use Rattle.sequence_rules.specs.Polls.{poll_of}
-use Rattle.sequence_rules.specs.Steps.{timeout_of, counted, declared, dropped, after_counted, in_order, inside, turn, turns, statement, block, condition, loop_result, repeat_result, controlled, step, steps_result}
+use Rattle.sequence_rules.specs.Steps.{timeout_of, counted_step, declared_variable, dropped_value, after_counted, in_order, inside, turn, turns, statement, block, condition, loop_result, repeat_result, control_result, step, steps_result}
 use Rattle.sequence_rules.specs.Values.{used_now, value}
 use Rattle.run_events.specs.Events.{Event, Begins, Tests, Chooses, Loops, Turns, Finds, Leaves, TimesOut, Assigns, events_after}
 use Rattle.run_events.specs.OfRuns.{each_turn}
@@ -22,18 +22,18 @@ use Rattle.run_events.proofs.Leaves.{tells_counted, tells_poll, given_is}
 use Rattle.run_events.proofs.Said.{Tells, said_none, said_one, also, tells_bind, tells_next, tells_map, tells_end, tells_if}
 use Rattle.run_events.proofs.SaidValues.{used_is, tells_value}
 
-tells_declared : (name : Name) (s : State ℕ Now) (out : Out ℕ Now ℕ) (xs : List Event) → Tells s out xs → Tells s (declared (direct false) name out) (xs ++ events_after out (λ n r. Assigns name.text n ∷ []))
-unfolding declared
+tells_declared : (name : Name) (s : State ℕ Now) (out : Out ℕ Now ℕ) (xs : List Event) → Tells s out xs → Tells s (declared_variable (direct false) name out) (xs ++ events_after out (λ n r. Assigns name.text n ∷ []))
+unfolding declared_variable
 tells_declared name s out xs h = tells_map s out _ _ (tells_end s out xs _ h (λ x. said_one x.1.rest (Assigns name.text x.0) refl refl)) (λ x. refl)
 
-tells_dropped : (s : State ℕ Now) (out : Out ℕ Now ℕ) (xs : List Event) → Tells s out xs → Tells s (dropped (direct false) out) xs
-unfolding dropped
+tells_dropped : (s : State ℕ Now) (out : Out ℕ Now ℕ) (xs : List Event) → Tells s out xs → Tells s (dropped_value (direct false) out) xs
+unfolding dropped_value
 tells_dropped s out xs h = tells_map s out _ xs h (λ x. refl)
 
 tells_after_counted : (s : State ℕ Now) (rest : State ℕ Now → Out ℕ Now (Unit {0})) (rest_seen : State ℕ Now → List Event)
-    → ((r : State ℕ Now) → Tells r (rest r) (rest_seen r)) → Tells s (after_counted (direct false) rest s) (events_after (counted (direct false) s) (λ done r. rest_seen r))
+    → ((r : State ℕ Now) → Tells r (rest r) (rest_seen r)) → Tells s (after_counted (direct false) rest s) (events_after (counted_step (direct false) s) (λ done r. rest_seen r))
 unfolding after_counted
-tells_after_counted s rest rest_seen h = tells_next s (counted (direct false) s) _ (λ done r. rest_seen r) (tells_counted s) (λ x. h x.1)
+tells_after_counted s rest rest_seen h = tells_next s (counted_step (direct false) s) _ (λ done r. rest_seen r) (tells_counted s) (λ x. h x.1)
 
 tells_in_order : (s : State ℕ Now) (first : Out ℕ Now (Unit {0})) (rest : State ℕ Now → Out ℕ Now (Unit {0})) (xs : List Event) (rest_seen : State ℕ Now → List Event)
     → Tells s first xs → ((r : State ℕ Now) → Tells r (rest r) (rest_seen r)) → Tells s (in_order (direct false) first rest) (xs ++ events_after first (λ done r. rest_seen r))
@@ -60,7 +60,7 @@ module _ (spot : Spot) (test : State ℕ Now → Out ℕ Now ℕ) (test_seen : S
 
   tells_turn : (number : ℕ) (s : State ℕ Now) → Tells s (turn (direct false) test body s) (turn_events each_turn spot test test_seen body body_seen number s)
   unfolding turn turn_events
-  tells_turn number s = also s.rest _ (Turns spot number) _ refl refl (tells_next s (counted (direct false) s) _ (λ done r. tested_events each_turn spot test test_seen body body_seen r) (tells_counted s) (λ k. tells_tested k.1))
+  tells_turn number s = also s.rest _ (Turns spot number) _ refl refl (tells_next s (counted_step (direct false) s) _ (λ done r. tested_events each_turn spot test test_seen body body_seen r) (tells_counted s) (λ k. tells_tested k.1))
 
   tells_turns : (made left : ℕ) (s : State ℕ Now) → Tells s (turns (direct false) test body left s) (turns_events each_turn spot test test_seen body body_seen made left s)
   unfolding turns turns_events
@@ -72,7 +72,7 @@ module _ (spot : Spot) (test : State ℕ Now → Out ℕ Now ℕ) (test_seen : S
 module _ (turn_us : ℕ) (seq : List ℕ → State ℕ Now → Out ℕ Now (Unit {0})) (seen : List ℕ → State ℕ Now → List Event) (h : (name : List ℕ) (s : State ℕ Now) → Tells s (seq name s) (seen name s)) where
   tells_statement : (at : SetStep) (st : StmtTree) (s : State ℕ Now) → Tells s (statement (direct false) turn_us seq st s) (statement_events each_turn turn_us seq seen at st s)
   unfolding statement statement_events done_events
-  tells_statement at (t.Empty place) s = also s.rest _ (Begins (step_spot at part.Block place) (t.Empty place)) _ refl refl (tells_end s (counted (direct false) s) [] _ (tells_counted s) (λ x. said_none x.1.rest))
+  tells_statement at (t.Empty place) s = also s.rest _ (Begins (step_spot at part.Block place) (t.Empty place)) _ refl refl (tells_end s (counted_step (direct false) s) [] _ (tells_counted s) (λ x. said_none x.1.rest))
   tells_statement at (t.Declare name e) s = also s.rest _ (Begins (step_spot at part.Block name.at) (t.Declare name e)) _ refl refl
       (tells_after_counted s _ (λ r. value_events seq seen e r ++ events_after (value (direct false) seq e r) (λ n q. Assigns name.text n ∷ [])) (λ r. tells_declared name r _ _ (tells_value seq seen h e r)))
   tells_statement at (t.Plain place e) s = also s.rest _ (Begins (step_spot at part.Block place) (t.Plain place e)) _ refl refl
@@ -107,8 +107,8 @@ module _ (turn_us : ℕ) (seq : List ℕ → State ℕ Now → Out ℕ Now (Unit
         (rw (given_is 0 (timeout_of timeout) s) (tells_loop (step_spot at part.While text_start) (poll_of e steps) e _ s))
 
     tells_controlled : (cond_tree o : Option Tree) (timeout : Option ℕ) (steps : CodeSteps) (s : State ℕ Now)
-        → Tells s (controlled (direct false) turn_us seq cond_tree o timeout steps body s) (controlled_events each_turn turn_us seq seen at cond_tree o timeout steps within body_seen s)
-    unfolding controlled controlled_events
+        → Tells s (control_result (direct false) turn_us seq cond_tree o timeout steps body s) (controlled_events each_turn turn_us seq seen at cond_tree o timeout steps within body_seen s)
+    unfolding control_result controlled_events
     tells_controlled cond_tree o timeout steps s = tells_bind s (condition (direct false) turn_us seq cond_tree s) _ _ _ (tells_condition at cond_tree s)
         (λ x. tells_if x.1 x.0 _ _ _ _ (tells_repeated o timeout steps x.1) (said_none x.1.rest))
 

@@ -9,10 +9,10 @@ use Rattle.expr_grammar.specs.Tree.{Tree, ArgTree, ArgTrees}
 use Rattle.function_table.specs.declared.function.Function.{Function}
 use Rattle.function_table.specs.declared.function.Function.TheVariants as f
 use Rattle.function_table.specs.Lookup.{function_named}
-use Rattle.sequence_rules.specs.Calls.{use_now, missing, guarded}
+use Rattle.sequence_rules.specs.Calls.{use_now, missing, guarded_rest}
 use Rattle.sequence_rules.specs.Direct.{Now, direct}
 use Rattle.sequence_rules.specs.Machine.{State, Out, end_state}
-use Rattle.sequence_rules.specs.Values.{named, stored, assigned, used_now, of_unary, both, operands, result_of, strict_binary, truth_of, conjunction, disjunction, of_binary, choice, appended, chained, text_of, call_result, call_of, value, argument, arguments}
+use Rattle.sequence_rules.specs.Values.{named_value, stored_value, assigned_value, used_now, of_unary, both, operands, result_of, strict_binary, truth_of, conjunction, disjunction, of_binary, choice, appended_values, chained_values, text_of, call_result, call_of, value, argument, arguments}
 use Rattle.sequence_rules.specs.Variables.{visible}
 use Rattle.sequence_rules.proofs.NowLemmas.{numbers_as}
 use Rattle.run_events.specs.Events.{Event, Assigns, Calls, Returns, events_after}
@@ -26,12 +26,12 @@ unfolding used_now use_now direct
 used_is (Ok x) = refl
 used_is (Err e) = refl
 
-pub tells_stored : (name : Name) (n : ℕ) (s : State ℕ Now) → Tells s (stored (direct false) name n s) []
-unfolding stored guarded direct
+pub tells_stored : (name : Name) (n : ℕ) (s : State ℕ Now) → Tells s (stored_value (direct false) name n s) []
+unfolding stored_value guarded_rest direct
 tells_stored name n s = rw (stored_same name.text n s) (said_none s.rest)
 
-tells_named : (name : Name) (s : State ℕ Now) → Tells s (named (direct false) name s) []
-unfolding named
+tells_named : (name : Name) (s : State ℕ Now) → Tells s (named_value (direct false) name s) []
+unfolding named_value
 tells_named name s = rw (given_is _ (visible name.text s) s) (said_none s.rest)
 
 tells_unary : (op : UnaryOp) (s : State ℕ Now) (out : Out ℕ Now ℕ) (xs : List Event) → Tells s out xs → Tells s (of_unary (direct false) op out) xs
@@ -86,17 +86,17 @@ unfolding choice
 tells_choice s test first second xs first_seen second_seen h k l =
     rw (used_is test) (tells_bind s test _ xs _ h (λ x. tells_if x.1 (nat_eq x.0 0) (second x.1) (first x.1) (second_seen x.1) (first_seen x.1) (l x.1) (k x.1)))
 
-tells_assigned : (name : Name) (s : State ℕ Now) (out : Out ℕ Now ℕ) (xs : List Event) → Tells s out xs → Tells s (assigned (direct false) name out) (xs ++ events_after out (λ n r. Assigns name.text n ∷ []))
-unfolding assigned
+tells_assigned : (name : Name) (s : State ℕ Now) (out : Out ℕ Now ℕ) (xs : List Event) → Tells s out xs → Tells s (assigned_value (direct false) name out) (xs ++ events_after out (λ n r. Assigns name.text n ∷ []))
+unfolding assigned_value
 tells_assigned name s out xs h = tells_bind s out _ xs _ h (λ x. also x.1.rest _ (Assigns name.text x.0) [] refl refl (tells_stored name x.0 x.1))
 
-tells_appended : (got : List ℕ) (s : State ℕ Now) (out : Out ℕ Now ℕ) (xs : List Event) → Tells s out xs → Tells s (appended (direct false) got out) xs
-unfolding appended
+tells_appended : (got : List ℕ) (s : State ℕ Now) (out : Out ℕ Now ℕ) (xs : List Event) → Tells s out xs → Tells s (appended_values (direct false) got out) xs
+unfolding appended_values
 tells_appended got s out xs h = tells_map s out _ xs h (λ x. refl)
 
 tells_chained : (s : State ℕ Now) (first : Out ℕ Now (List ℕ)) (more : List ℕ → State ℕ Now → Out ℕ Now (List ℕ)) (xs : List Event) (more_seen : List ℕ → State ℕ Now → List Event)
-    → Tells s first xs → ((got : List ℕ) (r : State ℕ Now) → Tells r (more got r) (more_seen got r)) → Tells s (chained (direct false) first more) (xs ++ events_after first more_seen)
-unfolding chained
+    → Tells s first xs → ((got : List ℕ) (r : State ℕ Now) → Tells r (more got r) (more_seen got r)) → Tells s (chained_values (direct false) first more) (xs ++ events_after first more_seen)
+unfolding chained_values
 tells_chained s first more xs more_seen h k = tells_bind s first _ xs more_seen h (λ x. k x.0 x.1)
 
 -- ---- where what is seen of called sequences says what they add
@@ -113,7 +113,7 @@ module _ (seq : List ℕ → State ℕ Now → Out ℕ Now (Unit {0})) (seen : L
 
   tells_call_of : (name : Name) (args : ArgTrees) (s : State ℕ Now) (out : Out ℕ Now (List ℕ)) (xs : List Event)
       → Tells s out xs → Tells s (call_of (direct false) seq name args out) (xs ++ events_after out (λ n r. call_events seq seen (function_named name.text) (text_of args) n r))
-  unfolding call_of guarded direct
+  unfolding call_of guarded_rest direct
   tells_call_of name args s out xs k = rw (numbers_as out) (tells_bind s out _ xs _ k (λ x. tells_call (function_named name.text) (text_of args) x.0 x.1))
 
   mutual

@@ -14,8 +14,8 @@ use Rattle.sequence_rules.specs.Direct.{Now, direct, now_at}
 use Rattle.sequence_rules.specs.Machine.{State, Out, with_locals}
 use Rattle.sequence_rules.specs.Polls.{poll_of}
 use Rattle.sequence_rules.specs.Runs.{as_values}
-use Rattle.sequence_rules.specs.Steps.{counted, turn, statement, condition, step, sequence_at, debugged, start_state}
-use Rattle.sequence_rules.specs.Values.{text_of, argument, arguments, value, stored}
+use Rattle.sequence_rules.specs.Steps.{counted_step, turn, statement, condition, step, sequence_at, debug_result, start_state}
+use Rattle.sequence_rules.specs.Values.{text_of, argument, arguments, value, stored_value}
 use Rattle.run_events.specs.Events.{Event, Calls, Returns, events_after}
 use Rattle.run_events.specs.Laws.{IsPartOfEvents, ShownAreSeen}
 use Rattle.run_events.specs.OfRuns.{at_sequence, steps_in, sequence_events, debugged_events, run_events, each_turn}
@@ -110,7 +110,7 @@ module _ (seq : List ℕ → State ℕ Now → Out ℕ Now (Unit {0})) (shown se
 module _ (shows : ℕ → Bool) (spot : Spot) (test : State ℕ Now → Out ℕ Now ℕ) (test_shown test_seen : State ℕ Now → List Event) (body : State ℕ Now → Out ℕ Now (Unit {0})) (body_shown body_seen : State ℕ Now → List Event) (ht : (r : State ℕ Now) → Skims (test_shown r) (test_seen r)) (hb : (r : State ℕ Now) → Skims (body_shown r) (body_seen r)) where
   part_turn : (number : ℕ) (s : State ℕ Now) → Skims (turn_events shows spot test test_shown body body_shown number s) (turn_events each_turn spot test test_seen body body_seen number s)
   unfolding turn_events tested_events
-  part_turn number s = part_first _ _ _ (part_after (counted (direct false) s) _ _
+  part_turn number s = part_first _ _ _ (part_after (counted_step (direct false) s) _ _
       (λ done r. part_then _ _ (test r) _ _ (ht r) (λ n q. part_first _ _ _ (part_if (nat_eq n 0) _ _ _ _ (none_of []) (hb q)))))
 
   part_turns : (made left : ℕ) (s : State ℕ Now) → Skims (turns_events shows spot test test_shown body body_shown made left s) (turns_events each_turn spot test test_seen body body_seen made left s)
@@ -131,7 +131,7 @@ module _ (shows : ℕ → Bool) (turn_us : ℕ) (seq : List ℕ → State ℕ No
 
   part_statement : (at : SetStep) (st : StmtTree) (s : State ℕ Now) → Skims (statement_events shows turn_us seq shown at st s) (statement_events each_turn turn_us seq seen at st s)
   unfolding statement_events
-  part_statement at st s = part_first _ _ _ (part_after (counted (direct false) s) _ _ (λ done r. part_done st r))
+  part_statement at st s = part_first _ _ _ (part_after (counted_step (direct false) s) _ _ (λ done r. part_done st r))
 
   part_block : (at : SetStep) (code : List StmtTree) (s : State ℕ Now) → Skims (block_events shows turn_us seq shown at code s) (block_events each_turn turn_us seq seen at code s)
   unfolding block_events
@@ -182,12 +182,12 @@ module _ (shows : ℕ → Bool) (turn_us : ℕ) (set : SetTrees) where
   part_debugged [] s = none_of []
   part_debugged (t.Empty at ∷ code) s = part_debugged code s
   part_debugged (t.Declare name e ∷ code) s = part_first _ _ _ (part_then _ _ (value (direct false) (λ n q. sequence_at (direct false) turn_us set 0 n q) e s) _ _ (part_value _ _ _ (λ n q. part_sequence 0 n q) e s)
-      (λ n r. part_first _ _ _ (part_after (stored (direct false) name n r) _ _ (λ done q. part_debugged code q))))
+      (λ n r. part_first _ _ _ (part_after (stored_value (direct false) name n r) _ _ (λ done q. part_debugged code q))))
   part_debugged (t.Plain at e ∷ code) s = part_debugged code s
 
   part_run : (start : List ℕ) (s : State ℕ Now) → Skims (run_events shows turn_us set start s) (run_events each_turn turn_us set start s)
   unfolding run_events
-  part_run start s = part_then _ _ (debugged (direct false) turn_us set set.debugvars s) _ _ (part_debugged set.debugvars s)
+  part_run start s = part_then _ _ (debug_result (direct false) turn_us set set.debugvars s) _ _ (part_debugged set.debugvars s)
       (λ done r. part_steps shows turn_us _ _ _ (λ n q. part_sequence 31 n q) (at_sequence start) 0 (steps_in set start) r)
 
 pub shown_are_seen : ShownAreSeen

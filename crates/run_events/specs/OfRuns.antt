@@ -11,8 +11,8 @@ use Rattle.target_machine.specs.State.{TargetState}
 use Rattle.sequence_rules.specs.Direct.{Now, now_at, direct}
 use Rattle.sequence_rules.specs.Machine.{State, with_locals}
 use Rattle.sequence_rules.specs.Runs.{Program, as_values}
-use Rattle.sequence_rules.specs.Steps.{sequence_at, debugged, start_state}
-use Rattle.sequence_rules.specs.Values.{value, stored}
+use Rattle.sequence_rules.specs.Steps.{sequence_at, debug_result, start_state}
+use Rattle.sequence_rules.specs.Values.{value, stored_value}
 use Rattle.run_events.specs.Events.{Event, Begins, Assigns, events_after}
 use Rattle.run_events.specs.OfSteps.{step_spot, steps_events}
 use Rattle.run_events.specs.OfValues.{value_events}
@@ -46,14 +46,14 @@ module _ (shows : ℕ → Bool) (turn_us : ℕ) (set : SetTrees) where
       Begins (step_spot at_debugvars part.Debugvars name.at) (t.Declare name e)
       ∷ value_events (λ n q. sequence_at (direct false) turn_us set 0 n q) (λ n q. sequence_events 0 n q) e s
       ++ events_after (value (direct false) (λ n q. sequence_at (direct false) turn_us set 0 n q) e s)
-      (λ n r. Assigns name.text n ∷ events_after (stored (direct false) name n r) (λ done q. debugged_events code q))
+      (λ n r. Assigns name.text n ∷ events_after (stored_value (direct false) name n r) (λ done q. debugged_events code q))
   debugged_events (t.Plain at e ∷ code) s = debugged_events code s
 
   -- a run: the debug variables, and then the sequence of the name
   unfoldable pub run_events : List ℕ → State ℕ Now → List Event
   run_events start s =
       debugged_events set.debugvars s
-      ++ events_after (debugged (direct false) turn_us set set.debugvars s)
+      ++ events_after (debug_result (direct false) turn_us set set.debugvars s)
       (λ done r. steps_events shows turn_us (λ n q. sequence_at (direct false) turn_us set 31 n q) (λ n q. sequence_events 31 n q)
       (at_sequence start) 0 (steps_in set start) r)
 

@@ -13,7 +13,7 @@ use Rattle.target_machine.specs.Plain.{CallEnd, Answered}
 use Rattle.sequence_rules.specs.Direct.{Now, direct}
 use Rattle.sequence_rules.specs.Machine.{State, Out, end_state}
 use Rattle.sequence_rules.specs.Polls.{poll_of}
-use Rattle.sequence_rules.specs.Steps.{timeout_of, turn_count, counted, inside, turn, poll_result, statement, condition, step, steps_result}
+use Rattle.sequence_rules.specs.Steps.{timeout_of, turn_count, counted_step, inside, turn, poll_result, statement, condition, step, steps_result}
 use Rattle.sequence_rules.specs.Values.{value}
 use Rattle.run_events.specs.Events.{Event, Begins, Tests, Chooses, Loops, Turns, Finds, Leaves, TimesOut, Matches, Assigns, Makes, MadeUnit, events_after, units_between}
 use Rattle.run_events.specs.OfValues.{value_events}
@@ -70,7 +70,7 @@ module _ (shows : ℕ → Bool) where
 
     -- the turn of this number
     unfoldable pub turn_events : ℕ → State ℕ Now → List Event
-    turn_events number s = Turns spot number ∷ events_after (counted (direct false) s) (λ done r. tested_events r)
+    turn_events number s = Turns spot number ∷ events_after (counted_step (direct false) s) (λ done r. tested_events r)
 
     -- at most so many turns, after so many that were made
     unfoldable pub turns_events : ℕ → ℕ → State ℕ Now → List Event
@@ -89,7 +89,7 @@ module _ (shows : ℕ → Bool) where
 
     -- a statement
     unfoldable pub statement_events : SetStep → StmtTree → State ℕ Now → List Event
-    statement_events at st s = Begins (step_spot at part.Block (statement_place st)) st ∷ events_after (counted (direct false) s) (λ done r. done_events st r)
+    statement_events at st s = Begins (step_spot at part.Block (statement_place st)) st ∷ events_after (counted_step (direct false) s) (λ done r. done_events st r)
 
     -- statements in order
     unfoldable pub block_events : SetStep → List StmtTree → State ℕ Now → List Event

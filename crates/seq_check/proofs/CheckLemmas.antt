@@ -14,7 +14,7 @@ use Rattle.call_graph.specs.declared.graph.CallSpot.{CallSpot}
 use Rattle.call_graph.specs.Spots as graph
 use Rattle.code_check.specs.declared.fault.FaultKind.{FaultKind}
 use Rattle.code_check.specs.declared.fault.FaultKind.TheVariants as k
-use Rattle.function_table.specs.Variables.{predefined}
+use Rattle.function_table.specs.Variables.{names_of_predefined}
 use Rattle.code_check.specs.First.{IsFirst}
 use Rattle.code_check.specs.BlockFaults.{names_after_all, BlockFault}
 use Rattle.seq_check.specs.declared.faulty.HeldFault.{HeldFault}
@@ -71,20 +71,20 @@ calls_sound set g o (Some x) e is finds deep_is deep = absurd cc
 
 -- ---- the texts and controls of a set
 
-pub held_first : (set : SetTrees) (names sequences : List (List ℕ)) (code : List StmtTree) (f : SetFault) → names ≡ predefined → sequences ≡ names_of set → code ≡ set.debugvars
+pub held_first : (set : SetTrees) (names sequences : List (List ℕ)) (code : List StmtTree) (f : SetFault) → names ≡ names_of_predefined → sequences ≡ names_of set → code ≡ set.debugvars
     → IsFirst is_set_before (Of holders.Debugvars (At parts.Debugvars (BlockFault (record { visible = names; sequences = sequences; in_debugvars = true }) code))) (Some f) → IsFirst is_set_before (FaultInSet set) (Some f)
 held_first set names sequences code f p q r h = set_held set f (rw (p, q, r) at h)
 
 pub set_first : (set : SetTrees) (names sequences visible : List (List ℕ)) (code : List StmtTree) (r : Result (Option HeldFault) OutOfMemory)
-    → names ≡ predefined → sequences ≡ names_of set → code ≡ set.debugvars → visible ≡ names_after_all names code
+    → names ≡ names_of_predefined → sequences ≡ names_of set → code ≡ set.debugvars → visible ≡ names_after_all names code
     → IsFirst is_set_before (Of holders.Debugvars (At parts.Debugvars (BlockFault (record { visible = names; sequences = sequences; in_debugvars = true }) code))) None
     → IfOk r (λ o. IsFirst is_set_before (FaultInSequences (record { visible = visible; sequences = sequences; in_debugvars = false }) 0 (map (λ s. s.steps) set.sequences)) (option_map held_view o))
     → IfOk r (λ o. IsFirst is_set_before (FaultInSet set) (option_map held_view o))
 set_first set names sequences visible code r p q e v none h =
-    let seen : visible ≡ names_after_all predefined set.debugvars = v ∙ ap (λ n. names_after_all n code) p ∙ ap (names_after_all predefined) e in
+    let seen : visible ≡ names_after_all names_of_predefined set.debugvars = v ∙ ap (λ n. names_after_all n code) p ∙ ap (names_after_all names_of_predefined) e in
     let all = map (λ s. s.steps) set.sequences in
     let First : List (List ℕ) → List (List ℕ) → Type 0 = λ x y. IfOk r (λ o. IsFirst is_set_before (FaultInSequences (record { visible = x; sequences = y; in_debugvars = false }) 0 all) (option_map held_view o)) in
-    set_answer set r (rw (p, q, e) at none) (subst (λ y. First (names_after_all predefined set.debugvars) y) q (subst (λ x. First x sequences) seen h))
+    set_answer set r (rw (p, q, e) at none) (subst (λ y. First (names_after_all names_of_predefined set.debugvars) y) q (subst (λ x. First x sequences) seen h))
 
 -- ---- the whole
 

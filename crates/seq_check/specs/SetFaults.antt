@@ -2,7 +2,7 @@
 use Rattle.std.specs.Prelude.{◌≡◌, ℕ, suc, nat_lt, ◌&&◌, ◌||◌, not, Bool, true, false, List, [], ◌∷◌, map}
 use Rattle.sequence_trees.specs.declared.spot.Part.TheVariants as parts
 use Rattle.sequence_trees.specs.Trees.{CodeSteps, SetTrees}
-use Rattle.function_table.specs.Variables.{predefined}
+use Rattle.function_table.specs.Variables.{names_of_predefined}
 use Rattle.code_check.specs.First.{Nowhere, InEither}
 use Rattle.code_check.specs.ExprFaults.{Scope}
 use Rattle.code_check.specs.BlockFaults.{names_after_all, BlockFault}
@@ -37,11 +37,11 @@ names_of set = map (λ s. s.name) set.sequences
 
 -- the debug variables see the predefined ones, and each other from their declarations on
 abbrev pub debugvars_scope : SetTrees → Scope
-debugvars_scope set = record { visible = predefined; sequences = names_of set; in_debugvars = true }
+debugvars_scope set = record { visible = names_of_predefined; sequences = names_of set; in_debugvars = true }
 
 -- each sequence sees the predefined variables and the debug variables
 abbrev pub sequences_scope : SetTrees → Scope
-sequences_scope set = record { visible = names_after_all predefined set.debugvars; sequences = names_of set; in_debugvars = false }
+sequences_scope set = record { visible = names_after_all names_of_predefined set.debugvars; sequences = names_of set; in_debugvars = false }
 
 -- in the steps of sequences, the first of which has this number
 abbrev pub FaultInSequences : Scope → ℕ → List CodeSteps → SetFault → Type 0

@@ -5,7 +5,7 @@ use Rattle.target_calls.specs.World.{World, done_now, end_result, is_faulted, is
 use Rattle.target_calls.specs.declared.calls.Ask.{Ask}
 use Rattle.target_calls.proofs.MarkLemmas.{marked_same, marked_settled}
 use Rattle.sequels.specs.Sequel.{Sequel, Ends, Asks, Writes, Comes, comes, stopped_at, call_first, line_first}
-use Rattle.sequels.specs.Limits.{GoesOnFrom, IsLimited, limited}
+use Rattle.sequels.specs.Limits.{GoesOnFrom, IsLimited, limited_world}
 
 -- one more call before both
 more_call : {X : Type 0} (ask : Ask) (m : ℕ) (whole short : Comes X) → IsLimited m whole short → IsLimited (suc m) (call_first ask whole) (call_first ask short)
@@ -30,7 +30,7 @@ more_line line m whole short (inr h) = inr (record {
   written = ap (λ (l : List ℕ). line ++ l) h.written ∙ sym (append_assoc line short.written h.further);
 })
 
-pub limit_comes : {X : Type 0} (w : World) (m : ℕ) (s : Sequel X) → w.answered ≡ None → IsLimited m (comes w s) (comes (limited w m) s)
+pub limit_comes : {X : Type 0} (w : World) (m : ℕ) (s : Sequel X) → w.answered ≡ None → IsLimited m (comes w s) (comes (limited_world w m) s)
 limit_comes w m (Ends x) free = inl (record { few = omega arith; same = refl })
 limit_comes {X = X} w zero (Asks ask on) free = one (stops_here w ask)
   where
@@ -51,12 +51,12 @@ limit_comes {X = X} w (suc m) (Asks ask on) free =
     first = comes (next_world w ask) (on (end_result (done_now w ask).end))
 
     second : Comes X
-    second = comes (limited (next_world w ask) m) (on (end_result (done_now w ask).end))
+    second = comes (limited_world (next_world w ask) m) (on (end_result (done_now w ask).end))
 
     one : (b : Bool) → IsLimited m first second → IsLimited (suc m) (cond b (stopped_at ask) (call_first ask first)) (cond b (stopped_at ask) (call_first ask second))
     one true h = inl (record { few = omega arith; same = refl })
     one false h = more_call ask m first second h
-limit_comes w m (Writes line on) free = more_line line m (comes w on) (comes (limited w m) on) (limit_comes w m on free)
+limit_comes w m (Writes line on) free = more_line line m (comes w on) (comes (limited_world w m) on) (limit_comes w m on free)
 
 -- ---- calls that go on from others
 

@@ -7,7 +7,7 @@ use Rattle.target_calls.specs.declared.calls.Ask.{Ask}
 use Rattle.target_calls.proofs.CallLists.{append_after, append_stop}
 use Rattle.target_calls.proofs.OneCall.{one_goes}
 use Rattle.sequels.specs.Sequel.{Sequel, Ends, Asks, Writes, Comes, followed_by, comes}
-use Rattle.sequels.specs.Going.{GoesOn, joined}
+use Rattle.sequels.specs.Going.{GoesOn, joined_sequel}
 use Rattle.sequels.specs.Laws.{rest_by}
 use Rattle.sequels.specs.Meeting.{CutOff, Gave, LeftOff, Reaches}
 use Rattle.sequels.proofs.SequelLemmas.{after_comes, goes_after, goes_call, goes_line, goes_nowhere, goes_on, goes_to_end}
@@ -80,7 +80,7 @@ cut_on w s rest old mid new b m n whole r q =
       lines = r.lines ++ q.lines;
       calls = q.calls ∙ ap (λ (l : List Ask). l ++ q.more) r.calls ∙ append_assoc old r.more q.more;
       written = Appends-trans b m n r.lines q.lines r.written q.written;
-      is = r.goes.whole_is ∙ ap (λ (u : World). joined r.more r.lines (comes u rest)) (sym at) ∙ ap (joined r.more r.lines) q.is;
+      is = r.goes.whole_is ∙ ap (λ (u : World). joined_sequel r.more r.lines (comes u rest)) (sym at) ∙ ap (joined_sequel r.more r.lines) q.is;
     }
 
 -- the calls of the first of two sequels come first, and so do its lines

@@ -5,7 +5,7 @@ use Rattle.target_calls.specs.World.{World, done_now, end_result, later_by, next
 use Rattle.target_calls.specs.declared.calls.Ask.{Ask}
 use Rattle.target_calls.proofs.CallLists.{append_after, append_stop}
 use Rattle.sequels.specs.Sequel.{Sequel, Ends, Asks, Writes, Comes, followed_by, written_and_end, comes, call_first, line_first}
-use Rattle.sequels.specs.Going.{GoesOn, EndsWith, joined}
+use Rattle.sequels.specs.Going.{GoesOn, EndsWith, joined_sequel}
 use Rattle.sequels.specs.Laws.{AsAnswered, StopsByEnd, rest_by}
 use Rattle.sequels.specs.Steady.{OnlyAsks, Steady}
 
@@ -49,10 +49,10 @@ after_ends (Writes line on) = ap (Writes line) (after_ends on)
 
 -- ---- going on
 
-pub joined_nothing : {X : Type 0} (c : Comes X) → joined [] [] c ≡ c
+pub joined_nothing : {X : Type 0} (c : Comes X) → joined_sequel [] [] c ≡ c
 joined_nothing c = refl
 
-pub joined_twice : {X : Type 0} (calls more : List Ask) (lines further : List ℕ) (c : Comes X) → joined calls lines (joined more further c) ≡ joined (calls ++ more) (lines ++ further) c
+pub joined_twice : {X : Type 0} (calls more : List Ask) (lines further : List ℕ) (c : Comes X) → joined_sequel calls lines (joined_sequel more further c) ≡ joined_sequel (calls ++ more) (lines ++ further) c
 joined_twice calls more lines further c = rw (append_assoc calls more c.calls, append_assoc lines further c.written) refl
 
 pub after_comes : {X Y : Type 0} (w : World) (s : Sequel X) (next : X → Sequel Y) → comes w (followed_by s next) ≡ rest_by w (comes w s).calls (comes w s).written (comes w s).end next
@@ -93,9 +93,9 @@ pub goes_on : {X : Type 0} (w : World) (s : Sequel X) (calls : List Ask) (lines 
 goes_on w s calls lines rest more further last g h = record {
   whole_is =
       let at = append_after w calls more g.goes in
-      g.whole_is ∙ ap (joined calls lines) h.whole_is
+      g.whole_is ∙ ap (joined_sequel calls lines) h.whole_is
       ∙ joined_twice calls more lines further (comes (world_after (world_after w calls) more) last)
-      ∙ ap (λ (u : World). joined (calls ++ more) (lines ++ further) (comes u last)) (sym at);
+      ∙ ap (λ (u : World). joined_sequel (calls ++ more) (lines ++ further) (comes u last)) (sym at);
   goes = append_stop w calls more g.goes ∙ ap (later_by (length calls)) h.goes;
 }
 

@@ -2,7 +2,7 @@
 use Rattle.std.specs.Prelude.{◌≡◌, ℕ, List, length, Option, Some, None, MatchOption}
 use Rattle.target_calls.specs.World.{World, stop, world_after}
 use Rattle.target_calls.specs.declared.calls.Ask.{Ask}
-use Rattle.sequels.specs.Going.{joined}
+use Rattle.sequels.specs.Going.{joined_sequel}
 use Rattle.sequels.specs.Sequel.{Sequel, Comes, followed_by, written_and_end, comes}
 
 -- The calls that are made do not stop where the sequel comes to its end, and else stop at the last.
@@ -12,7 +12,7 @@ pub record StopsByEnd {X : Type 0} (w : World) (s : Sequel X) : Type 0 where
 -- What one sequel and then another comes to, by the calls, the lines and the end of the first.
 abbrev pub rest_by : {X Y : Type 0} → World → List Ask → List ℕ → Option X → (X → Sequel Y) → Comes Y
 rest_by w calls lines None next = record { calls = calls; written = lines; end = None }
-rest_by w calls lines (Some x) next = joined calls lines (comes (world_after w calls) (next x))
+rest_by w calls lines (Some x) next = joined_sequel calls lines (comes (world_after w calls) (next x))
 
 -- One sequel and then another comes to that.
 abbrev pub ComesAfter : {X Y : Type 0} → World → Sequel X → (X → Sequel Y) → Type 0

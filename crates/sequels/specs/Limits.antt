@@ -6,8 +6,8 @@ use Rattle.target_calls.specs.declared.calls.Ask.{Ask}
 use Rattle.sequels.specs.Sequel.{Comes}
 
 -- the same world with so many further calls answered
-abbrev pub limited : World → ℕ → World
-limited w m = record { target = w.target; large = w.large; answered = Some m }
+abbrev pub limited_world : World → ℕ → World
+limited_world w m = record { target = w.target; large = w.large; answered = Some m }
 
 -- all calls are answered
 pub record SameWithin {X : Type 0} (m : ℕ) (whole short : Comes X) : Type 0 where

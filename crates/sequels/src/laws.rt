@@ -3,7 +3,7 @@ ghost use Rattle.std.specs.Prelude.{◌≡◌, ℕ, None};
 ghost use Rattle.target_calls.specs.World.{World};
 ghost use Rattle.sequels.specs.declared.close.Close.{Close};
 ghost use Rattle.sequels.specs.Laws.{ComesAfter, StopsByEnd};
-ghost use Rattle.sequels.specs.Limits.{IsLimited, limited};
+ghost use Rattle.sequels.specs.Limits.{IsLimited, limited_world};
 ghost use Rattle.sequels.specs.Sequel.{Sequel, comes};
 
 /// Where a sequel has no end, its calls stop at the last one. Else they do not stop.
@@ -19,5 +19,5 @@ pub fn one_comes_after_another()
 /// Where only so many calls are answered, a sequel that asks no more is the same. Any other has the calls up to the first one that is
 /// not answered, what was written before it, and no end.
 pub fn limits_cut_sequels()
-    ensures { (w : World) (m : ℕ) (s : Sequel Close) → w.answered ≡ None → IsLimited m (comes w s) (comes (limited w m) s) }
+    ensures { (w : World) (m : ℕ) (s : Sequel Close) → w.answered ≡ None → IsLimited m (comes w s) (comes (limited_world w m) s) }
 {}

@@ -4,13 +4,13 @@ use Rattle.std.proofs.lemmas.List.{map-append}
 use Rattle.target_machine.specs.declared.unit.Variable.{Variable}
 use Rattle.sequence_rules.specs.declared.bindings.Binding.{Binding}
 use Rattle.sequence_rules.specs.Runs.{variables_of}
-use Rattle.sequence_rules.specs.Variables.{bound}
+use Rattle.sequence_rules.specs.Variables.{bound_variable}
 
 pub answered_more : (bs : List (Binding ℕ)) (i : ℕ) (x : Binding ℕ) (old new : List Variable) (v : Variable) → Some x ≡ slice_get bs i → v.name ≡ x.name → v.value ≡ x.value → new ≡ old ++ v ∷ [] → variables_of old ≡ take i bs
     → variables_of new ≡ take (i + 1) bs
 answered_more bs i x old new v at hn hv add was =
-    ap variables_of add ∙ map-append (λ (y : Variable). record { name = y.name; value = y.value }) old (v ∷ []) ∙ ap (λ l. l ++ bound v.name v.value ∷ []) was
-    ∙ ap (λ n. take i bs ++ bound n v.value ∷ []) hn ∙ ap (λ n. take i bs ++ bound x.name n ∷ []) hv ∙ sym (ap (λ k. take k bs) next ∙ one_more bs i x at)
+    ap variables_of add ∙ map-append (λ (y : Variable). record { name = y.name; value = y.value }) old (v ∷ []) ∙ ap (λ l. l ++ bound_variable v.name v.value ∷ []) was
+    ∙ ap (λ n. take i bs ++ bound_variable n v.value ∷ []) hn ∙ ap (λ n. take i bs ++ bound_variable x.name n ∷ []) hv ∙ sym (ap (λ k. take k bs) next ∙ one_more bs i x at)
   where
     next : i + 1 ≡ suc i
     next = omega arith

@@ -9,11 +9,11 @@ use Rattle.expr_grammar.specs.declared.code.Name.{Name}
 use Rattle.expr_grammar.specs.Tree.{arg_trees, tree, Tree, ArgTrees, ExprArg, TextArg, NoArgs, MoreArgs}
 use Rattle.function_table.specs.Lookup.{function_named}
 use Rattle.function_table.specs.declared.function.Function.{Function}
-use Rattle.sequence_rules.specs.Calls.{guarded, use_now}
+use Rattle.sequence_rules.specs.Calls.{guarded_rest, use_now}
 use Rattle.sequence_rules.specs.Direct.{Now, direct}
 use Rattle.sequence_rules.specs.Laws.{Adds}
 use Rattle.sequence_rules.specs.Machine.{State, Out}
-use Rattle.sequence_rules.specs.Values.{all_used, appended, argument, arguments, call_of, call_result, chained, numbers_of, value}
+use Rattle.sequence_rules.specs.Values.{all_used, appended_values, argument, arguments, call_of, call_result, chained_values, numbers_of, value}
 use Rattle.sequence_rules.proofs.Adding.{adds_direct}
 use Rattle.sequence_rules.proofs.Goes as g
 use Rattle.sequence_meaning.specs.declared.end.DirectEnd.{DirectEnd}
@@ -65,17 +65,17 @@ module _ (runner : DirectRunner) (depth : ℕ) (name : Name) where
   call_on args s = call_of (direct false) (calls_of runner depth) name args (arguments (direct false) (calls_of runner depth) args [] s)
 
   pub one_is : (at : Place) (a : Tree) (s r : S) (n : ℕ) → val a s ≡ Ok (n, r) → call_on (one_number at a) s ≡ call_result (direct false) (calls_of runner depth) (function_named name.text) [] (n ∷ []) r
-  unfolding call_of guarded numbers_of arguments argument chained appended all_used use_now direct
+  unfolding call_of guarded_rest numbers_of arguments argument chained_values appended_values all_used use_now direct
   one_is at a s r n is = rw is refl
 
   pub ends_one : (e : DirectEnd) (now s : S) (at : Place) (a : Tree) → EndsDirect e now (val a s) → EndsDirect e now (call_on (one_number at a) s)
-  unfolding arguments argument chained
+  unfolding arguments argument chained_values
   ends_one e now s at a h =
       ends_call runner depth e now name (one_number at a) _ (ends_on e now _ _ (λ x. adds_ok x.1 _) (ends_appended e now [] _ h))
 
   pub two_is : (at later : Place) (a b : Tree) (s r q : S) (n k : ℕ) → val a s ≡ Ok (n, r) → val b r ≡ Ok (k, q)
       → call_on (two_numbers at a later b) s ≡ call_result (direct false) (calls_of runner depth) (function_named name.text) [] (n ∷ k ∷ []) q
-  unfolding call_of guarded numbers_of arguments argument chained appended all_used use_now direct
+  unfolding call_of guarded_rest numbers_of arguments argument chained_values appended_values all_used use_now direct
   two_is at later a b s r q n k is next = rw (is, next) refl
 
   -- a call of the function that was found means the call of the name
@@ -87,13 +87,13 @@ module _ (runner : DirectRunner) (depth : ℕ) (name : Name) where
       (subst (λ x. MeansDirect e result now (call_result (direct false) (calls_of runner depth) x [] (n ∷ k ∷ []) q)) same h)
 
   pub ends_first : (e : DirectEnd) (now s : S) (at later : Place) (a b : Tree) → EndsDirect e now (val a s) → EndsDirect e now (call_on (two_numbers at a later b) s)
-  unfolding arguments argument chained
+  unfolding arguments argument chained_values
   ends_first e now s at later a b h =
       ends_call runner depth e now name (two_numbers at a later b) _
       (ends_on e now _ _ (λ x. g.goes_arguments (direct false) Adds (adds_direct false) (calls_of runner depth) (adds_sequence runner depth) (MoreArgs (ExprArg later b) NoArgs) x.0 x.1) (ends_appended e now [] _ h))
 
   pub ends_second : (e : DirectEnd) (now s r : S) (at later : Place) (a b : Tree) (n : ℕ) → val a s ≡ Ok (n, r) → EndsDirect e now (val b r) → EndsDirect e now (call_on (two_numbers at a later b) s)
-  unfolding arguments argument chained appended
+  unfolding arguments argument chained_values appended_values
   ends_second e now s r at later a b n is h =
       rw is (ends_call runner depth e now name (two_numbers at a later b) _ (ends_on e now _ _ (λ x. adds_ok x.1 _) (ends_appended e now (n ∷ []) _ h)))
 

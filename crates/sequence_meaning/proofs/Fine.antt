@@ -4,10 +4,10 @@ use Rattle.std.specs.Option.{option_or}
 use Rattle.code_check.specs.Names.{has_name}
 use Rattle.dap_base.specs.Outcome.{◌>>=◌}
 use Rattle.sequence_rules.specs.declared.bindings.Binding.{Binding}
-use Rattle.sequence_rules.specs.Calls.{given, guarded}
+use Rattle.sequence_rules.specs.Calls.{value_or_missing, guarded_rest}
 use Rattle.sequence_rules.specs.Machine as machine
 use Rattle.sequence_rules.specs.Machine.{Over, Machine, State, Out}
-use Rattle.sequence_rules.specs.Variables.{bound, has_in, value_named, set_in, newest_in, set_newest, is_visible, visible, set_visible}
+use Rattle.sequence_rules.specs.Variables.{bound_variable, has_in, value_named, set_in, newest_in, set_newest, is_visible, visible, set_visible}
 
 -- ---- outcomes
 
@@ -39,20 +39,20 @@ module _ {V T : Type 0} where
 -- ---- what is there
 
 module _ {V T : Type 0} (m : Machine V T) where
-  pub given_some : {A : Type 0} (x : A) (o : Option A) (y : A) (s : State V T) → o ≡ Some y → given m x o s ≡ Ok (y, s)
-  unfolding given
+  pub given_some : {A : Type 0} (x : A) (o : Option A) (y : A) (s : State V T) → o ≡ Some y → value_or_missing m x o s ≡ Ok (y, s)
+  unfolding value_or_missing
   given_some x None y s h = absurd cc
-  given_some x (Some z) y s h = ap (λ k. given m x k s) h
+  given_some x (Some z) y s h = ap (λ k. value_or_missing m x k s) h
 
-  pub fine_given : {A : Type 0} (P : State V T → Type 0) (x : A) (o : Option A) (y : A) (s : State V T) → o ≡ Some y → P s → Fine P (given m x o s)
+  pub fine_given : {A : Type 0} (P : State V T → Type 0) (x : A) (o : Option A) (y : A) (s : State V T) → o ≡ Some y → P s → Fine P (value_or_missing m x o s)
   fine_given P x o y s h p = rw (given_some x o y s h) p
 
   guarded_ok : {A : Type 0} (w ok : Bool) (lost : Out V T A) (rest : Out V T A) → ok ≡ true → cond (w && not ok) lost rest ≡ rest
   guarded_ok true ok lost rest h = ap (λ b. cond (not b) lost rest) h
   guarded_ok false ok lost rest h = refl
 
-  pub fine_guarded : {A : Type 0} (P : State V T → Type 0) (ok : Bool) (rest : State V T → Out V T A) (s : State V T) → ok ≡ true → Fine P (rest s) → Fine P (guarded m ok rest s)
-  unfolding guarded
+  pub fine_guarded : {A : Type 0} (P : State V T → Type 0) (ok : Bool) (rest : State V T → Out V T A) (s : State V T) → ok ≡ true → Fine P (rest s) → Fine P (guarded_rest m ok rest s)
+  unfolding guarded_rest
   fine_guarded P ok rest s h p = rw (guarded_ok m.is_watchful ok (Err (machine.Lost, s)) (rest s) h) p
 
 -- ---- names
@@ -94,7 +94,7 @@ module _ {V : Type 0} where
   either_found true q None r k l h = (let x = k refl in absurd (not_some x.0 x.1))
   either_found false q None r k l h = l h
 
-  set_one : (c : Bool) (x : Binding V) (v : V) (bs cs : List (Binding V)) → names_in cs ≡ names_in bs → names_in (cond c (bound x.name v ∷ bs) (x ∷ cs)) ≡ x.name ∷ names_in bs
+  set_one : (c : Bool) (x : Binding V) (v : V) (bs cs : List (Binding V)) → names_in cs ≡ names_in bs → names_in (cond c (bound_variable x.name v ∷ bs) (x ∷ cs)) ≡ x.name ∷ names_in bs
   set_one true x v bs cs h = refl
   set_one false x v bs cs h = ap (λ r. x.name ∷ r) h
 
@@ -102,7 +102,7 @@ module _ {V : Type 0} where
   set_names [] n v = refl
   set_names (x ∷ bs) n v = set_one (bytes_eq n x.name) x v bs (set_in bs n v) (set_names bs n v)
 
-  newest_names_one : (c d : Bool) (x : Binding V) (v : V) (bs cs : List (Binding V)) → names_in cs ≡ names_in bs → names_in (cond c (x ∷ cs) (cond d (bound x.name v ∷ bs) (x ∷ bs))) ≡ x.name ∷ names_in bs
+  newest_names_one : (c d : Bool) (x : Binding V) (v : V) (bs cs : List (Binding V)) → names_in cs ≡ names_in bs → names_in (cond c (x ∷ cs) (cond d (bound_variable x.name v ∷ bs) (x ∷ bs))) ≡ x.name ∷ names_in bs
   newest_names_one true d x v bs cs h = ap (λ r. x.name ∷ r) h
   newest_names_one false true x v bs cs h = refl
   newest_names_one false false x v bs cs h = refl

@@ -6,7 +6,7 @@ use Rattle.function_table.specs.declared.function.Function.TheVariants as f
 use Rattle.target_machine.specs.declared.unit.HaltCause.{HaltCause}
 use Rattle.target_machine.specs.declared.unit.ProbeCall.{ProbeCall}
 use Rattle.target_machine.specs.declared.unit.Unit.{Unit as AccessUnit}
-use Rattle.sequence_rules.specs.Calls.{Port, or_halt, use_now, global, port, port_from, port_with, answered, ask, numbered, command, zero_of, if_read, low_and_high, second_half, two_units, one_unit, memory_port, memory_at, memory, ap_unit, ap_at, ap_register, dp_unit, dp_at, dp_register, pins_command, abort, abort_at, delay, clock, pins, line_bits, line_result, function_result}
+use Rattle.sequence_rules.specs.Calls.{Port, or_halt, use_now, global, port, port_from, port_with, counted_answer, ask, counted_number, command, zero_of, if_read, low_and_high, second_half, two_units, one_unit, memory_port, memory_at, memory, ap_unit, ap_at, ap_register, dp_unit, dp_at, dp_register, pins_command, abort, abort_at, delay, clock, pins, line_bits, line_result, function_result}
 use Rattle.sequence_rules.specs.Machine.{Over, Machine, State, Out, with_rest}
 use Rattle.sequence_rules.specs.Values.{all_used}
 use Rattle.sequence_rules.specs.Variables.{value_named}
@@ -51,8 +51,8 @@ module _ {V T : Type 0} (m : Machine V T) (safe : LacksNothing m) (gs ls : List 
         fine_bind Now Now (global m (codes "__errorcontrol") a.1) _ (fine_global (codes "__errorcontrol") a.1 control_there p) (λ e q.
         fine_bind Now Now (global m (codes "__dp") e.1) _ (fine_global (codes "__dp") e.1 dp_there q) (λ d r. r)))
 
-    fine_answered : (x : Result (V × T) (Over × T)) (s : S) → IsMetBy x → Has gs ls s → Fine (Has gs ls) (answered m x s)
-    unfolding answered
+    fine_answered : (x : Result (V × T) (Over × T)) (s : S) → IsMetBy x → Has gs ls s → Fine (Has gs ls) (counted_answer m x s)
+    unfolding counted_answer
     fine_answered (Ok x) s k h = record { globals = h.globals; locals = h.locals }
     fine_answered (Err e) s k h = k
 
@@ -60,8 +60,8 @@ module _ {V T : Type 0} (m : Machine V T) (safe : LacksNothing m) (gs ls : List 
     unfolding ask
     fine_ask u forgive s h = fine_cond Now (nat_lt s.units 1000000) _ _ (fine_answered (m.asked u forgive s.rest) s (safe.asked u forgive s.rest) h) tt
 
-    fine_numbered : (x : Result (ℕ × T) (Over × T)) (s : S) → IsMetBy x → Has gs ls s → Fine (Has gs ls) (numbered m x s)
-    unfolding numbered
+    fine_numbered : (x : Result (ℕ × T) (Over × T)) (s : S) → IsMetBy x → Has gs ls s → Fine (Has gs ls) (counted_number m x s)
+    unfolding counted_number
     fine_numbered (Ok x) s k h = record { globals = h.globals; locals = h.locals }
     fine_numbered (Err e) s k h = k
 

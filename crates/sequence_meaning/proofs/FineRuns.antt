@@ -1,5 +1,6 @@
 -- The run of a checked set lacks nothing: chains of calls, the debug variables, and whole runs.
 use Rattle.std.proofs.Common.{◌≡◌, ◌<◌, ◌≤◌, ℕ, zero, suc, ◌+◌, Bool, true, false, cond, not, ◌||◌, List, [], ◌∷◌, ◌++◌, map, length, slice_get, slice_index_or, nat_lt, None, Some, unwrap_or, Contains, ◌⊎◌, inl, inr, codes, refl, sym, ap, subst, ◌∙◌, arith, bytes_eq}
+use Rattle.std.proofs.Math.Bool.{or-false, or-true, or_assoc}
 use Rattle.std.specs.List.{position_or_len}
 use Rattle.std.proofs.lemmas.List.Elements.{Contains-append_cases}
 use Rattle.call_graph.specs.Graph.{callees_of, BeginsChain}
@@ -8,7 +9,7 @@ use Rattle.dap_base.specs.Outcome.{◌>>=◌}
 use Rattle.dap_base.proofs.Basics.{text_itself, contains_map}
 use Rattle.expr_grammar.specs.Tree as t
 use Rattle.expr_grammar.specs.Tree.{Tree, ArgTree, ArgTrees, StmtTree}
-use Rattle.function_table.specs.Variables.{predefined}
+use Rattle.function_table.specs.Variables.{names_of_predefined}
 use Rattle.code_check.specs.Names.{has_name, with_name}
 use Rattle.code_check.specs.First as first
 use Rattle.code_check.specs.ExprFaults.{Scope, ExprFault}
@@ -27,8 +28,8 @@ use Rattle.seq_check.specs.declared.faulty.Holder.TheVariants as holders
 use Rattle.seq_check.specs.declared.step_calls.StepCall.{StepCall}
 use Rattle.sequence_rules.specs.declared.bindings.Binding.{Binding}
 use Rattle.sequence_rules.specs.Machine.{Machine, State, Out, with_locals}
-use Rattle.sequence_rules.specs.Steps.{declared_names, given_back, sequence_result, steps_at, sequence_at, debugged, run_of, steps_result}
-use Rattle.sequence_rules.specs.Variables.{bound, has_in, with_new, with_all_new}
+use Rattle.sequence_rules.specs.Steps.{declared_names, given_back, sequence_result, steps_at, sequence_at, debug_result, run_of, steps_result}
+use Rattle.sequence_rules.specs.Variables.{bound_variable, has_in, with_new, with_all_new}
 use Rattle.sequence_meaning.proofs.Fine.{Fine, fine_bind, given_some, fine_weak, names_in, has_names, set_names, Has}
 use Rattle.sequence_meaning.proofs.FineCalls.{LacksNothing}
 use Rattle.sequence_meaning.proofs.FineValues.{Runs, fine_stored, fine_value}
@@ -120,16 +121,8 @@ place_of xs x k = (k.0, place_at xs x k.0 k.1 k.2)
 -- ---- names of debug variables
 
 with_one : (vs : List (List ℕ)) (x n : List ℕ) → has_name (vs ++ x ∷ []) n ≡ (has_name vs n || bytes_eq n x)
-with_one [] x n = last (bytes_eq n x)
-  where
-    last : (b : Bool) → (b || false) ≡ b
-    last true = refl
-    last false = refl
-with_one (v ∷ vs) x n = one (bytes_eq n v) _ _ _ (with_one vs x n)
-  where
-    one : (p q r w : Bool) → q ≡ (r || w) → (p || q) ≡ ((p || r) || w)
-    one true q r w h = refl
-    one false q r w h = h
+with_one [] x n = or-false (bytes_eq n x)
+with_one (v ∷ vs) x n = ap (λ b. bytes_eq n v || b) (with_one vs x n) ∙ sym (or_assoc (bytes_eq n v) (has_name vs n) (bytes_eq n x))
 
 keeps_with : (vs : List (List ℕ)) (x n : List ℕ) → has_name vs n ≡ true → has_name (with_name vs x) n ≡ true
 keeps_with vs x n h = either (has_name vs x) (with_one vs x n ∙ ap (λ b. b || bytes_eq n x) h)
@@ -141,13 +134,9 @@ keeps_with vs x n h = either (has_name vs x) (with_one vs x n ∙ ap (λ b. b ||
 has_with : (vs : List (List ℕ)) (x : List ℕ) → has_name (with_name vs x) x ≡ true
 has_with vs x = either (has_name vs x) refl
   where
-    last : (b : Bool) → (b || true) ≡ true
-    last true = refl
-    last false = refl
-
     either : (b : Bool) → has_name vs x ≡ b → has_name (cond b vs (vs ++ x ∷ [])) x ≡ true
     either true k = k
-    either false k = with_one vs x x ∙ ap (λ b. has_name vs x || b) (text_itself x) ∙ last (has_name vs x)
+    either false k = with_one vs x x ∙ ap (λ b. has_name vs x || b) (text_itself x) ∙ or-true (has_name vs x)
 
 keeps_after : (vs : List (List ℕ)) (st : StmtTree) (n : List ℕ) → has_name vs n ≡ true → has_name (names_after vs st) n ≡ true
 keeps_after vs (t.Empty at) n h = h
@@ -163,11 +152,11 @@ module _ {V : Type 0} where
   new_names : (bs : List (Binding V)) (name : List ℕ) (v : V) → names_in (with_new bs name v) ≡ with_name (names_in bs) name
   new_names bs name v = either (has_in bs name) (has_name (names_in bs) name) (has_names bs name)
     where
-      pushed : (xs : List (Binding V)) → names_in (xs ++ bound name v ∷ []) ≡ names_in xs ++ name ∷ []
+      pushed : (xs : List (Binding V)) → names_in (xs ++ bound_variable name v ∷ []) ≡ names_in xs ++ name ∷ []
       pushed [] = refl
       pushed (x ∷ xs) = ap (λ r. x.name ∷ r) (pushed xs)
 
-      either : (b d : Bool) → b ≡ d → names_in (cond b bs (bs ++ bound name v ∷ [])) ≡ cond d (names_in bs) (names_in bs ++ name ∷ [])
+      either : (b d : Bool) → b ≡ d → names_in (cond b bs (bs ++ bound_variable name v ∷ [])) ≡ cond d (names_in bs) (names_in bs ++ name ∷ [])
       either true true h = refl
       either false false h = pushed bs
       either true false h = absurd cc
@@ -212,19 +201,19 @@ module _ {V T : Type 0} (m : Machine V T) (safe : LacksNothing m) (turn_us : ℕ
   S = State V T
 
   abbrev gs : List (List ℕ)
-  gs = names_after_all predefined set.debugvars
+  gs = names_after_all names_of_predefined set.debugvars
 
   abbrev names : List (List ℕ)
   names = names_of set
 
   dp_there : has_name gs (codes "__dp") ≡ true
-  dp_there = keeps_all predefined set.debugvars (codes "__dp") refl
+  dp_there = keeps_all names_of_predefined set.debugvars (codes "__dp") refl
 
   ap_there : has_name gs (codes "__ap") ≡ true
-  ap_there = keeps_all predefined set.debugvars (codes "__ap") refl
+  ap_there = keeps_all names_of_predefined set.debugvars (codes "__ap") refl
 
   control_there : has_name gs (codes "__errorcontrol") ≡ true
-  control_there = keeps_all predefined set.debugvars (codes "__errorcontrol") refl
+  control_there = keeps_all names_of_predefined set.debugvars (codes "__errorcontrol") refl
 
   -- no chain of more than d sequences begins at the number
   abbrev Good : ℕ → ℕ → Type 0
@@ -280,8 +269,8 @@ module _ {V T : Type 0} (m : Machine V T) (safe : LacksNothing m) (turn_us : ℕ
   -- ---- the debug variables
 
   debug_fine : (sc : Scope) (code : List StmtTree) → sc.in_debugvars ≡ true → names_after_all sc.visible code ≡ gs → ((g : CodeFault) → BlockFault sc code g → ⊥)
-      → (s : S) → Has gs [] s → Fine (Has gs []) (debugged m turn_us set code s)
-  unfolding debugged
+      → (s : S) → Has gs [] s → Fine (Has gs []) (debug_result m turn_us set code s)
+  unfolding debug_result
   debug_fine sc [] debug same no' s h = h
   debug_fine sc (t.Empty at ∷ code) debug same no' s h = debug_fine (seeing sc sc.visible) code debug same (λ g x. no' g (first.there x)) s h
   debug_fine sc (t.Declare name e ∷ code) debug same no' s h =
@@ -305,5 +294,5 @@ module _ {V T : Type 0} (m : Machine V T) (safe : LacksNothing m) (turn_us : ℕ
       let shallow : AreGoodCalls (Good 31) (sequence_calls names found.steps) = λ call k chain.
       let at = place_of (callees_of (call_graph set) (number_of names start)) call.callee (call_at start found call k) in
       sound.calls.none_deep (record { node = number_of names start; call = at.0 }) (record { callee = call.callee; is_call = at.1; chain = chain }) in
-      fine_bind (Has gs []) (λ r. Unit {0}) (debugged m turn_us set set.debugvars s) _ (debug_fine (debugvars_scope set) set.debugvars refl refl bad s h) (λ x p.
+      fine_bind (Has gs []) (λ r. Unit {0}) (debug_result m turn_us set set.debugvars s) _ (debug_fine (debugvars_scope set) set.debugvars refl refl bad s h) (λ x p.
       fine_weak (Has gs (own_steps [] found.steps)) (λ r. Unit {0}) _ (body_fine 31 start found (steps_fine 31 (λ n k g. deep 31 n k g) start found shallow) x.1 p) (λ r q. tt))

@@ -22,7 +22,7 @@ use Rattle.sequence_rules.specs.declared.bindings.Binding.{Binding}
 use Rattle.sequence_rules.specs.Calls.{global}
 use Rattle.sequence_rules.specs.Machine.{Machine, State, Out}
 use Rattle.sequence_rules.specs.Polls.{poll_of}
-use Rattle.sequence_rules.specs.Steps.{is_timeout, timeout_of, turn_count, counted, after_counted, declared, dropped, in_order, inside, turn, turns, poll_result_at, poll_result, statement, block, condition, loop_result, repeat_result, controlled, step, steps_result}
+use Rattle.sequence_rules.specs.Steps.{is_timeout, timeout_of, turn_count, counted_step, after_counted, declared_variable, dropped_value, in_order, inside, turn, turns, poll_result_at, poll_result, statement, block, condition, loop_result, repeat_result, control_result, step, steps_result}
 use Rattle.sequence_rules.specs.Values.{used_now, value}
 use Rattle.sequence_meaning.proofs.Fine.{Fine, fine_bind, fine_cond, fine_given, names_in, Has}
 use Rattle.sequence_meaning.proofs.FineCalls.{LacksNothing, fine_global, fine_ask}
@@ -173,20 +173,20 @@ module _ {V T : Type 0} (m : Machine V T) (safe : LacksNothing m) (gs : List (Li
   fine_expr ls sc same seqs e no' good s h =
       fine_value m safe gs ls sc seq (λ n k. seen_append gs ls n (subst (λ vs. has_name vs n ≡ true) same k)) names seqs Good runs dp_there ap_there control_there e no' good s h
 
-  fine_counted : (ls : List (List ℕ)) (s : S) → Has gs ls s → Fine (Has gs ls) (counted m s)
-  unfolding counted
+  fine_counted : (ls : List (List ℕ)) (s : S) → Has gs ls s → Fine (Has gs ls) (counted_step m s)
+  unfolding counted_step
   fine_counted ls s h = fine_cond (Has gs ls) (nat_lt s.steps 100000000) _ _ (record { globals = h.globals; locals = h.locals }) tt
 
   fine_statement : (ls : List (List ℕ)) (sc : Scope) → sc.visible ≡ gs ++ ls → sc.sequences ≡ names → (st : StmtTree) → ((g : CodeFault) → StmtFault sc st g → ⊥) → AreGood Good (statement_calls names st)
       → (s : S) → Has gs ls s → Fine (Has gs (own_after ls st)) (statement m turn_us seq st s)
-  unfolding statement after_counted declared dropped
+  unfolding statement after_counted declared_variable dropped_value
   fine_statement ls sc same seqs (t.Empty at) no' good s h = fine_counted ls s h
   fine_statement ls sc same seqs (t.Declare name e) no' good s h =
-      fine_bind (Has gs ls) (Has gs (ls ++ name.text ∷ [])) (counted m s) _ (fine_counted ls s h) (λ k p.
+      fine_bind (Has gs ls) (Has gs (ls ++ name.text ∷ [])) (counted_step m s) _ (fine_counted ls s h) (λ k p.
       fine_bind (Has gs ls) (Has gs (ls ++ name.text ∷ [])) (value m seq e k.1) _ (fine_expr ls sc same seqs e (λ g x. no' g (first.there x)) good k.1 p) (λ x q.
       record { globals = q.globals; locals = names_append x.1.locals (record { name = name.text; value = x.0 }) ∙ ap (λ r. r ++ name.text ∷ []) q.locals }))
   fine_statement ls sc same seqs (t.Plain at e) no' good s h =
-      fine_bind (Has gs ls) (Has gs ls) (counted m s) _ (fine_counted ls s h) (λ k p.
+      fine_bind (Has gs ls) (Has gs ls) (counted_step m s) _ (fine_counted ls s h) (λ k p.
       fine_bind (Has gs ls) (Has gs ls) (value m seq e k.1) _ (fine_expr ls sc same seqs e (λ g x. no' g (first.there x)) good k.1 p) (λ x q. q))
 
   fine_block : (ls : List (List ℕ)) (sc : Scope) → sc.visible ≡ gs ++ ls → sc.sequences ≡ names → (code : List StmtTree) → ((g : CodeFault) → BlockFault sc code g → ⊥) → AreGood Good (block_calls names code)
@@ -225,7 +225,7 @@ module _ {V T : Type 0} (m : Machine V T) (safe : LacksNothing m) (gs : List (Li
       → (s : S) → Has gs ls s → Fine (Has gs ls) (turn m test body s)
   unfolding turn
   fine_turn ls test body k l s h =
-      fine_bind (Has gs ls) (Has gs ls) (counted m s) _ (fine_counted ls s h) (λ c p.
+      fine_bind (Has gs ls) (Has gs ls) (counted_step m s) _ (fine_counted ls s h) (λ c p.
       fine_bind (Has gs ls) (Has gs ls) (used_now m (test c.1)) _ (k c.1 p) (λ x q.
       fine_cond (Has gs ls) (nat_eq x.0 0) _ _ q (fine_bind (Has gs ls) (Has gs ls) (body x.1) _ (l x.1 q) (λ y r. r))))
 
@@ -237,9 +237,9 @@ module _ {V T : Type 0} (m : Machine V T) (safe : LacksNothing m) (gs : List (Li
       fine_bind (Has gs ls) (Has gs ls) (turn m test body s) _ (fine_turn ls test body k l s h) (λ x p. fine_cond (Has gs ls) x.0 _ _ (fine_turns ls test body k l n x.1 p) p)
 
   fine_polled : (ls : List (List ℕ)) (form : ℕ × ℕ) (n : ℕ) (s : S) → Has gs ls s → Fine (Has gs ls) (poll_result m form n s)
-  unfolding poll_result poll_result_at dropped
+  unfolding poll_result poll_result_at dropped_value
   fine_polled ls form n s h =
-      fine_bind (Has gs ls) (Has gs ls) (counted m s) _ (fine_counted ls s h) (λ k p.
+      fine_bind (Has gs ls) (Has gs ls) (counted_step m s) _ (fine_counted ls s h) (λ k p.
       fine_bind (Has gs ls) (Has gs ls) (global m (codes "__dp") k.1) _ (fine_global m safe gs ls (codes "__dp") k.1 dp_there p) (λ d q.
       fine_cond (Has gs ls) (nat_eq d.0 0) _ _ (fine_bind (Has gs ls) (Has gs ls) _ _ (fine_ask m safe gs ls dp_there ap_there control_there _ false d.1 q) (λ x r. r)) tt))
 
@@ -262,8 +262,8 @@ module _ {V T : Type 0} (m : Machine V T) (safe : LacksNothing m) (gs : List (Li
   -- a control without faults of its own
   fine_control : (ls : List (List ℕ)) (sc : Scope) → sc.visible ≡ gs ++ ls → sc.sequences ≡ names → (around : ℕ) (cond' repeat : Option Tree) (timeout : Option ℕ) (steps : CodeSteps) (body : S → Out V T (Unit {0}))
       → ((g : StepFault) → OwnFault sc around cond' repeat timeout g → ⊥) → AreGood Good (condition_calls names cond') → AreGood Good (condition_calls names repeat)
-      → ((s : S) → Has gs ls s → Fine (Has gs ls) (inside m body s)) → (s : S) → Has gs ls s → Fine (Has gs ls) (controlled m turn_us seq cond' repeat timeout steps body s)
-  unfolding controlled
+      → ((s : S) → Has gs ls s → Fine (Has gs ls) (inside m body s)) → (s : S) → Has gs ls s → Fine (Has gs ls) (control_result m turn_us seq cond' repeat timeout steps body s)
+  unfolding control_result
   fine_control ls sc same seqs around cond' repeat timeout steps body no' good good2 k s h =
       fine_bind (Has gs ls) (Has gs ls) _ _
       (fine_condition ls sc same seqs cond' (λ g x. no' (record { path = []; part = parts.If; fault = g }) (first.there (first.here (record { own = refl; part_is = refl; holds = x })))) good s h) (λ x p.

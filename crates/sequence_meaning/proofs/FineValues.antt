@@ -1,5 +1,6 @@
 -- Expressions without faults lack nothing, where the sequences that they call lack nothing.
-use Rattle.std.proofs.Common.{◌≡◌, ℕ, suc, Bool, true, false, cond, ◌&&◌, ◌||◌, List, [], ◌∷◌, ◌++◌, nat_eq, Option, None, Some, Contains, codes, refl, sym, ap, subst, ◌∙◌, arith, bytes_eq}
+use Rattle.std.proofs.Common.{◌≡◌, ℕ, suc, Bool, true, false, cond, ◌||◌, List, [], ◌∷◌, ◌++◌, nat_eq, Option, None, Some, Contains, codes, refl, sym, ap, subst, ◌∙◌, arith, bytes_eq}
+use Rattle.dap_base.proofs.Basics.{first_true}
 use Rattle.std.proofs.lemmas.List.Elements.{Contains-append_left, Contains-append_right, Contains-get_or}
 use Rattle.expr_grammar.specs.Arithmetic.{binary_value}
 use Rattle.expr_grammar.specs.declared.code.Name.{Name}
@@ -20,10 +21,10 @@ use Rattle.code_check.specs.declared.fault.CodeFault.{CodeFault}
 use Rattle.code_check.specs.declared.fault.FaultKind.TheVariants as kinds
 use Rattle.seq_check.specs.Calls.{number_of, text_calls, own_calls, expr_calls, arg_calls, args_calls}
 use Rattle.seq_check.specs.declared.calls.TextCall.{TextCall}
-use Rattle.sequence_rules.specs.Calls.{use_now, guarded}
+use Rattle.sequence_rules.specs.Calls.{use_now, guarded_rest}
 use Rattle.sequence_rules.specs.Machine.{Machine, State, Out}
 use Rattle.sequence_rules.specs.Variables.{visible, is_visible}
-use Rattle.sequence_rules.specs.Values.{text_of, named, stored, assigned, used_now, of_unary, both, operands, result_of, strict_binary, truth_of, conjunction, disjunction, of_binary, choice, appended, chained, numbers_of, is_call, count_of, call_result, call_of, value, argument, arguments}
+use Rattle.sequence_rules.specs.Values.{text_of, named_value, stored_value, assigned_value, used_now, of_unary, both, operands, result_of, strict_binary, truth_of, conjunction, disjunction, of_binary, choice, appended_values, chained_values, numbers_of, is_call, count_of, call_result, call_of, value, argument, arguments}
 use Rattle.sequence_meaning.proofs.CallLemmas.{call_is, call_has}
 use Rattle.sequence_meaning.proofs.Fine.{Fine, fine_bind, fine_cond, fine_given, fine_guarded, Has, is_visible_by, visible_by, store_keeps}
 use Rattle.sequence_meaning.proofs.FineCalls.{LacksNothing, fine_use, fine_all, fine_performed}
@@ -54,10 +55,6 @@ one_text (t.MoreArgs (t.ExprArg at e) t.NoArgs) is = absurd cc
 one_text (t.MoreArgs (t.TextArg a) t.NoArgs) is = (a, (refl, refl))
 one_text (t.MoreArgs a (t.MoreArgs c more)) is = absurd (too_many (count_of more) (first_true _ _ is))
   where
-    first_true : (c d : Bool) → (c && d) ≡ true → c ≡ true
-    first_true true d k = refl
-    first_true false d k = absurd cc
-
     too_many : (n : ℕ) → nat_eq (suc (suc n)) 1 ≡ true → ⊥
     too_many n k = grind arith
 
@@ -72,8 +69,8 @@ module _ {V T : Type 0} (m : Machine V T) (safe : LacksNothing m) (gs ls : List 
     named_sound : (name : Name) → ((g : CodeFault) → NameFault sc name g → ⊥) → (has_name ls name.text || has_name gs name.text) ≡ true
     named_sound name no' = seen name.text (is_true _ (λ h. no' (record { place = name.at; kind = kinds.UndefinedName }) (record { cause = h; is = refl })))
 
-    fine_named : (name : Name) → ((g : CodeFault) → NameFault sc name g → ⊥) → (s : S) → Has gs ls s → Fine (Has gs ls) (named m name s)
-    unfolding named
+    fine_named : (name : Name) → ((g : CodeFault) → NameFault sc name g → ⊥) → (s : S) → Has gs ls s → Fine (Has gs ls) (named_value m name s)
+    unfolding named_value
     fine_named name no' s h = let v = visible_by gs ls s name.text h (named_sound name no') in fine_given m Now (m.number 0) (visible name.text s) v.0 s v.1 h
 
     pub fine_used : (out : Out V T V) → Fine (Has gs ls) out → Fine (Has gs ls) (used_now m out)
@@ -123,20 +120,20 @@ module _ {V T : Type 0} (m : Machine V T) (safe : LacksNothing m) (gs ls : List 
     unfolding of_unary
     fine_unary op out h = fine_bind Now Now (used_now m out) _ (fine_used out h) (λ x p. p)
 
-    pub fine_stored : (name : Name) (v : V) (s : S) → (has_name ls name.text || has_name gs name.text) ≡ true → Has gs ls s → Fine (Has gs ls) (stored m name v s)
-    unfolding stored
+    pub fine_stored : (name : Name) (v : V) (s : S) → (has_name ls name.text || has_name gs name.text) ≡ true → Has gs ls s → Fine (Has gs ls) (stored_value m name v s)
+    unfolding stored_value
     fine_stored name v s there h = fine_guarded m Now (is_visible name.text s) _ s (is_visible_by gs ls s name.text h there) (store_keeps gs ls s name.text v h)
 
-    fine_assigned : (name : Name) (out : Out V T V) → ((g : CodeFault) → NameFault sc name g → ⊥) → Fine (Has gs ls) out → Fine (Has gs ls) (assigned m name out)
-    unfolding assigned
+    fine_assigned : (name : Name) (out : Out V T V) → ((g : CodeFault) → NameFault sc name g → ⊥) → Fine (Has gs ls) out → Fine (Has gs ls) (assigned_value m name out)
+    unfolding assigned_value
     fine_assigned name out no' h = fine_bind Now Now out _ h (λ x p. fine_stored name x.0 x.1 (named_sound name no') p)
 
-    fine_appended : (got : List V) (out : Out V T V) → Fine (Has gs ls) out → Fine (Has gs ls) (appended m got out)
-    unfolding appended
+    fine_appended : (got : List V) (out : Out V T V) → Fine (Has gs ls) out → Fine (Has gs ls) (appended_values m got out)
+    unfolding appended_values
     fine_appended got out h = fine_bind Now Now out _ h (λ x p. p)
 
-    fine_chained : (one : Out V T (List V)) (more : List V → S → Out V T (List V)) → Fine (Has gs ls) one → ((g : List V) (s : S) → Has gs ls s → Fine (Has gs ls) (more g s)) → Fine (Has gs ls) (chained m one more)
-    unfolding chained
+    fine_chained : (one : Out V T (List V)) (more : List V → S → Out V T (List V)) → Fine (Has gs ls) one → ((g : List V) (s : S) → Has gs ls s → Fine (Has gs ls) (more g s)) → Fine (Has gs ls) (chained_values m one more)
+    unfolding chained_values
     fine_chained one more h k = fine_bind Now Now one _ h (λ x p. k x.0 x.1 p)
 
     module _ (names : List (List ℕ)) (same_names : sc.sequences ≡ names) (Good : ℕ → Type 0) (runs : (name : List ℕ) → has_name names name ≡ true → Good (number_of names name) → Runs gs seq name)
@@ -172,7 +169,7 @@ module _ {V T : Type 0} (m : Machine V T) (safe : LacksNothing m) (gs ls : List 
 
       fine_done : (o : Option Function) (function : Function) (args : ArgTrees) (numbers : List ℕ) (s : S) → o ≡ Some function → is_call o args ≡ true
           → (function ≡ f.Sequence → (has_name names (text_of args) ≡ true) × Good (number_of names (text_of args))) → Has gs ls s
-          → Fine (Has gs ls) (guarded m (is_call o args) (λ r. call_result m seq o (text_of args) numbers r) s)
+          → Fine (Has gs ls) (guarded_rest m (is_call o args) (λ r. call_result m seq o (text_of args) numbers r) s)
       fine_done o function args numbers s same is k h =
           fine_guarded m Now (is_call o args) _ s is (subst (λ w. Fine (Has gs ls) (call_result m seq w (text_of args) numbers s)) (sym same) (fine_called function (text_of args) numbers k s h))
 

@@ -12,11 +12,11 @@ use Rattle.sequence_meaning.specs.declared.end.Stopped.{Stopped}
 use Rattle.sequence_rules.specs.Direct.{Now, direct}
 use Rattle.sequence_rules.specs.declared.bindings.Binding.{Binding}
 use Rattle.sequence_rules.specs.Machine.{State, Out, with_locals, with_variables}
-use Rattle.sequence_rules.specs.Variables.{bound, value_named, set_in, set_visible}
+use Rattle.sequence_rules.specs.Variables.{bound_variable, value_named, set_in, set_visible}
 use Rattle.dap_base.specs.Outcome.{◌>>=◌}
-use Rattle.sequence_rules.specs.Values.{argument, arguments, assigned, chained, stored, used_now}
-use Rattle.sequence_rules.specs.Steps.{in_order, counted, after_counted, declared, dropped, inside, statement, block, step, steps_result, turn, turns, given_back, sequence_result, steps_at, sequence_at}
-use Rattle.sequence_rules.specs.Calls.{guarded, use_now}
+use Rattle.sequence_rules.specs.Values.{argument, arguments, assigned_value, chained_values, stored_value, used_now}
+use Rattle.sequence_rules.specs.Steps.{in_order, counted_step, after_counted, declared_variable, dropped_value, inside, statement, block, step, steps_result, turn, turns, given_back, sequence_result, steps_at, sequence_at}
+use Rattle.sequence_rules.specs.Calls.{guarded_rest, use_now}
 use Rattle.sequence_rules.specs.Laws.{Adds}
 use Rattle.sequence_rules.specs.Steady.{Goes}
 use Rattle.sequence_rules.proofs.Adding.{adds_direct, adds_same}
@@ -35,18 +35,18 @@ O A = Out ℕ Now A
 
 module _ (runner : DirectRunner) (depth : ℕ) where
   args_more : (xs : List Arg) (i : ℕ) (d : Arg) (got : List ℕ) (s : S) → i < length xs
-      → arguments (direct false) (calls_of runner depth) (arg_trees (drop i xs)) got s ≡ chained (direct false) (argument (direct false) (calls_of runner depth) (arg_tree (get_or xs i d)) got s) (λ g r. arguments (direct false) (calls_of runner depth) (arg_trees (drop (i + 1) xs)) g r)
+      → arguments (direct false) (calls_of runner depth) (arg_trees (drop i xs)) got s ≡ chained_values (direct false) (argument (direct false) (calls_of runner depth) (arg_tree (get_or xs i d)) got s) (λ g r. arguments (direct false) (calls_of runner depth) (arg_trees (drop (i + 1) xs)) g r)
   unfolding arguments
   args_more xs i d got s h = rw (drop_more xs i d h) refl
 
   pub args_on : (total : O (List ℕ)) (xs : List Arg) (i : ℕ) (d : Arg) (got now : List ℕ) (s r : S) → total ≡ arguments (direct false) (calls_of runner depth) (arg_trees (drop i xs)) got s → i < length xs
       → argument (direct false) (calls_of runner depth) (arg_tree (get_or xs i d)) got s ≡ Ok (now, r) → total ≡ arguments (direct false) (calls_of runner depth) (arg_trees (drop (i + 1) xs)) now r
-  unfolding chained
+  unfolding chained_values
   args_on total xs i d got now s r same h is = same ∙ args_more xs i d got s h ∙ rw is refl
 
   pub args_fail : (total : O (List ℕ)) (xs : List Arg) (i : ℕ) (d : Arg) (got : List ℕ) (s r : S) (end : DirectEnd) → total ≡ arguments (direct false) (calls_of runner depth) (arg_trees (drop i xs)) got s → i < length xs
       → EndsDirect end r (argument (direct false) (calls_of runner depth) (arg_tree (get_or xs i d)) got s) → EndsDirect end r total
-  unfolding chained
+  unfolding chained_values
   args_fail total xs i d got s r end same h is = rw (same ∙ args_more xs i d got s h) (ends_on end r (argument (direct false) (calls_of runner depth) (arg_tree (get_or xs i d)) got s) _ (λ x. g.goes_arguments (direct false) Adds (adds_direct false) (calls_of runner depth) (adds_sequence runner depth) (arg_trees (drop (i + 1) xs)) x.0 x.1) is)
 
   pub args_over : (total : O (List ℕ)) (xs : List Arg) (i : ℕ) (got : List ℕ) (s : S) → total ≡ arguments (direct false) (calls_of runner depth) (arg_trees (drop i xs)) got s → length xs ≤ i → total ≡ Ok (got, s)
@@ -121,28 +121,28 @@ module _ (test : S → O ℕ) (body : S → O (Unit {0})) where
 
 -- ---- scopes
 
-pub declared_on : (name : Name) (f : S → O ℕ) (s k r o : S) (n : ℕ) → counted (direct false) s ≡ Ok (tt, k) → f k ≡ Ok (n, r) → o ≡ with_locals r (r.locals ++ bound name.text n ∷ [])
-    → after_counted (direct false) (λ q. declared (direct false) name (f q)) s ≡ Ok (tt, o)
-unfolding after_counted declared
+pub declared_on : (name : Name) (f : S → O ℕ) (s k r o : S) (n : ℕ) → counted_step (direct false) s ≡ Ok (tt, k) → f k ≡ Ok (n, r) → o ≡ with_locals r (r.locals ++ bound_variable name.text n ∷ [])
+    → after_counted (direct false) (λ q. declared_variable (direct false) name (f q)) s ≡ Ok (tt, o)
+unfolding after_counted declared_variable
 declared_on name f s k r o n h i j = rw h (rw i (rw j refl))
 
 -- an expression whose value is dropped
-pub plain_on : (f : S → O ℕ) (s k r : S) (n : ℕ) → counted (direct false) s ≡ Ok (tt, k) → f k ≡ Ok (n, r) → after_counted (direct false) (λ q. dropped (direct false) (f q)) s ≡ Ok (tt, r)
-unfolding after_counted dropped
+pub plain_on : (f : S → O ℕ) (s k r : S) (n : ℕ) → counted_step (direct false) s ≡ Ok (tt, k) → f k ≡ Ok (n, r) → after_counted (direct false) (λ q. dropped_value (direct false) (f q)) s ≡ Ok (tt, r)
+unfolding after_counted dropped_value
 plain_on f s k r n h i = rw h (rw i refl)
 
 -- a value that is stored
-pub assigned_on : (name : Name) (out : O ℕ) (r o : S) (n : ℕ) → out ≡ Ok (n, r) → o ≡ set_visible name.text n r → assigned (direct false) name out ≡ Ok (n, o)
-unfolding assigned stored guarded direct
+pub assigned_on : (name : Name) (out : O ℕ) (r o : S) (n : ℕ) → out ≡ Ok (n, r) → o ≡ set_visible name.text n r → assigned_value (direct false) name out ≡ Ok (n, o)
+unfolding assigned_value stored_value guarded_rest direct
 assigned_on name out r o n h i = rw h (rw i refl)
 
 -- the last turn, as its condition is 0
-pub turn_over : (test : S → O ℕ) (body : S → O (Unit {0})) (s k r : S) (n : ℕ) → counted (direct false) s ≡ Ok (tt, k) → test k ≡ Ok (n, r) → n ≡ 0 → turn (direct false) test body s ≡ Ok (false, r)
+pub turn_over : (test : S → O ℕ) (body : S → O (Unit {0})) (s k r : S) (n : ℕ) → counted_step (direct false) s ≡ Ok (tt, k) → test k ≡ Ok (n, r) → n ≡ 0 → turn (direct false) test body s ≡ Ok (false, r)
 unfolding turn used_now use_now direct
 turn_over test body s k r n h i z = rw h (rw i (rw z refl))
 
 -- a turn after which another may follow
-pub turn_on : (test : S → O ℕ) (body : S → O (Unit {0})) (s k r o : S) (n : ℕ) → counted (direct false) s ≡ Ok (tt, k) → test k ≡ Ok (n, r) → nat_eq n 0 ≡ false → body r ≡ Ok (tt, o)
+pub turn_on : (test : S → O ℕ) (body : S → O (Unit {0})) (s k r o : S) (n : ℕ) → counted_step (direct false) s ≡ Ok (tt, k) → test k ≡ Ok (n, r) → nat_eq n 0 ≡ false → body r ≡ Ok (tt, o)
     → turn (direct false) test body s ≡ Ok (true, o)
 unfolding turn used_now use_now direct
 turn_on test body s k r o n h i some b = rw h (rw i (rw some (rw b refl)))

@@ -7,11 +7,11 @@ use Rattle.code_check.specs.BlockFaults.{names_after_all}
 use Rattle.code_check.specs.Names.{has_name}
 use Rattle.sequence_trees.specs.Trees.{CodeSteps, SequenceTrees, steps_named}
 use Rattle.sequence_rules.specs.declared.bindings.Binding.{Binding}
-use Rattle.sequence_rules.specs.Direct.{Now, with_call, answers, made, direct}
+use Rattle.sequence_rules.specs.Direct.{Now, with_call, answers, made_call, direct}
 use Rattle.sequence_rules.specs.Machine as machine
 use Rattle.sequence_rules.specs.Machine.{Over, State, Out}
 use Rattle.sequence_rules.specs.Runs as ending
-use Rattle.sequence_rules.specs.Runs.{Program, Ending, as_values, outcome_over, outcome_of, meaning, watched}
+use Rattle.sequence_rules.specs.Runs.{Program, Ending, as_values, outcome_over, outcome_of, meaning, watched_run}
 use Rattle.sequence_rules.proofs.Watching.{watched_same}
 use Rattle.sequence_meaning.specs.Valid.{IsChecked}
 use Rattle.sequence_meaning.proofs.Fine.{IsMet, Fine, names_in}
@@ -30,8 +30,8 @@ either_met : (b : Bool) (x y : Result (ℕ × Now) (Over × Now)) → IsMetBy x 
 either_met true x y h k = h
 either_met false x y h k = k
 
-made_met : (ask : Ask) (t : Now) → IsMetBy (made ask t)
-unfolding made
+made_met : (ask : Ask) (t : Now) → IsMetBy (made_call ask t)
+unfolding made_call
 made_met ask t = either_met (is_over t.world.answered) _ _ tt (answer_met ask (done_now t.world ask).end (with_call ask (next_world t.world ask) t))
 
 direct_safe : LacksNothing (direct true)
@@ -68,15 +68,15 @@ not_lost : (P : State ℕ Now → Type 0) (out : Out ℕ Now (Unit {0})) → Fin
 not_lost P (Ok x) h e = cc
 not_lost P (Err x) h e = not_lost_over x.0 x.1 h e
 
-never_lost : (w : World) (p : Program) (written : Option (List ℕ)) → IsChecked p → (outcome_of (watched w p written)).ending ≡ ending.Lost → ⊥
+never_lost : (w : World) (p : Program) (written : Option (List ℕ)) → IsChecked p → (outcome_of (watched_run w p written)).ending ≡ ending.Lost → ⊥
 never_lost w p written h =
-    not_lost (λ r. Unit {0}) (watched w p written)
+    not_lost (λ r. Unit {0}) (watched_run w p written)
     (run_fine (direct true) direct_safe p.turn_us p.set h.sound p.start (sym (some_named p.set.sequences p.start) ∙ h.start) _
     (record { globals = start_names (as_values (direct true) p.predefined) p.set.debugvars _ ∙ ap (λ ns. names_after_all ns p.set.debugvars) (as_names p.predefined ∙ h.names); locals = refl }))
 
-pub nothing_missing : (w : World) (p : Program) (written : Option (List ℕ)) → IsChecked p → (outcome_of (watched w p written) ≡ outcome_of (meaning w p written)) × ((outcome_of (watched w p written)).ending ≡ ending.Lost → ⊥)
+pub nothing_missing : (w : World) (p : Program) (written : Option (List ℕ)) → IsChecked p → (outcome_of (watched_run w p written) ≡ outcome_of (meaning w p written)) × ((outcome_of (watched_run w p written)).ending ≡ ending.Lost → ⊥)
 nothing_missing w p written h = (by (watched_same w p written), never_lost w p written h)
   where
-    by : (outcome_of (watched w p written) ≡ outcome_of (meaning w p written)) ⊎ ((outcome_of (watched w p written)).ending ≡ ending.Lost) → outcome_of (watched w p written) ≡ outcome_of (meaning w p written)
+    by : (outcome_of (watched_run w p written) ≡ outcome_of (meaning w p written)) ⊎ ((outcome_of (watched_run w p written)).ending ≡ ending.Lost) → outcome_of (watched_run w p written) ≡ outcome_of (meaning w p written)
     by (inl same) = same
     by (inr lost) = absurd (never_lost w p written h lost)

@@ -1,12 +1,12 @@
 -- Definitions that the proofs of a function open together: each name here stands for those on its line.
-use Rattle.sequence_rules.specs.Calls.{abort, abort_at, answered, ask, command, function_result, given, guarded, if_read, line_result, low_and_high, memory_at, missing, numbered, one_unit, or_halt, second_half, use_now, zero_of}
-use Rattle.sequence_rules.specs.Direct.{direct, made}
+use Rattle.sequence_rules.specs.Calls.{abort, abort_at, counted_answer, ask, command, function_result, value_or_missing, guarded_rest, if_read, line_result, low_and_high, memory_at, missing, counted_number, one_unit, or_halt, second_half, use_now, zero_of}
+use Rattle.sequence_rules.specs.Direct.{direct, made_call}
 use Rattle.sequence_rules.specs.Steps.{condition, repeat_result, sequence_at}
-use Rattle.sequence_rules.specs.Values.{both, call_of, call_result, choice, conjunction, disjunction, named, numbers_of, of_unary, operands, result_of, strict_binary, truth_of, used_now, value}
+use Rattle.sequence_rules.specs.Values.{both, call_of, call_result, choice, conjunction, disjunction, named_value, numbers_of, of_unary, operands, result_of, strict_binary, truth_of, used_now, value}
 
 -- an expression, and a name in it
 unfoldable pub expressions : Unit {0}
-unfolding value named given missing direct
+unfolding value named_value value_or_missing missing direct
 expressions = tt
 
 -- an operator before its operand
@@ -41,7 +41,7 @@ strict_operators = tt
 
 -- a call by its name
 unfoldable pub calls : Unit {0}
-unfolding call_of guarded numbers_of direct
+unfolding call_of guarded_rest numbers_of direct
 calls = tt
 
 -- a call by its function
@@ -56,17 +56,17 @@ sequences = tt
 
 -- the steps of a control, once or in turns
 unfoldable pub repeats : Unit {0}
-unfolding repeat_result given missing direct
+unfolding repeat_result value_or_missing missing direct
 repeats = tt
 
 -- an access as a unit
 unfoldable pub units : Unit {0}
-unfolding ask answered direct made
+unfolding ask counted_answer direct made_call
 units = tt
 
 -- a command of the probe as a unit
 unfoldable pub commands : Unit {0}
-unfolding command numbered direct made
+unfolding command counted_number direct made_call
 commands = tt
 
 -- what a unit answers

@@ -24,9 +24,9 @@ use Rattle.sequence_rules.specs.Direct.{Now, direct, line_after}
 use Rattle.sequence_rules.specs.Laws.{Adds}
 use Rattle.sequence_rules.specs.Machine.{State, Out, end_state, with_locals}
 use Rattle.sequence_rules.specs.Steady.{Goes}
-use Rattle.sequence_rules.specs.Steps.{counted, after_counted, declared, dropped, inside, turn, poll_result_at, poll_result, condition, repeat_result, controlled, steps_result}
-use Rattle.sequence_rules.specs.Values.{used_now, of_unary, operands, strict_binary, truth_of, conjunction, disjunction, choice, assigned, appended, numbers_of, call_result, call_of, value}
-use Rattle.sequence_rules.specs.Variables.{bound}
+use Rattle.sequence_rules.specs.Steps.{counted_step, after_counted, declared_variable, dropped_value, inside, turn, poll_result_at, poll_result, condition, repeat_result, control_result, steps_result}
+use Rattle.sequence_rules.specs.Values.{used_now, of_unary, operands, strict_binary, truth_of, conjunction, disjunction, choice, assigned_value, appended_values, numbers_of, call_result, call_of, value}
+use Rattle.sequence_rules.specs.Variables.{bound_variable}
 use Rattle.sequence_rules.proofs.Adding.{adds_direct, adds_same}
 use Rattle.sequence_rules.proofs.Goes as g
 use Rattle.sequence_meaning.specs.declared.end.DirectEnd.{DirectEnd}
@@ -185,42 +185,42 @@ module _ (runner : DirectRunner) (depth : ℕ) where
   ends_condition e now s test h = ends_on e now _ _ (λ x. adds_ok x.1 _) (ends_used e now _ h)
 
   pub ends_control : (e : DirectEnd) (now s : S) (o p : Option Tree) (timeout : Option ℕ) (steps : CodeSteps) → EndsDirect e now (condition (direct false) runner.turn_us (calls_of runner depth) o s)
-      → EndsDirect e now (controlled (direct false) runner.turn_us (calls_of runner depth) o p timeout steps (steps_result (direct false) runner.turn_us (calls_of runner depth) steps) s)
-  unfolding controlled
+      → EndsDirect e now (control_result (direct false) runner.turn_us (calls_of runner depth) o p timeout steps (steps_result (direct false) runner.turn_us (calls_of runner depth) steps) s)
+  unfolding control_result
   ends_control e now s o p timeout steps h =
       ends_on e now _ _ (λ x. adds_cond x.1 x.0 _ _ (adds_repeated runner depth p timeout steps x.1) (adds_ok x.1 _)) h
 
-  pub ends_test : (e : DirectEnd) (now s r : S) (test : Tree) (steps : CodeSteps) → counted (direct false) s ≡ Ok (tt, r) → EndsDirect e now (value (direct false) (calls_of runner depth) test r)
+  pub ends_test : (e : DirectEnd) (now s r : S) (test : Tree) (steps : CodeSteps) → counted_step (direct false) s ≡ Ok (tt, r) → EndsDirect e now (value (direct false) (calls_of runner depth) test r)
       → EndsDirect e now (turn (direct false) (value (direct false) (calls_of runner depth) test) (λ q. inside (direct false) (steps_result (direct false) runner.turn_us (calls_of runner depth) steps) q) s)
   unfolding turn
   ends_test e now s r test steps is h =
       rw is (ends_on e now _ _ (λ x. adds_cond x.1 (nat_eq x.0 0) _ _ (adds_ok x.1 _) (adds_bind x.1 _ _ (adds_inside runner depth steps x.1) (λ y. adds_ok y.1 _))) (ends_used e now _ h))
 
-  pub ends_body : (e : DirectEnd) (now s r q : S) (test : Tree) (steps : CodeSteps) (n : ℕ) → counted (direct false) s ≡ Ok (tt, r) → value (direct false) (calls_of runner depth) test r ≡ Ok (n, q) → nat_eq n 0 ≡ false
+  pub ends_body : (e : DirectEnd) (now s r q : S) (test : Tree) (steps : CodeSteps) (n : ℕ) → counted_step (direct false) s ≡ Ok (tt, r) → value (direct false) (calls_of runner depth) test r ≡ Ok (n, q) → nat_eq n 0 ≡ false
       → EndsDirect e now (inside (direct false) (steps_result (direct false) runner.turn_us (calls_of runner depth) steps) q)
       → EndsDirect e now (turn (direct false) (value (direct false) (calls_of runner depth) test) (λ p. inside (direct false) (steps_result (direct false) runner.turn_us (calls_of runner depth) steps) p) s)
   unfolding turn used_now use_now direct
   ends_body e now s r q test steps n is it some h =
       rw (is, it, some) (ends_on e now _ _ (λ y. adds_ok y.1 _) h)
 
-pub ends_assigned : (e : DirectEnd) (now : S) (name : Name) (out : O ℕ) → EndsDirect e now out → EndsDirect e now (assigned (direct false) name out)
-unfolding assigned
+pub ends_assigned : (e : DirectEnd) (now : S) (name : Name) (out : O ℕ) → EndsDirect e now out → EndsDirect e now (assigned_value (direct false) name out)
+unfolding assigned_value
 ends_assigned e now name out h = ends_on e now out _ (λ x. g.goes_stored (direct false) Adds (adds_direct false) name x.0 x.1) h
 
-pub ends_appended : (e : DirectEnd) (now : S) (got : List ℕ) (out : O ℕ) → EndsDirect e now out → EndsDirect e now (appended (direct false) got out)
-unfolding appended
+pub ends_appended : (e : DirectEnd) (now : S) (got : List ℕ) (out : O ℕ) → EndsDirect e now out → EndsDirect e now (appended_values (direct false) got out)
+unfolding appended_values
 ends_appended e now got out h = ends_on e now out _ (λ x. adds_ok x.1 _) h
 
 -- memory is refused for a value
-pub append_refused : (now : S) (got : List ℕ) (out : O ℕ) (n : ℕ) → out ≡ Ok (n, now) → Adds now.rest (end_state (appended (direct false) got out)).rest
-unfolding appended
+pub append_refused : (now : S) (got : List ℕ) (out : O ℕ) (n : ℕ) → out ≡ Ok (n, now) → Adds now.rest (end_state (appended_values (direct false) got out)).rest
+unfolding appended_values
 append_refused now got out n is = rw is (adds_same now.rest)
 
-pub ends_counted : (e : DirectEnd) (now s : S) (rest : S → O (Unit {0})) → ((r : S) → Goes Adds r (rest r)) → EndsDirect e now (counted (direct false) s) → EndsDirect e now (after_counted (direct false) rest s)
+pub ends_counted : (e : DirectEnd) (now s : S) (rest : S → O (Unit {0})) → ((r : S) → Goes Adds r (rest r)) → EndsDirect e now (counted_step (direct false) s) → EndsDirect e now (after_counted (direct false) rest s)
 unfolding after_counted
 ends_counted e now s rest k h = ends_on e now _ _ (λ x. k x.1) h
 
-ends_after : (e : DirectEnd) (now s r : S) (rest : S → O (Unit {0})) → counted (direct false) s ≡ Ok (tt, r) → EndsDirect e now (rest r) → EndsDirect e now (after_counted (direct false) rest s)
+ends_after : (e : DirectEnd) (now s r : S) (rest : S → O (Unit {0})) → counted_step (direct false) s ≡ Ok (tt, r) → EndsDirect e now (rest r) → EndsDirect e now (after_counted (direct false) rest s)
 unfolding after_counted
 ends_after e now s r rest is h = rw is h
 
@@ -228,40 +228,40 @@ adds_with : (a b : S) → b.rest ≡ a.rest → Goes {V = ℕ} {T = Now} {A = Un
 adds_with a b same = record { so = rw same (adds_same a.rest) }
 
 module _ (runner : DirectRunner) (depth : ℕ) (test : Tree) where
-  adds_declared : (name : Name) (r : S) → Goes Adds r (declared (direct false) name (value (direct false) (calls_of runner depth) test r))
+  adds_declared : (name : Name) (r : S) → Goes Adds r (declared_variable (direct false) name (value (direct false) (calls_of runner depth) test r))
   adds_declared name r = g.goes_declared (direct false) Adds (adds_direct false) name _ r (adds_value runner depth test r)
 
-  adds_dropped : (r : S) → Goes Adds r (dropped (direct false) (value (direct false) (calls_of runner depth) test r))
+  adds_dropped : (r : S) → Goes Adds r (dropped_value (direct false) (value (direct false) (calls_of runner depth) test r))
   adds_dropped r = g.goes_dropped (direct false) Adds (adds_direct false) _ r (adds_value runner depth test r)
 
-  pub declare_first : (e : DirectEnd) (now s : S) (name : Name) → EndsDirect e now (counted (direct false) s)
-      → EndsDirect e now (after_counted (direct false) (λ r. declared (direct false) name (value (direct false) (calls_of runner depth) test r)) s)
+  pub declare_first : (e : DirectEnd) (now s : S) (name : Name) → EndsDirect e now (counted_step (direct false) s)
+      → EndsDirect e now (after_counted (direct false) (λ r. declared_variable (direct false) name (value (direct false) (calls_of runner depth) test r)) s)
   declare_first e now s name h = ends_counted e now s _ (λ r. adds_declared name r) h
 
-  pub declare_value : (e : DirectEnd) (now s r : S) (name : Name) → counted (direct false) s ≡ Ok (tt, r) → EndsDirect e now (value (direct false) (calls_of runner depth) test r)
-      → EndsDirect e now (after_counted (direct false) (λ q. declared (direct false) name (value (direct false) (calls_of runner depth) test q)) s)
-  unfolding declared
+  pub declare_value : (e : DirectEnd) (now s r : S) (name : Name) → counted_step (direct false) s ≡ Ok (tt, r) → EndsDirect e now (value (direct false) (calls_of runner depth) test r)
+      → EndsDirect e now (after_counted (direct false) (λ q. declared_variable (direct false) name (value (direct false) (calls_of runner depth) test q)) s)
+  unfolding declared_variable
   declare_value e now s r name is h =
-      ends_after e now s r (λ q. declared (direct false) name (value (direct false) (calls_of runner depth) test q)) is
-      (ends_on e now (value (direct false) (calls_of runner depth) test r) (λ x. Ok (tt, with_locals x.1 (x.1.locals ++ bound name.text x.0 ∷ []))) (λ x. adds_with x.1 (with_locals x.1 (x.1.locals ++ bound name.text x.0 ∷ [])) refl) h)
+      ends_after e now s r (λ q. declared_variable (direct false) name (value (direct false) (calls_of runner depth) test q)) is
+      (ends_on e now (value (direct false) (calls_of runner depth) test r) (λ x. Ok (tt, with_locals x.1 (x.1.locals ++ bound_variable name.text x.0 ∷ []))) (λ x. adds_with x.1 (with_locals x.1 (x.1.locals ++ bound_variable name.text x.0 ∷ [])) refl) h)
 
   -- memory is refused for a variable
-  pub declare_refused : (now s r q : S) (name : Name) (n : ℕ) → counted (direct false) s ≡ Ok (tt, r) → value (direct false) (calls_of runner depth) test r ≡ Ok (n, q) → now ≡ q
-      → Adds now.rest (end_state (after_counted (direct false) (λ p. declared (direct false) name (value (direct false) (calls_of runner depth) test p)) s)).rest
-  unfolding after_counted declared
+  pub declare_refused : (now s r q : S) (name : Name) (n : ℕ) → counted_step (direct false) s ≡ Ok (tt, r) → value (direct false) (calls_of runner depth) test r ≡ Ok (n, q) → now ≡ q
+      → Adds now.rest (end_state (after_counted (direct false) (λ p. declared_variable (direct false) name (value (direct false) (calls_of runner depth) test p)) s)).rest
+  unfolding after_counted declared_variable
   declare_refused now s r q name n is it same = rw (is, it, same) (adds_same q.rest)
 
-  pub plain_first : (e : DirectEnd) (now s : S) → EndsDirect e now (counted (direct false) s) → EndsDirect e now (after_counted (direct false) (λ r. dropped (direct false) (value (direct false) (calls_of runner depth) test r)) s)
+  pub plain_first : (e : DirectEnd) (now s : S) → EndsDirect e now (counted_step (direct false) s) → EndsDirect e now (after_counted (direct false) (λ r. dropped_value (direct false) (value (direct false) (calls_of runner depth) test r)) s)
   plain_first e now s h = ends_counted e now s _ (λ r. adds_dropped r) h
 
-  pub plain_value : (e : DirectEnd) (now s r : S) → counted (direct false) s ≡ Ok (tt, r) → EndsDirect e now (value (direct false) (calls_of runner depth) test r)
-      → EndsDirect e now (after_counted (direct false) (λ q. dropped (direct false) (value (direct false) (calls_of runner depth) test q)) s)
-  unfolding dropped
+  pub plain_value : (e : DirectEnd) (now s r : S) → counted_step (direct false) s ≡ Ok (tt, r) → EndsDirect e now (value (direct false) (calls_of runner depth) test r)
+      → EndsDirect e now (after_counted (direct false) (λ q. dropped_value (direct false) (value (direct false) (calls_of runner depth) test q)) s)
+  unfolding dropped_value
   plain_value e now s r is h =
-      ends_after e now s r (λ q. dropped (direct false) (value (direct false) (calls_of runner depth) test q)) is
+      ends_after e now s r (λ q. dropped_value (direct false) (value (direct false) (calls_of runner depth) test q)) is
       (ends_on e now (value (direct false) (calls_of runner depth) test r) (λ x. Ok (tt, x.1)) (λ x. adds_ok x.1 _) h)
 
-  pub ends_turn : (e : DirectEnd) (now s : S) (steps : CodeSteps) → EndsDirect e now (counted (direct false) s)
+  pub ends_turn : (e : DirectEnd) (now s : S) (steps : CodeSteps) → EndsDirect e now (counted_step (direct false) s)
       → EndsDirect e now (turn (direct false) (value (direct false) (calls_of runner depth) test) (λ q. inside (direct false) (steps_result (direct false) runner.turn_us (calls_of runner depth) steps) q) s)
   unfolding turn
   ends_turn e now s steps h =
@@ -274,14 +274,14 @@ ends_inside e now s body h = ends_on e now _ _ (λ x. record { so = adds_same x.
 
 -- ---- polls
 
-pub poll_first : (e : DirectEnd) (now s : S) (form : ℕ × ℕ) (n : ℕ) → EndsDirect e now (counted (direct false) s) → EndsDirect e now (poll_result (direct false) form n s)
+pub poll_first : (e : DirectEnd) (now s : S) (form : ℕ × ℕ) (n : ℕ) → EndsDirect e now (counted_step (direct false) s) → EndsDirect e now (poll_result (direct false) form n s)
 unfolding poll_result
 poll_first e now s form n h =
     ends_on e now _ _ (λ k. adds_bind k.1 _ _ (g.goes_global (direct false) Adds (adds_direct false) (codes "__dp") k.1) (λ d. g.goes_polled_at (direct false) Adds (adds_direct false) form n d.0 d.1)) h
 
-pub poll_ask : (e : DirectEnd) (now s r : S) (form : ℕ × ℕ) (n d : ℕ) → counted (direct false) s ≡ Ok (tt, r) → global (direct false) (codes "__dp") r ≡ Ok (d, r) → nat_eq d 0 ≡ true
+pub poll_ask : (e : DirectEnd) (now s r : S) (form : ℕ × ℕ) (n d : ℕ) → counted_step (direct false) s ≡ Ok (tt, r) → global (direct false) (codes "__dp") r ≡ Ok (d, r) → nat_eq d 0 ≡ true
     → EndsDirect e now (ask (direct false) (unit.Poll form.0 form.1 n) false r) → EndsDirect e now (poll_result (direct false) form n s)
-unfolding poll_result poll_result_at dropped
+unfolding poll_result poll_result_at dropped_value
 poll_ask e now s r form n d is dp zero h = rw (is, dp, zero) (ends_on e now _ _ (λ x. adds_ok x.1 _) h)
 
 -- ---- lines

@@ -51,7 +51,7 @@ module _ (runner : DirectRunner) (depth : ℕ) where
 
   -- an assignment of the value of an expression
   abbrev pub assignment_meaning : Name → Tree → Meaning ℕ
-  assignment_meaning name e s = v.assigned (direct false) name (value_meaning e s)
+  assignment_meaning name e s = v.assigned_value (direct false) name (value_meaning e s)
 
   -- ---- calls
 
@@ -61,7 +61,7 @@ module _ (runner : DirectRunner) (depth : ℕ) where
 
   -- the values of the arguments so far, and that of an expression
   abbrev pub value_after : List ℕ → Tree → Meaning (List ℕ)
-  value_after got e s = v.appended (direct false) got (value_meaning e s)
+  value_after got e s = v.appended_values (direct false) got (value_meaning e s)
 
   -- the values of the arguments so far and of these, from left to right
   abbrev pub arguments_meaning : ArgTrees → List ℕ → Meaning (List ℕ)
@@ -95,11 +95,11 @@ module _ (runner : DirectRunner) (depth : ℕ) where
 
   -- a declaration, which is a step
   abbrev pub declaration_meaning : Name → Tree → Meaning (Unit {0})
-  declaration_meaning name e = m.after_counted (direct false) (λ r. m.declared (direct false) name (value_meaning e r))
+  declaration_meaning name e = m.after_counted (direct false) (λ r. m.declared_variable (direct false) name (value_meaning e r))
 
   -- an expression whose value is dropped, which is a step
   abbrev pub plain_meaning : Tree → Meaning (Unit {0})
-  plain_meaning e = m.after_counted (direct false) (λ r. m.dropped (direct false) (value_meaning e r))
+  plain_meaning e = m.after_counted (direct false) (λ r. m.dropped_value (direct false) (value_meaning e r))
 
   -- the steps of a called sequence, with variables of its own
   abbrev pub called_sequence_meaning : CodeSteps → Meaning (Unit {0})
@@ -135,4 +135,4 @@ module _ (runner : DirectRunner) (depth : ℕ) where
   -- a control: its condition, and then its steps
   abbrev pub control_meaning : Option Tree → Option Tree → Option ℕ → CodeSteps → Meaning (Unit {0})
   control_meaning cond repeat timeout steps =
-      m.controlled (direct false) runner.turn_us (calls_of runner depth) cond repeat timeout steps (steps_meaning steps)
+      m.control_result (direct false) runner.turn_us (calls_of runner depth) cond repeat timeout steps (steps_meaning steps)

@@ -45,7 +45,7 @@ impl DirectRunner<'_> {
 
     // A value after others.
     #[cycle(eval)]
-    #[tactic(auto, unfolding(sequence_rules::specs::Values::appended), using(crate::proofs::StopLemmas::value_ends))]
+    #[tactic(auto, unfolding(sequence_rules::specs::Values::appended_values), using(crate::proofs::StopLemmas::value_ends))]
     fn push_value<K: Sink>(
         &self,
         expr: &Expr,

@@ -22,7 +22,7 @@ use target_machine::{HaltCause, Target, Unit};
 impl DirectRunner<'_> {
     // A control.
     #[cycle(eval)]
-    #[tactic(auto, unfolding(sequence_rules::specs::Steps::controlled), using(crate::proofs::StopLemmas::control_ends))]
+    #[tactic(auto, unfolding(sequence_rules::specs::Steps::control_result), using(crate::proofs::StopLemmas::control_ends))]
     pub(crate) fn run_control<K: Sink>(
         &self,
         cond: &Option<Expr>,

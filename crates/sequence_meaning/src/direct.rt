@@ -1,7 +1,7 @@
 //! The direct runner.
 ghost use Rattle.std.specs.Prelude.{◌≡◌, ◌<◌, ℕ, Bool, IfOk, List, None, Option, map};
 ghost use Rattle.target_calls.specs.World.{start_world};
-ghost use Rattle.function_table.specs.Variables.{predefined};
+ghost use Rattle.function_table.specs.Variables.{names_of_predefined};
 ghost use Rattle.target_machine.specs.State.{TargetState};
 ghost use Rattle.seq_check.specs.Answers.{checked_trees};
 ghost use Rattle.sequence_rules.specs.Direct.{Now};
@@ -91,7 +91,7 @@ pub fn run_recorded<K: Sink>(
     sink: &mut K,
 ) -> Result<Recorded, OutOfMemory>
     requires turns { 0 < settings.now.turn_us }
-    requires names { map (λ variable. variable.name) settings.now.start ≡ predefined }
+    requires names { map (λ variable. variable.name) settings.now.start ≡ names_of_predefined }
     // What is answered, the target and the lines are those of the outcome: Done, Halted or Faulted, the variables, the calls and the skips.
     ensures answer { (known : Bool) → Knows known (K.written sink.old)
         → AnswersOutcome
@@ -127,7 +127,7 @@ pub fn run_direct<K: Sink>(
     sink: &mut K,
 ) -> Result<Direct, OutOfMemory>
     requires turns { 0 < settings.now.turn_us }
-    requires names { map (λ variable. variable.name) settings.now.start ≡ predefined }
+    requires names { map (λ variable. variable.name) settings.now.start ≡ names_of_predefined }
     // How it ended, the target and the lines are those of the outcome.
     ensures answer { (known : Bool) → Knows known (K.written sink.old)
         → AnswersDirect

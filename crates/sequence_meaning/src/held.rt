@@ -5,7 +5,7 @@ ghost use Rattle.target_calls.specs.World.{start_world};
 ghost use Rattle.sequence_rules.specs.Direct.{Now, now_at};
 ghost use Rattle.sequence_rules.specs.Locals.{locals_of};
 ghost use Rattle.sequence_rules.specs.Machine.{State, with_locals, with_variables};
-ghost use Rattle.sequence_rules.specs.Variables.{bound, set_in, set_visible, value_named, visible};
+ghost use Rattle.sequence_rules.specs.Variables.{bound_variable, set_in, set_visible, value_named, visible};
 ghost use Rattle.sequence_rules.specs.Shared.{bindings_of};
 ghost use Rattle.sequence_meaning.specs.Frame.{Changes};
 ghost use Rattle.sequence_meaning.specs.Held.{state_of, with_global};
@@ -93,7 +93,7 @@ impl DirectHeld {
 
     /// Declares a variable of the running sequence.
     pub fn declare(&mut self, alloc: Global, name: &NameText, value: u64) -> Result<(), OutOfMemory>
-        ensures state { OnOk result (Changes self.old self.new (λ s. with_locals s (s.locals ++ bound name.now value ∷ []))) }
+        ensures state { OnOk result (Changes self.old self.new (λ s. with_locals s (s.locals ++ bound_variable name.now value ∷ []))) }
         ensures same { OnErr result (Changes self.old self.new (λ s. s)) }
     {
         self.locals.add(alloc, name.as_str(), value)

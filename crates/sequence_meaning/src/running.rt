@@ -3,7 +3,7 @@ ghost use Rattle.expr_grammar.specs.Tree.{code_trees, stmt_tree, tree};
 ghost use Rattle.seq_check.specs.Answers.{checked_trees};
 ghost use Rattle.sequence_rules.specs.Direct.{direct};
 ghost use Rattle.sequence_rules.specs.Steps as m;
-ghost use Rattle.sequence_meaning.specs.Starting.{debugged_one, defined};
+ghost use Rattle.sequence_meaning.specs.Starting.{debugged_one, defined_variable};
 ghost use Rattle.std.specs.Prelude.{false};
 ghost use Rattle.sequence_meaning.specs.Frame.{RunsDirect};
 
@@ -26,7 +26,7 @@ impl DirectRunner<'_> {
         target: &mut Target,
         sink: &mut K,
     ) -> Result<(), Stopped>
-        ensures { RunsDirect (defined self.now.turn_us (checked_trees self.now.set.now) name.now (tree expr.now))
+        ensures { RunsDirect (defined_variable self.now.turn_us (checked_trees self.now.set.now) name.now (tree expr.now))
             K.written K.faults held.old target.old sink.old held.new target.new sink.new result }
     {
         let number = self.evaluate(expr, 0, held, target, sink)?;
@@ -60,7 +60,7 @@ impl DirectRunner<'_> {
         target: &mut Target,
         sink: &mut K,
     ) -> Result<(), Stopped>
-        ensures { RunsDirect (m.debugged (direct false) self.now.turn_us (checked_trees self.now.set.now) (code_trees code.now))
+        ensures { RunsDirect (m.debug_result (direct false) self.now.turn_us (checked_trees self.now.set.now) (code_trees code.now))
             K.written K.faults held.old target.old sink.old held.new target.new sink.new result }
     {
         for one in code {

@@ -158,9 +158,9 @@ impl DirectRunner<'_> {
 }
 
 // Counts a step.
-#[tactic(auto, unfolding(sequence_rules::specs::Steps::counted))]
+#[tactic(auto, unfolding(sequence_rules::specs::Steps::counted_step))]
 pub(crate) fn count_step(held: &mut DirectHeld) -> Result<(), Stopped>
-    ensures { (target : TargetState) → RunsWithoutSink (m.counted (direct false)) held.old target held.new target result }
+    ensures { (target : TargetState) → RunsWithoutSink (m.counted_step (direct false)) held.old target held.new target result }
 {
     if held.steps >= MOST_STEPS {
         held.end = DirectEnd::Halted(HaltCause::StepLimit);

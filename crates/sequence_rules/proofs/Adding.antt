@@ -6,7 +6,7 @@ use Rattle.target_calls.specs.World.{World, is_over, done_now, next_world}
 use Rattle.target_calls.specs.Asks.{unit_ask, probe_ask}
 use Rattle.target_machine.specs.Plain.{CallEnd, Answered, Skipped, Faulted, Small}
 use Rattle.sequence_rules.specs.Machine.{Over, rest_of}
-use Rattle.sequence_rules.specs.Direct.{Now, with_call, answers, made, direct}
+use Rattle.sequence_rules.specs.Direct.{Now, with_call, answers, made_call, direct}
 use Rattle.sequence_rules.specs.Laws.{Adds}
 use Rattle.sequence_rules.specs.Steady.{Steady}
 use Rattle.sequence_rules.proofs.LateLemmas.{grows_same, grows_on}
@@ -26,8 +26,8 @@ adds_answer ask Skipped w t = one_call ask t _ refl refl
 adds_answer ask Faulted w t = one_call ask t _ refl refl
 adds_answer ask Small w t = one_call ask t _ refl refl
 
-adds_made : (ask : Ask) (t : Now) → Adds t (rest_of (made ask t))
-unfolding made
+adds_made : (ask : Ask) (t : Now) → Adds t (rest_of (made_call ask t))
+unfolding made_call
 adds_made ask t = either (is_over t.world.answered) _ _ (one_call ask t _ refl refl) (adds_answer ask (done_now t.world ask).end (next_world t.world ask) t)
   where
     either : (c : Bool) (x y : Result (ℕ × Now) (Over × Now)) → Adds t (rest_of x) → Adds t (rest_of y) → Adds t (rest_of (cond c x y))

@@ -20,13 +20,13 @@ use Rattle.target_machine.specs.declared.unit.HaltCause.{HaltCause}
 use Rattle.target_machine.specs.declared.unit.ProbeCall.{ProbeCall}
 use Rattle.target_machine.specs.declared.unit.Unit.{Unit as AccessUnit}
 use Rattle.sequence_rules.specs.declared.bindings.Binding.{Binding}
-use Rattle.sequence_rules.specs.Calls.{Port, or_halt, use_now, given, guarded, global, port_with, port_from, port, answered, ask, numbered, command, zero_of, if_read, low_and_high, second_half, two_units, one_unit, memory_port, memory_at, memory, ap_unit, ap_at, ap_register, dp_unit, dp_at, dp_register, pins_command, abort_at, abort, delay, clock, pins, line_bits, line_result, function_result}
+use Rattle.sequence_rules.specs.Calls.{Port, or_halt, use_now, value_or_missing, guarded_rest, global, port_with, port_from, port, counted_answer, ask, counted_number, command, zero_of, if_read, low_and_high, second_half, two_units, one_unit, memory_port, memory_at, memory, ap_unit, ap_at, ap_register, dp_unit, dp_at, dp_register, pins_command, abort_at, abort, delay, clock, pins, line_bits, line_result, function_result}
 use Rattle.sequence_rules.specs.Complete.{names_in, has_name, with_name, with_names, Sees, MayCall, ExprComplete, ArgComplete, ArgsComplete}
-use Rattle.sequence_rules.specs.Direct.{Now, with_call, answers, made, direct}
+use Rattle.sequence_rules.specs.Direct.{Now, with_call, answers, made_call, direct}
 use Rattle.sequence_rules.specs.Machine as machine
 use Rattle.sequence_rules.specs.Machine.{Over, State, Out, with_rest, unit_more, line_more, step_more, with_locals, with_variables}
-use Rattle.sequence_rules.specs.Values.{is_call, text_of, named, stored, assigned, used_now, of_unary, both, operands, result_of, strict_binary, truth_of, conjunction, disjunction, of_binary, choice, appended, chained, all_used, numbers_of, call_result, call_of, value, argument, arguments}
-use Rattle.sequence_rules.specs.Variables.{bound, has_in, value_named, set_in, newest_in, set_newest, with_new, with_all_new, is_visible, visible, set_visible}
+use Rattle.sequence_rules.specs.Values.{is_call, text_of, named_value, stored_value, assigned_value, used_now, of_unary, both, operands, result_of, strict_binary, truth_of, conjunction, disjunction, of_binary, choice, appended_values, chained_values, all_used, numbers_of, call_result, call_of, value, argument, arguments}
+use Rattle.sequence_rules.specs.Variables.{bound_variable, has_in, value_named, set_in, newest_in, set_newest, with_new, with_all_new, is_visible, visible, set_visible}
 
 -- ---- names
 
@@ -38,7 +38,7 @@ pub set_names : {V : Type 0} (bs : List (Binding V)) (name : List ℕ) (v : V) �
 set_names [] name v = refl
 set_names (x ∷ bs) name v = either (bytes_eq name x.name) (set_names bs name v)
   where
-    either : (p : Bool) → names_in (set_in bs name v) ≡ names_in bs → names_in (cond p (bound x.name v ∷ bs) (x ∷ set_in bs name v)) ≡ x.name ∷ names_in bs
+    either : (p : Bool) → names_in (set_in bs name v) ≡ names_in bs → names_in (cond p (bound_variable x.name v ∷ bs) (x ∷ set_in bs name v)) ≡ x.name ∷ names_in bs
     either true e = refl
     either false e = ap (λ ns. x.name ∷ ns) e
 
@@ -46,12 +46,12 @@ newest_names : {V : Type 0} (bs : List (Binding V)) (name : List ℕ) (v : V) �
 newest_names [] name v = refl
 newest_names (x ∷ bs) name v = either (has_in bs name) (bytes_eq name x.name) (newest_names bs name v)
   where
-    either : (q p : Bool) → names_in (set_newest bs name v) ≡ names_in bs → names_in (cond q (x ∷ set_newest bs name v) (cond p (bound x.name v ∷ bs) (x ∷ bs))) ≡ x.name ∷ names_in bs
+    either : (q p : Bool) → names_in (set_newest bs name v) ≡ names_in bs → names_in (cond q (x ∷ set_newest bs name v) (cond p (bound_variable x.name v ∷ bs) (x ∷ bs))) ≡ x.name ∷ names_in bs
     either true p e = ap (λ ns. x.name ∷ ns) e
     either false true e = refl
     either false false e = refl
 
-pub last_names : {V : Type 0} (bs : List (Binding V)) (name : List ℕ) (v : V) → names_in (bs ++ bound name v ∷ []) ≡ names_in bs ++ name ∷ []
+pub last_names : {V : Type 0} (bs : List (Binding V)) (name : List ℕ) (v : V) → names_in (bs ++ bound_variable name v ∷ []) ≡ names_in bs ++ name ∷ []
 last_names [] name v = refl
 last_names (x ∷ bs) name v = ap (λ ns. x.name ∷ ns) (last_names bs name v)
 
@@ -71,7 +71,7 @@ front_names (x ∷ old) (y ∷ bs) more h = rw (ap (first_of []) h) (ap (λ ns. 
 new_names : {V : Type 0} (bs : List (Binding V)) (name : List ℕ) (v : V) → names_in (with_new bs name v) ≡ with_name (names_in bs) name
 new_names bs name v = rw (has_names bs name) (either (has_name (names_in bs) name))
   where
-    either : (p : Bool) → names_in (cond p bs (bs ++ bound name v ∷ [])) ≡ cond p (names_in bs) (names_in bs ++ name ∷ [])
+    either : (p : Bool) → names_in (cond p bs (bs ++ bound_variable name v ∷ [])) ≡ cond p (names_in bs) (names_in bs ++ name ∷ [])
     either true = refl
     either false = last_names bs name v
 
@@ -152,20 +152,20 @@ module _ (shared own : List (List ℕ)) where
   unfolding use_now direct
   use_fine v s h = record { shared_are = h.shared_are; own_are = h.own_are }
 
-  pub given_fine : {A : Type 0} (x : A) (o : Option A) (s : S) → H s → IsThere o → F (given (direct true) x o s)
-  unfolding given
+  pub given_fine : {A : Type 0} (x : A) (o : Option A) (s : S) → H s → IsThere o → F (value_or_missing (direct true) x o s)
+  unfolding value_or_missing
   given_fine x None s h k = absurd k
   given_fine x (Some y) s h k = h
 
   pub global_fine : (name : List ℕ) (s : S) → H s → has_name shared name ≡ true → F (global (direct true) name s)
   unfolding global
-  global_fine name s h k = fine_bind (Has shared own) (Has shared own) (given (direct true) _ (value_named s.globals name) s) _
+  global_fine name s h k = fine_bind (Has shared own) (Has shared own) (value_or_missing (direct true) _ (value_named s.globals name) s) _
       (given_fine _ (value_named s.globals name) s h (value_there s.globals name (has_names s.globals name ∙ ap (λ ns. has_name ns name) h.shared_are ∙ k)))
       (λ x j. use_fine x.0 x.1 j)
 
   not_lost : (ask : Ask) (t : Now) (o : Bool) (e : CallEnd) (n : World) (s : S) → H s
-      → F (answered (direct true) (cond o (Err (machine.Unanswered, with_call ask t.world t)) (answers ask e (with_call ask n t))) s)
-  unfolding answered
+      → F (counted_answer (direct true) (cond o (Err (machine.Unanswered, with_call ask t.world t)) (answers ask e (with_call ask n t))) s)
+  unfolding counted_answer
   not_lost ask t true e n s h = tt
   not_lost ask t false (Answered i) n s h = record { shared_are = h.shared_are; own_are = h.own_are }
   not_lost ask t false Skipped n s h = record { shared_are = h.shared_are; own_are = h.own_are }
@@ -173,8 +173,8 @@ module _ (shared own : List (List ℕ)) where
   not_lost ask t false Small n s h = tt
 
   number_fine : (ask : Ask) (t : Now) (o : Bool) (e : CallEnd) (n : World) (s : S) → H s
-      → F (numbered (direct true) (cond o (Err (machine.Unanswered, with_call ask t.world t)) (answers ask e (with_call ask n t))) s)
-  unfolding numbered
+      → F (counted_number (direct true) (cond o (Err (machine.Unanswered, with_call ask t.world t)) (answers ask e (with_call ask n t))) s)
+  unfolding counted_number
   number_fine ask t true e n s h = tt
   number_fine ask t false (Answered i) n s h = record { shared_are = h.shared_are; own_are = h.own_are }
   number_fine ask t false Skipped n s h = record { shared_are = h.shared_are; own_are = h.own_are }
@@ -182,12 +182,12 @@ module _ (shared own : List (List ℕ)) where
   number_fine ask t false Small n s h = tt
 
   pub ask_fine : (u : AccessUnit) (forgive : Bool) (s : S) → H s → F (ask (direct true) u forgive s)
-  unfolding ask direct made
+  unfolding ask direct made_call
   ask_fine u forgive s h = fine_cond (Has shared own) (nat_lt s.units 1000000) _ _
       (not_lost (unit_ask u forgive) s.rest (is_over s.rest.world.answered) (done_now s.rest.world (unit_ask u forgive)).end (next_world s.rest.world (unit_ask u forgive)) s h) tt
 
   command_fine : (x : ProbeCall) (s : S) → H s → F (command (direct true) x s)
-  unfolding command direct made
+  unfolding command direct made_call
   command_fine x s h = fine_cond (Has shared own) (nat_lt s.units 1000000) _ _
       (number_fine (probe_ask x) s.rest (is_over s.rest.world.answered) (done_now s.rest.world (probe_ask x)).end (next_world s.rest.world (probe_ask x)) s h) tt
 
@@ -352,8 +352,8 @@ module _ (shared own : List (List ℕ)) where
   there_by false true o q h k e = or_else o q (k refl)
   there_by false false o q h k e = absurd cc
 
-  named_fine : (name : Name) (s : S) → H s → Sees shared (λ n. ⊤) own name.text → F (named (direct true) name s)
-  unfolding named
+  named_fine : (name : Name) (s : S) → H s → Sees shared (λ n. ⊤) own name.text → F (named_value (direct true) name s)
+  unfolding named_value
   named_fine name s h k = given_fine _ (visible name.text s) s h
       (there_by (has_in s.locals name.text) (has_in s.globals name.text) _ _ (newest_there s.locals name.text) (value_there s.globals name.text) (sees name.text s h k))
 
@@ -364,13 +364,13 @@ module _ (shared own : List (List ℕ)) where
       either true = record { shared_are = h.shared_are; own_are = newest_names s.locals name v ∙ h.own_are }
       either false = record { shared_are = set_names s.globals name v ∙ h.shared_are; own_are = h.own_are }
 
-  guarded_fine : {A : Type 0} (ok : Bool) (rest : S → O A) (s : S) → ok ≡ true → F (rest s) → F (guarded (direct true) ok rest s)
-  unfolding guarded direct
+  guarded_fine : {A : Type 0} (ok : Bool) (rest : S → O A) (s : S) → ok ≡ true → F (rest s) → F (guarded_rest (direct true) ok rest s)
+  unfolding guarded_rest direct
   guarded_fine true rest s e h = h
   guarded_fine false rest s e h = absurd cc
 
-  pub stored_fine : (name : Name) (v : ℕ) (s : S) → H s → Sees shared (λ n. ⊤) own name.text → F (stored (direct true) name v s)
-  unfolding stored
+  pub stored_fine : (name : Name) (v : ℕ) (s : S) → H s → Sees shared (λ n. ⊤) own name.text → F (stored_value (direct true) name v s)
+  unfolding stored_value
   stored_fine name v s h k = guarded_fine (is_visible name.text s) _ s (sees name.text s h k) (set_has name.text v s h)
 
   unary_fine : (op : UnaryOp) (out : O ℕ) → F out → F (of_unary (direct true) op out)
@@ -392,7 +392,7 @@ module _ (shared own : List (List ℕ)) where
         (λ x j. guarded_fine (is_call (function_named name.text) args) _ x.1 e (called_fine (function_named name.text) args (text_of args) x.0 x.1 e k j))
 
     mutual
-      unfolding value ExprComplete appended chained assigned
+      unfolding value ExprComplete appended_values chained_values assigned_value
 
       pub value_fine : (e : Tree) (s : S) → ExprComplete shared Calls own e → H s → F (value (direct true) seq e s)
       value_fine (t.Number n) s k h = h

@@ -9,7 +9,7 @@ use Rattle.std.specs.String.{string_eq}
 use Rattle.indexmap.specs.IndexMap.{IndexMap, insert_entry, set_value_at}
 use Rattle.indexmap.proofs.CallerLemmas.{insert_entry-new}
 use Rattle.sequence_rules.specs.Shared.{entry_binding}
-use Rattle.sequence_rules.specs.Variables.{bound, has_in, newest_in, value_named, set_in, set_newest, with_new}
+use Rattle.sequence_rules.specs.Variables.{bound_variable, has_in, newest_in, value_named, set_in, set_newest, with_new}
 use Rattle.sequence_rules.proofs.VariableLemmas.{newest_none, set_newest_none}
 
 abbrev has_name : List ℕ → String Global → Bool
@@ -33,7 +33,7 @@ module _ {V : Type 0} (name : List ℕ) where
   value_set (e ∷ es) v = either (has_name name e.0) (value_set es v)
     where
       either : (p : Bool) → map entry_binding (set_value (has_name name) es v) ≡ set_in (map entry_binding es) name v
-          → map entry_binding (cond p ((e.0, v) ∷ es) (e ∷ set_value (has_name name) es v)) ≡ cond p (bound (string_bytes e.0) v ∷ map entry_binding es) (entry_binding e ∷ set_in (map entry_binding es) name v)
+          → map entry_binding (cond p ((e.0, v) ∷ es) (e ∷ set_value (has_name name) es v)) ≡ cond p (bound_variable (string_bytes e.0) v ∷ map entry_binding es) (entry_binding e ∷ set_in (map entry_binding es) name v)
       either true h = refl
       either false h = ap (λ bs. entry_binding e ∷ bs) h
 
@@ -59,7 +59,7 @@ pub added : {V S : Type 0} (m : IndexMap (String Global) V S) (k : String Global
     → map entry_binding (insert_entry string_eq m.entries k v) ≡ with_new (map entry_binding m.entries) name v
 added m k v name is new =
     let none : lookup (string_eq k) m.entries ≡ None = none_named (string_bytes k) m.entries (ap (has_in (map entry_binding m.entries)) is ∙ new) in
-    rw new (ap (map entry_binding) (insert_entry-new string_eq m k v none) ∙ map-append entry_binding m.entries ((k, v) ∷ []) ∙ ap (λ n. map entry_binding m.entries ++ bound n v ∷ []) is)
+    rw new (ap (map entry_binding) (insert_entry-new string_eq m k v none) ∙ map-append entry_binding m.entries ((k, v) ∷ []) ∙ ap (λ n. map entry_binding m.entries ++ bound_variable n v ∷ []) is)
 
 -- ---- a write by index
 
@@ -147,8 +147,8 @@ module _ {V : Type 0} (name : List ℕ) where
       later false h k = ap (λ bs. entry_binding e ∷ bs) (k ∙ set_newest_none (map entry_binding es) name v h)
 
       either : (p : Bool) → has_name name e.0 ≡ p → set_in (map entry_binding es) name v ≡ set_newest (map entry_binding es) name v
-          → cond p (bound (string_bytes e.0) v ∷ map entry_binding es) (entry_binding e ∷ set_in (map entry_binding es) name v)
-          ≡ cond (has_in (map entry_binding es) name) (entry_binding e ∷ set_newest (map entry_binding es) name v) (cond p (bound (string_bytes e.0) v ∷ map entry_binding es) (entry_binding e ∷ map entry_binding es))
+          → cond p (bound_variable (string_bytes e.0) v ∷ map entry_binding es) (entry_binding e ∷ set_in (map entry_binding es) name v)
+          ≡ cond (has_in (map entry_binding es) name) (entry_binding e ∷ set_newest (map entry_binding es) name v) (cond p (bound_variable (string_bytes e.0) v ∷ map entry_binding es) (entry_binding e ∷ map entry_binding es))
       either true h k =
           let none : has_in (map entry_binding es) name ≡ false = none_like es e.0 unique.0 ((bytes_eq-Decides name (string_bytes e.0)).0 h) in
           rw none refl

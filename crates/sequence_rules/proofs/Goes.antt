@@ -21,9 +21,9 @@ use Rattle.sequence_rules.specs.Polls.{poll_of}
 use Rattle.sequence_rules.specs.Machine as machine
 use Rattle.sequence_rules.specs.Machine.{Over, Machine, State, Out, halt, with_rest, unit_more, line_more, step_more, with_locals, with_variables, end_state, rest_of}
 use Rattle.sequence_rules.specs.Steady.{Steady, Goes}
-use Rattle.sequence_rules.specs.Calls.{Port, or_halt, use_now, missing, given, guarded, global, port_with, port_from, port, answered, ask, numbered, command, zero_of, if_read, low_and_high, second_half, two_units, one_unit, memory_port, memory_at, memory, ap_unit, ap_at, ap_register, dp_unit, dp_at, dp_register, pins_command, abort_at, abort, delay, clock, pins, line_bits, line_result, function_result}
-use Rattle.sequence_rules.specs.Values.{named, stored, assigned, used_now, of_unary, both, operands, result_of, strict_binary, truth_of, conjunction, disjunction, of_binary, choice, appended, chained, all_used, numbers_of, call_result, call_of, value, argument, arguments}
-use Rattle.sequence_rules.specs.Steps.{timeout_of, counted, declared, dropped, after_counted, in_order, inside, turn, turns, poll_result_at, poll_result, statement, block, condition, loop_result, repeat_result, controlled, step, steps_result, given_back, sequence_result, steps_at, sequence_at, debugged, run_of}
+use Rattle.sequence_rules.specs.Calls.{Port, or_halt, use_now, missing, value_or_missing, guarded_rest, global, port_with, port_from, port, counted_answer, ask, counted_number, command, zero_of, if_read, low_and_high, second_half, two_units, one_unit, memory_port, memory_at, memory, ap_unit, ap_at, ap_register, dp_unit, dp_at, dp_register, pins_command, abort_at, abort, delay, clock, pins, line_bits, line_result, function_result}
+use Rattle.sequence_rules.specs.Values.{named_value, stored_value, assigned_value, used_now, of_unary, both, operands, result_of, strict_binary, truth_of, conjunction, disjunction, of_binary, choice, appended_values, chained_values, all_used, numbers_of, call_result, call_of, value, argument, arguments}
+use Rattle.sequence_rules.specs.Steps.{timeout_of, counted_step, declared_variable, dropped_value, after_counted, in_order, inside, turn, turns, poll_result_at, poll_result, statement, block, condition, loop_result, repeat_result, control_result, step, steps_result, given_back, sequence_result, steps_at, sequence_at, debug_result, run_of}
 
 module _ {V T : Type 0} (m : Machine V T) (P : T → T → Type 0) (h : Steady m P) where
   pub goes_ok : {A : Type 0} (s : State V T) (x : A) → Goes P s (Ok (x, s))
@@ -50,13 +50,13 @@ module _ {V T : Type 0} (m : Machine V T) (P : T → T → Type 0) (h : Steady m
   unfolding missing
   goes_missing x s = goes_cond s m.is_watchful _ _ (goes_err s machine.Lost) (goes_ok s x)
 
-  pub goes_given : {A : Type 0} (x : A) (o : Option A) (s : State V T) → Goes P s (given m x o s)
-  unfolding given
+  pub goes_given : {A : Type 0} (x : A) (o : Option A) (s : State V T) → Goes P s (value_or_missing m x o s)
+  unfolding value_or_missing
   goes_given x None s = goes_missing x s
   goes_given x (Some y) s = goes_ok s y
 
-  pub goes_guarded : {A : Type 0} (ok : Bool) (rest : State V T → Out V T A) (s : State V T) → Goes P s (rest s) → Goes P s (guarded m ok rest s)
-  unfolding guarded
+  pub goes_guarded : {A : Type 0} (ok : Bool) (rest : State V T → Out V T A) (s : State V T) → Goes P s (rest s) → Goes P s (guarded_rest m ok rest s)
+  unfolding guarded_rest
   goes_guarded ok rest s g = goes_cond s (m.is_watchful && not ok) _ _ (goes_err s _) g
 
   pub goes_global : (name : List ℕ) (s : State V T) → Goes P s (global m name s)
@@ -67,8 +67,8 @@ module _ {V T : Type 0} (m : Machine V T) (P : T → T → Type 0) (h : Steady m
   unfolding port port_from port_with
   goes_port s = goes_bind s _ _ (goes_global (codes "__ap") s) (λ a. goes_bind a.1 _ _ (goes_global (codes "__errorcontrol") a.1) (λ e. goes_bind e.1 _ _ (goes_global (codes "__dp") e.1) (λ d. goes_ok d.1 _)))
 
-  goes_answered : (r : Result (V × T) (Over × T)) (s : State V T) → P s.rest (rest_of r) → Goes P s (answered m r s)
-  unfolding answered
+  goes_answered : (r : Result (V × T) (Over × T)) (s : State V T) → P s.rest (rest_of r) → Goes P s (counted_answer m r s)
+  unfolding counted_answer
   goes_answered (Ok x) s g = record { so = g }
   goes_answered (Err e) s g = record { so = g }
 
@@ -76,8 +76,8 @@ module _ {V T : Type 0} (m : Machine V T) (P : T → T → Type 0) (h : Steady m
   unfolding ask
   goes_ask u forgive s = goes_cond s (nat_lt s.units 1000000) _ _ (goes_answered _ s (h.asked u forgive s.rest)) (goes_err s (machine.Halted AccessLimit))
 
-  goes_numbered : (r : Result (ℕ × T) (Over × T)) (s : State V T) → P s.rest (rest_of r) → Goes P s (numbered m r s)
-  unfolding numbered
+  goes_numbered : (r : Result (ℕ × T) (Over × T)) (s : State V T) → P s.rest (rest_of r) → Goes P s (counted_number m r s)
+  unfolding counted_number
   goes_numbered (Ok x) s g = record { so = g }
   goes_numbered (Err e) s g = record { so = g }
 
@@ -201,12 +201,12 @@ module _ {V T : Type 0} (m : Machine V T) (P : T → T → Type 0) (h : Steady m
       either true x y e f = e
       either false x y e f = f
 
-  pub goes_stored : (name : Name) (v : V) (s : State V T) → Goes P s (stored m name v s)
-  unfolding stored
+  pub goes_stored : (name : Name) (v : V) (s : State V T) → Goes P s (stored_value m name v s)
+  unfolding stored_value
   goes_stored name v s = goes_guarded (is_visible name.text s) (λ r. Ok (v, set_visible name.text v r)) s (record { so = rw (stored_rest name.text v s) (h.same s.rest) })
 
-  pub goes_assigned : (name : Name) (out : Out V T V) (s : State V T) → Goes P s out → Goes P s (assigned m name out)
-  unfolding assigned
+  pub goes_assigned : (name : Name) (out : Out V T V) (s : State V T) → Goes P s out → Goes P s (assigned_value m name out)
+  unfolding assigned_value
   goes_assigned name out s g = goes_bind s out _ g (λ x. goes_stored name x.0 x.1)
 
   pub goes_used_now : (out : Out V T V) (s : State V T) → Goes P s out → Goes P s (used_now m out)
@@ -256,12 +256,12 @@ module _ {V T : Type 0} (m : Machine V T) (P : T → T → Type 0) (h : Steady m
   unfolding choice
   goes_choice test first second s g k l = goes_bind s _ _ (goes_used_now test s g) (λ x. goes_cond x.1 (nat_eq x.0 0) _ _ (l x.1) (k x.1))
 
-  pub goes_appended : (got : List V) (out : Out V T V) (s : State V T) → Goes P s out → Goes P s (appended m got out)
-  unfolding appended
+  pub goes_appended : (got : List V) (out : Out V T V) (s : State V T) → Goes P s out → Goes P s (appended_values m got out)
+  unfolding appended_values
   goes_appended got out s g = goes_bind s out _ g (λ x. goes_ok x.1 _)
 
-  pub goes_chained : (first : Out V T (List V)) (more : List V → State V T → Out V T (List V)) (s : State V T) → Goes P s first → ((g : List V) (r : State V T) → Goes P r (more g r)) → Goes P s (chained m first more)
-  unfolding chained
+  pub goes_chained : (first : Out V T (List V)) (more : List V → State V T → Out V T (List V)) (s : State V T) → Goes P s first → ((g : List V) (r : State V T) → Goes P r (more g r)) → Goes P s (chained_values m first more)
+  unfolding chained_values
   goes_chained first more s g k = goes_bind s first _ g (λ x. k x.0 x.1)
 
   pub goes_all_used : (vs : List V) (s : State V T) → Goes P s (all_used m vs s)
@@ -275,16 +275,16 @@ module _ {V T : Type 0} (m : Machine V T) (P : T → T → Type 0) (h : Steady m
 
   -- ---- steps
 
-  pub goes_counted : (s : State V T) → Goes P s (counted m s)
-  unfolding counted
+  pub goes_counted : (s : State V T) → Goes P s (counted_step m s)
+  unfolding counted_step
   goes_counted s = goes_cond s (nat_lt s.steps 100000000) _ _ (record { so = h.same s.rest }) (goes_err s _)
 
-  pub goes_declared : (name : Name) (out : Out V T V) (s : State V T) → Goes P s out → Goes P s (declared m name out)
-  unfolding declared
+  pub goes_declared : (name : Name) (out : Out V T V) (s : State V T) → Goes P s out → Goes P s (declared_variable m name out)
+  unfolding declared_variable
   goes_declared name out s g = goes_bind s out _ g (λ x. record { so = h.same x.1.rest })
 
-  pub goes_dropped : (out : Out V T V) (s : State V T) → Goes P s out → Goes P s (dropped m out)
-  unfolding dropped
+  pub goes_dropped : (out : Out V T V) (s : State V T) → Goes P s out → Goes P s (dropped_value m out)
+  unfolding dropped_value
   goes_dropped out s g = goes_bind s out _ g (λ x. goes_ok x.1 _)
 
   pub goes_after_counted : (rest : State V T → Out V T (Unit {0})) (s : State V T) → ((r : State V T) → Goes P r (rest r)) → Goes P s (after_counted m rest s)
@@ -330,7 +330,7 @@ module _ {V T : Type 0} (m : Machine V T) (P : T → T → Type 0) (h : Steady m
     goes_call_of name args out s g = goes_bind s _ _ (goes_numbers_of out s g) (λ x. goes_guarded _ _ x.1 (goes_called (function_named name.text) _ x.0 x.1))
 
     mutual
-      unfolding value named
+      unfolding value named_value
 
       pub goes_value : (e : Tree) (s : State V T) → Goes P s (value m seq e s)
       goes_value (t.Number n) s = goes_ok s _
@@ -377,8 +377,8 @@ module _ {V T : Type 0} (m : Machine V T) (P : T → T → Type 0) (h : Steady m
       goes_repeated None timeout steps body s k = goes_inside body s k
       goes_repeated (Some e) timeout steps body s k = goes_bind s _ _ (goes_given 0 (timeout_of timeout) s) (λ w. goes_looped (poll_of e steps) e _ body w.1 k)
 
-      pub goes_controlled : (o p : Option Tree) (timeout : Option ℕ) (steps : CodeSteps) (body : State V T → Out V T (Unit {0})) (s : State V T) → ((r : State V T) → Goes P r (body r)) → Goes P s (controlled m turn_us seq o p timeout steps body s)
-      unfolding controlled
+      pub goes_controlled : (o p : Option Tree) (timeout : Option ℕ) (steps : CodeSteps) (body : State V T → Out V T (Unit {0})) (s : State V T) → ((r : State V T) → Goes P r (body r)) → Goes P s (control_result m turn_us seq o p timeout steps body s)
+      unfolding control_result
       goes_controlled o p timeout steps body s k = goes_bind s _ _ (goes_condition o s) (λ x. goes_cond x.1 x.0 _ _ (goes_repeated p timeout steps body x.1 k) (goes_ok x.1 _))
 
       mutual
@@ -406,8 +406,8 @@ module _ {V T : Type 0} (m : Machine V T) (P : T → T → Type 0) (h : Steady m
     goes_sequence zero name s = goes_missing _ s
     goes_sequence (suc d) name s = goes_entered _ s (λ r. goes_bind r _ _ (goes_steps_at name r) (λ x. goes_done (λ n q. sequence_at m turn_us set d n q) (λ n q. goes_sequence d n q) turn_us x.0 x.1))
 
-    pub goes_debugged : (code : List StmtTree) (s : State V T) → Goes P s (debugged m turn_us set code s)
-    unfolding debugged
+    pub goes_debugged : (code : List StmtTree) (s : State V T) → Goes P s (debug_result m turn_us set code s)
+    unfolding debug_result
     goes_debugged [] s = goes_ok s _
     goes_debugged (t.Empty at ∷ code) s = goes_debugged code s
     goes_debugged (t.Declare name e ∷ code) s = goes_bind s _ _ (goes_value (λ n q. sequence_at m turn_us set 0 n q) (λ n q. goes_sequence 0 n q) e s)

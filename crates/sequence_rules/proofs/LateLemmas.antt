@@ -3,7 +3,7 @@ use Rattle.std.proofs.Common.{◌≡◌, ℕ, suc, ◌+◌, ◌<◌, min, Bool, 
 use Rattle.std.proofs.Math.ListN.{get_or-append}
 use Rattle.std.proofs.lemmas.List.{length-append, append_assoc, append-nil}
 use Rattle.target_machine.specs.State.{TargetState}
-use Rattle.target_machine.specs.Plain.{Action, CallEnd, Answered, Skipped, Faulted, Small, call_done, ended}
+use Rattle.target_machine.specs.Plain.{Action, CallEnd, Answered, Skipped, Faulted, Small, call_done, ended_call}
 use Rattle.target_machine.specs.declared.unit.HaltCause.TheVariants.{AddressTooLarge}
 use Rattle.target_machine.specs.declared.unit.ProbeCall.{ProbeCall}
 use Rattle.target_calls.specs.declared.calls.Ask.{Ask}
@@ -19,7 +19,7 @@ use Rattle.sequence_rules.specs.Machine as machine
 use Rattle.sequence_rules.specs.Machine.{Over, rest_of}
 use Rattle.sequence_rules.specs.Steady.{Steady}
 use Rattle.sequence_rules.specs.Alike.{CallMatches, Equal, Tracks}
-use Rattle.sequence_rules.specs.Direct.{Now, with_call, with_line, line_after, answers, made, direct}
+use Rattle.sequence_rules.specs.Direct.{Now, with_call, with_line, line_after, answers, made_call, direct}
 use Rattle.sequence_rules.specs.Late.{Late, late_of, line_unless, asks_with, used_late, written_late, late, ComesTo, SameRest, StoppedAt, StoppedBy, Grows, Later}
 
 -- ---- what was written
@@ -229,8 +229,8 @@ module _ (cost : Costs) (w : World) where
     small_is : small_now w t.asks.calls ask ≡ is_small_end (done_now u.world ask).end
     small_is = one.one_small w t.asks.calls ask r.whole ∙ ap (λ x. is_small_end (done_now x ask).end) (sym r.world)
 
-    unit_matches : Comes (late_unit (small_now w t.asks.calls ask)) (made ask u)
-    unfolding made
+    unit_matches : Comes (late_unit (small_now w t.asks.calls ask)) (made_call ask u)
+    unfolding made_call
     unit_matches = rw small_is (either_way (is_over u.world.answered) refl)
 
     -- the same of a command, whose number is known at once
@@ -257,16 +257,16 @@ module _ (cost : Costs) (w : World) where
     number_way true is large = stopped true u.world is (rw is refl) (rw is refl)
     number_way false is large = number_by (done_now u.world ask).end refl large is
 
-    number_matches : ¬ ((done_now u.world ask).end ≡ Small) → Gives (Ok (slice_index (results w (t.asks.calls ++ ask ∷ [])) (length t.asks.calls), more)) (made ask u)
-    unfolding made
-    number_matches large = subst (λ c. Gives (Ok (slice_index (results w c) (length t.asks.calls), more)) (made ask u)) more_are (number_way (is_over u.world.answered) refl large)
+    number_matches : ¬ ((done_now u.world ask).end ≡ Small) → Gives (Ok (slice_index (results w (t.asks.calls ++ ask ∷ [])) (length t.asks.calls), more)) (made_call ask u)
+    unfolding made_call
+    number_matches large = subst (λ c. Gives (Ok (slice_index (results w c) (length t.asks.calls), more)) (made_call ask u)) more_are (number_way (is_over u.world.answered) refl large)
 
   -- a command of the probe has no address
   probe_large : (x : World) (c : ProbeCall) → ¬ ((done_now x (probe_ask c)).end ≡ Small)
   unfolding call_done
   probe_large x c = by_end _ _ _ _ _ _
     where
-      by_end : (f : Bool) (n : ℕ) (t2 : TargetState) (large : List ℕ) (actions : List Action) (g : Bool) → ¬ ((ended f g false n t2 large actions).end ≡ Small)
+      by_end : (f : Bool) (n : ℕ) (t2 : TargetState) (large : List ℕ) (actions : List Action) (g : Bool) → ¬ ((ended_call f g false n t2 large actions).end ≡ Small)
       by_end true n t2 large actions true h = cc
       by_end true n t2 large actions false h = cc
       by_end false n t2 large actions g h = cc

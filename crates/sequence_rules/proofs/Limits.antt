@@ -7,7 +7,7 @@ use Rattle.target_calls.specs.declared.calls.Ask.{Ask}
 use Rattle.target_machine.specs.Plain.{CallEnd, Answered, Skipped, Faulted, Small}
 use Rattle.target_machine.specs.State.{TargetState}
 use Rattle.sequence_rules.specs.Alike.{EndRelation, CallMatches, Matches, Equal, Tracks}
-use Rattle.sequence_rules.specs.Direct.{Now, now_at, with_call, with_line, answers, made, direct}
+use Rattle.sequence_rules.specs.Direct.{Now, now_at, with_call, with_line, answers, made_call, direct}
 use Rattle.sequence_rules.specs.Late.{Grows}
 use Rattle.sequence_rules.specs.Laws.{Adds, IsCutShort, IsWhole}
 use Rattle.sequence_rules.specs.Machine as machine
@@ -87,8 +87,8 @@ module _ (m : ℕ) where
     both_by n is count free Faulted = (refl, on_both n is count free after refl refl)
     both_by n is count free Small = (refl, on_both n is count free after refl refl)
 
-    made_free : t.world.answered ≡ None → made ask t ≡ answers ask (done_now t.world ask).end after
-    unfolding made
+    made_free : t.world.answered ≡ None → made_call ask t ≡ answers ask (done_now t.world ask).end after
+    unfolding made_call
     made_free free = one t.world.answered free
       where
         one : (a : Option ℕ) → a ≡ None → cond (is_over a) (Err (machine.Unanswered, with_call ask t.world t)) (answers ask (done_now t.world ask).end after) ≡ answers ask (done_now t.world ask).end after
@@ -96,12 +96,12 @@ module _ (m : ℕ) where
         one (Some n) e = absurd cc
 
     by_limit : (n : ℕ) → m - k ≡ n → k ≤ m → k ≡ length t.calls → t.world.answered ≡ None
-        → CallMatches (WithinLimit m) (LimitEnds m) Equal (k + 1) (answers ask (done_now t.world ask).end after) (made ask (limited n t))
-    unfolding made
+        → CallMatches (WithinLimit m) (LimitEnds m) Equal (k + 1) (answers ask (done_now t.world ask).end after) (made_call ask (limited n t))
+    unfolding made_call
     by_limit zero is within count free = cut_by within is count (done_now t.world ask).end
     by_limit (suc n) is within count free = both_by n is count free (done_now t.world ask).end
 
-  call_limited : (ask : Ask) (k : ℕ) (t u : Now) → WithinLimit m k t u → CallMatches (WithinLimit m) (LimitEnds m) Equal (k + 1) (made ask t) (made ask u)
+  call_limited : (ask : Ask) (k : ℕ) (t u : Now) → WithinLimit m k t u → CallMatches (WithinLimit m) (LimitEnds m) Equal (k + 1) (made_call ask t) (made_call ask u)
   call_limited ask k t u h = rw h.same (rw (made_free ask k t h.free) (by_limit ask k t (m - k) refl h.within h.count h.free))
 
   line_limited : (k : ℕ) (t u : Now) (line : List ℕ) → WithinLimit m k t u → WithinLimit m k (with_line line t) (with_line line u)

@@ -4,7 +4,7 @@ use Rattle.std.proofs.lemmas.List.{length-append}
 use Rattle.std.specs.Option.{option_or}
 use Rattle.std.proofs.Math.Bool.{or-true, or-false}
 use Rattle.sequence_rules.specs.declared.bindings.Binding.{Binding}
-use Rattle.sequence_rules.specs.Variables.{bound, has_in, newest_in, set_newest}
+use Rattle.sequence_rules.specs.Variables.{bound_variable, has_in, newest_in, set_newest}
 use Rattle.sequence_rules.proofs.VariableLemmas.{set_newest_none}
 
 or_none : {X : Type 0} (o : Option X) → option_or o None ≡ o
@@ -45,7 +45,7 @@ module _ {V : Type 0} where
       rw same (one (has_in xs n) (bytes_eq n x.name) (set_earlier xs ys n v h))
     where
       one : (p q : Bool) → set_newest (xs ++ ys) n v ≡ set_newest xs n v ++ ys
-          → cond p (x ∷ set_newest (xs ++ ys) n v) (cond q (bound x.name v ∷ xs ++ ys) (x ∷ xs ++ ys)) ≡ cond p (x ∷ set_newest xs n v) (cond q (bound x.name v ∷ xs) (x ∷ xs)) ++ ys
+          → cond p (x ∷ set_newest (xs ++ ys) n v) (cond q (bound_variable x.name v ∷ xs ++ ys) (x ∷ xs ++ ys)) ≡ cond p (x ∷ set_newest xs n v) (cond q (bound_variable x.name v ∷ xs) (x ∷ xs)) ++ ys
       one true q k = ap (λ zs. x ∷ zs) k
       one false true k = refl
       one false false k = refl
@@ -99,7 +99,7 @@ module _ {V : Type 0} where
   set_length [] n v = refl
   set_length (x ∷ xs) n v = one (has_in xs n) (bytes_eq n x.name) (set_length xs n v)
     where
-      one : (p q : Bool) → length (set_newest xs n v) ≡ length xs → length (cond p (x ∷ set_newest xs n v) (cond q (bound x.name v ∷ xs) (x ∷ xs))) ≡ suc (length xs)
+      one : (p q : Bool) → length (set_newest xs n v) ≡ length xs → length (cond p (x ∷ set_newest xs n v) (cond q (bound_variable x.name v ∷ xs) (x ∷ xs))) ≡ suc (length xs)
       one true q k = ap suc k
       one false true k = refl
       one false false k = refl

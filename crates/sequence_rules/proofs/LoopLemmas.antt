@@ -11,10 +11,10 @@ use Rattle.sequence_trees.specs.declared.steps.CheckedStep.{CheckedStep}
 use Rattle.sequence_trees.specs.Trees.{CodeSteps, SetTrees, NoSteps, step_tree, steps_tree, steps_named}
 use Rattle.sequence_rules.specs.declared.bindings.Binding.{Binding}
 use Rattle.sequence_rules.specs.Machine.{Machine, State, Out, with_locals, with_variables}
-use Rattle.sequence_rules.specs.Calls.{missing, given}
-use Rattle.sequence_rules.specs.Values.{argument, arguments, chained}
-use Rattle.sequence_rules.specs.Variables.{bound, value_named, set_in}
-use Rattle.sequence_rules.specs.Steps.{in_order, counted, after_counted, declared, inside, block, step, steps_result, turn, turns, sequence_result, steps_at, sequence_at}
+use Rattle.sequence_rules.specs.Calls.{missing, value_or_missing}
+use Rattle.sequence_rules.specs.Values.{argument, arguments, chained_values}
+use Rattle.sequence_rules.specs.Variables.{bound_variable, value_named, set_in}
+use Rattle.sequence_rules.specs.Steps.{in_order, counted_step, after_counted, declared_variable, inside, block, step, steps_result, turn, turns, sequence_result, steps_at, sequence_at}
 use Rattle.sequence_rules.specs.Steps as steps
 
 -- the way back from a called sequence, one change after the other
@@ -50,13 +50,13 @@ module _ {V T : Type 0} (m : Machine V T) where
 
   module _ (seq : List ℕ → State V T → Out V T (Unit {0})) where
     pub args_more : (xs : List Arg) (i : ℕ) (d : Arg) (got : List V) (s : State V T) → i < length xs
-        → arguments m seq (arg_trees (drop i xs)) got s ≡ chained m (argument m seq (arg_tree (get_or xs i d)) got s) (λ g r. arguments m seq (arg_trees (drop (i + 1) xs)) g r)
+        → arguments m seq (arg_trees (drop i xs)) got s ≡ chained_values m (argument m seq (arg_tree (get_or xs i d)) got s) (λ g r. arguments m seq (arg_trees (drop (i + 1) xs)) g r)
     unfolding arguments
     args_more xs i d got s h = rw (drop_more xs i d h) refl
 
     pub args_on : (total : Out V T (List V)) (xs : List Arg) (i : ℕ) (d : Arg) (got now : List V) (s r : State V T) → total ≡ arguments m seq (arg_trees (drop i xs)) got s → i < length xs
         → argument m seq (arg_tree (get_or xs i d)) got s ≡ Ok (now, r) → total ≡ arguments m seq (arg_trees (drop (i + 1) xs)) now r
-    unfolding chained
+    unfolding chained_values
     args_on total xs i d got now s r same h is = same ∙ args_more xs i d got s h ∙ rw is refl
 
     pub args_over : (total : Out V T (List V)) (xs : List Arg) (i : ℕ) (got : List V) (s : State V T) → total ≡ arguments m seq (arg_trees (drop i xs)) got s → length xs ≤ i → total ≡ Ok (got, s)
@@ -113,9 +113,9 @@ module _ {V T : Type 0} (m : Machine V T) where
 
   -- ---- scopes
 
-  pub declared_on : (name : Name) (f : State V T → Out V T V) (s k r o : State V T) (v : V) → counted m s ≡ Ok (tt, k) → f k ≡ Ok (v, r) → o ≡ with_locals r (r.locals ++ bound name.text v ∷ [])
-      → after_counted m (λ q. declared m name (f q)) s ≡ Ok (tt, o)
-  unfolding after_counted declared
+  pub declared_on : (name : Name) (f : State V T → Out V T V) (s k r o : State V T) (v : V) → counted_step m s ≡ Ok (tt, k) → f k ≡ Ok (v, r) → o ≡ with_locals r (r.locals ++ bound_variable name.text v ∷ [])
+      → after_counted m (λ q. declared_variable m name (f q)) s ≡ Ok (tt, o)
+  unfolding after_counted declared_variable
   declared_on name f s k r o v h i j = rw h (rw i (rw j refl))
 
   pub inside_on : (body : State V T → Out V T (Unit {0})) (s r o : State V T) (n : ℕ) → body s ≡ Ok (tt, r) → n ≡ length s.locals → o ≡ with_locals r (take n r.locals) → inside m body s ≡ Ok (tt, o)
@@ -132,8 +132,8 @@ module _ {V T : Type 0} (m : Machine V T) where
   entered_on body s r q p dp ap control outer none is d a e same at = rw (sym none) (rw is (rw at (rw d (rw a (rw e (rw same refl))))))
 
   module _ (turn_us : ℕ) (set : SetTrees) where
-    given_steps : (careless : m.is_watchful ≡ false) (o : Option CodeSteps) (s : State V T) → given m NoSteps o s ≡ Ok (unwrap_or o NoSteps, s)
-    unfolding given missing
+    given_steps : (careless : m.is_watchful ≡ false) (o : Option CodeSteps) (s : State V T) → value_or_missing m NoSteps o s ≡ Ok (unwrap_or o NoSteps, s)
+    unfolding value_or_missing missing
     given_steps careless None s = rw careless refl
     given_steps careless (Some steps) s = refl
 
@@ -151,7 +151,7 @@ module _ {V T : Type 0} (m : Machine V T) where
   module _ (E : State V T → (A : Type 0) → Out V T A → Type 0) (on : (s : State V T) (A B : Type 0) (out : Out V T A) (f : A × State V T → Out V T B) → E s A out → E s B (out >>= f)) where
     pub args_fail : (seq : List ℕ → State V T → Out V T (Unit {0})) (total : Out V T (List V)) (xs : List Arg) (i : ℕ) (d : Arg) (got : List V) (s r : State V T) → total ≡ arguments m seq (arg_trees (drop i xs)) got s → i < length xs
         → E r (List V) (argument m seq (arg_tree (get_or xs i d)) got s) → E r (List V) total
-    unfolding chained
+    unfolding chained_values
     args_fail seq total xs i d got s r same h is = rw (same ∙ args_more seq xs i d got s h) (on r (List V) (List V) (argument m seq (arg_tree (get_or xs i d)) got s) _ is)
 
     pub block_fail : (seq : List ℕ → State V T → Out V T (Unit {0})) (turn_us : ℕ) (total : Out V T (Unit {0})) (xs : List statement.Stmt) (i : ℕ) (d : statement.Stmt) (s r : State V T) → total ≡ block m turn_us seq (code_trees (drop i xs)) s → i < length xs

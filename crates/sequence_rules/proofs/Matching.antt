@@ -16,14 +16,14 @@ use Rattle.target_machine.specs.declared.unit.ProbeCall.{ProbeCall}
 use Rattle.target_machine.specs.declared.unit.Unit.{Unit as AccessUnit}
 use Rattle.sequence_rules.specs.declared.bindings.Binding.{Binding}
 use Rattle.dap_base.specs.Outcome.{◌>>=◌}
-use Rattle.sequence_rules.specs.Variables.{bound, has_in, value_named, set_in, newest_in, set_newest, with_new, with_all_new, is_visible, visible, set_visible}
+use Rattle.sequence_rules.specs.Variables.{bound_variable, has_in, value_named, set_in, newest_in, set_newest, with_new, with_all_new, is_visible, visible, set_visible}
 use Rattle.sequence_rules.specs.Polls.{poll_of}
 use Rattle.sequence_rules.specs.Machine as machine
 use Rattle.sequence_rules.specs.Machine.{Over, Machine, State, Out, halt, with_rest, unit_more, line_more, step_more, with_locals, with_variables, end_state, rest_of}
 use Rattle.sequence_rules.specs.Steady.{Goes}
-use Rattle.sequence_rules.specs.Calls.{Port, or_halt, memory_unit, use_now, missing, given, guarded, global, port_with, port_from, port, answered, ask, numbered, command, zero_of, if_read, low_and_high, second_half, two_units, one_unit, memory_port, memory_at, memory, ap_unit, ap_at, ap_register, dp_unit, dp_at, dp_register, pins_command, abort_at, abort, delay, clock, pins, line_bits, line_result, function_result}
-use Rattle.sequence_rules.specs.Values.{named, stored, assigned, used_now, of_unary, both, operands, result_of, strict_binary, truth_of, conjunction, disjunction, of_binary, choice, appended, chained, all_used, numbers_of, is_call, call_result, call_of, value, argument, arguments}
-use Rattle.sequence_rules.specs.Steps.{timeout_of, counted, declared, dropped, after_counted, in_order, inside, turn, turns, poll_result_at, poll_result, statement, block, condition, loop_result, repeat_result, controlled, step, steps_result, given_back, sequence_result, steps_at, sequence_at, debugged, run_of}
+use Rattle.sequence_rules.specs.Calls.{Port, or_halt, memory_unit, use_now, missing, value_or_missing, guarded_rest, global, port_with, port_from, port, counted_answer, ask, counted_number, command, zero_of, if_read, low_and_high, second_half, two_units, one_unit, memory_port, memory_at, memory, ap_unit, ap_at, ap_register, dp_unit, dp_at, dp_register, pins_command, abort_at, abort, delay, clock, pins, line_bits, line_result, function_result}
+use Rattle.sequence_rules.specs.Values.{named_value, stored_value, assigned_value, used_now, of_unary, both, operands, result_of, strict_binary, truth_of, conjunction, disjunction, of_binary, choice, appended_values, chained_values, all_used, numbers_of, is_call, call_result, call_of, value, argument, arguments}
+use Rattle.sequence_rules.specs.Steps.{timeout_of, counted_step, declared_variable, dropped_value, after_counted, in_order, inside, turn, turns, poll_result_at, poll_result, statement, block, condition, loop_result, repeat_result, control_result, step, steps_result, given_back, sequence_result, steps_at, sequence_at, debug_result, run_of}
 use Rattle.std.specs.Bool.{⊤}
 use Rattle.std.specs.Option.{option_or}
 use Rattle.target_machine.specs.declared.unit.HaltCause.{HaltCause}
@@ -121,7 +121,7 @@ module _ {V W : Type 0} (Val : V → W → Type 0) where
   binds_new : (bs : List (Binding V)) (cs : List (Binding W)) (name : List ℕ) (v : V) (w : W) → Binds Val bs cs → Val v w → Binds Val (with_new bs name v) (with_new cs name w)
   binds_new bs cs name v w h a = rw (has_in_of bs cs name h) (one (has_in cs name))
     where
-      one : (p : Bool) → Binds Val (cond p bs (bs ++ bound name v ∷ [])) (cond p cs (cs ++ bound name w ∷ []))
+      one : (p : Bool) → Binds Val (cond p bs (bs ++ bound_variable name v ∷ [])) (cond p cs (cs ++ bound_variable name w ∷ []))
       one true = h
       one false = binds_append bs cs name v w h a
 
@@ -222,8 +222,8 @@ module _ {V W T U : Type 0} (m : Machine V T) (d : Machine W U) (Val : T → V �
   unfolding missing
   missing_of S x y s r al a = missing_at S x y s r m.is_watchful d.is_watchful h.careless (lost_at s r al) al a
 
-  given_of : {A B : Type 0} (S : T → A → B → Type 0) (x : A) (y : B) (o : Option A) (p : Option B) (s : State V T) (r : State W U) → Sim s r → S s.rest x y → Both (S s.rest) o p → Comes S (given m x o s) (given d y p r)
-  unfolding given
+  given_of : {A B : Type 0} (S : T → A → B → Type 0) (x : A) (y : B) (o : Option A) (p : Option B) (s : State V T) (r : State W U) → Sim s r → S s.rest x y → Both (S s.rest) o p → Comes S (value_or_missing m x o s) (value_or_missing d y p r)
+  unfolding value_or_missing
   given_of S x y None None s r al a k = missing_of S x y s r al a
   given_of S x y None (Some q) s r al a k = absurd k
   given_of S x y (Some o) None s r al a k = absurd k
@@ -231,7 +231,7 @@ module _ {V W T U : Type 0} (m : Machine V T) (d : Machine W U) (Val : T → V �
 
   global_of : (name : List ℕ) (s : State V T) (r : State W U) → Sim s r → Comes Equal (global m name s) (global d name r)
   unfolding global
-  global_of name s r al = match_then Val Equal (given m (m.number 0) (value_named s.globals name) s) (given d (d.number 0) (value_named r.globals name) r) _ _
+  global_of name s r al = match_then Val Equal (value_or_missing m (m.number 0) (value_named s.globals name) s) (value_or_missing d (d.number 0) (value_named r.globals name) r) _ _
       (given_of Val _ _ (value_named s.globals name) (value_named r.globals name) s r al (h.number s.rest 0) (value_in_of (Val s.rest) _ _ name al.globals))
       (λ x. g.goes_use m P h.steady x.0 x.1) (λ x y al2 a. use_of x.0 y.0 x.1 y.1 al2 a)
 
@@ -252,8 +252,8 @@ module _ {V W T U : Type 0} (m : Machine V T) (d : Machine W U) (Val : T → V �
   call_ended S s r e t2 machine.Unanswered u2 al p k = subst (λ n. D (Some e) t2 (n + 1) machine.Unanswered u2) (sym al.units) k
   call_ended S s r e t2 machine.Lost u2 al p k = subst (λ n. D (Some e) t2 (n + 1) machine.Lost u2) (sym al.units) k
 
-  answered_of : (x : Result (V × T) (Over × T)) (y : Result (W × U) (Over × U)) (s : State V T) (r : State W U) → Sim s r → P s.rest (rest_of x) → CallMatches R D Val (s.units + 1) x y → Comes Val (answered m x s) (answered d y r)
-  unfolding answered
+  answered_of : (x : Result (V × T) (Over × T)) (y : Result (W × U) (Over × U)) (s : State V T) (r : State W U) → Sim s r → P s.rest (rest_of x) → CallMatches R D Val (s.units + 1) x y → Comes Val (counted_answer m x s) (counted_answer d y r)
+  unfolding counted_answer
   answered_of (Ok x) (Ok y) s r al p k = (record { globals = binds_keep _ s.rest x.1 y.1 _ _ p k.0 al.globals; locals = binds_keep _ s.rest x.1 y.1 _ _ p k.0 al.locals; units = ap (λ n. n + 1) al.units; lines = al.lines; steps = al.steps; rest = k.0 }, k.1)
   answered_of (Err e) (Ok y) s r al p k = absurd k
   answered_of (Ok x) (Err y) s r al p k = subst (λ n. EndsAlone D x.1 (n + 1) y.0 y.1) (sym al.units) k
@@ -262,13 +262,13 @@ module _ {V W T U : Type 0} (m : Machine V T) (d : Machine W U) (Val : T → V �
   ask_of : (u : AccessUnit) (forgive : Bool) (s : State V T) (r : State W U) → Sim s r → Comes Val (ask m u forgive s) (ask d u forgive r)
   unfolding ask
   ask_of u forgive s r al =
-      let x : Out V T V = answered m (m.asked u forgive s.rest) s in
+      let x : Out V T V = counted_answer m (m.asked u forgive s.rest) s in
       let y : Out V T V = halt AccessLimit s in
       subst (λ (k : ℕ). Comes Val (cond (nat_lt k 1000000) x y) (ask d u forgive r)) al.units
       (match_if Val (nat_lt r.units 1000000) x y _ _ (answered_of _ _ s r al (h.steady.asked u forgive s.rest) (h.asked s.units s.rest r.rest u forgive al.rest)) (refl, al))
 
-  numbered_of : (x : Result (ℕ × T) (Over × T)) (y : Result (ℕ × U) (Over × U)) (s : State V T) (r : State W U) → Sim s r → P s.rest (rest_of x) → CallMatches R D Equal (s.units + 1) x y → Comes Val (numbered m x s) (numbered d y r)
-  unfolding numbered
+  numbered_of : (x : Result (ℕ × T) (Over × T)) (y : Result (ℕ × U) (Over × U)) (s : State V T) (r : State W U) → Sim s r → P s.rest (rest_of x) → CallMatches R D Equal (s.units + 1) x y → Comes Val (counted_number m x s) (counted_number d y r)
+  unfolding counted_number
   numbered_of (Ok x) (Ok y) s r al p k = number_of x.0 y.0 (unit_more s x.1) (unit_more r y.1) k.1 (record { globals = binds_keep _ s.rest x.1 y.1 _ _ p k.0 al.globals; locals = binds_keep _ s.rest x.1 y.1 _ _ p k.0 al.locals; units = ap (λ n. n + 1) al.units; lines = al.lines; steps = al.steps; rest = k.0 })
   numbered_of (Err e) (Ok y) s r al p k = absurd k
   numbered_of (Ok x) (Err y) s r al p k = subst (λ n. EndsAlone D x.1 (n + 1) y.0 y.1) (sym al.units) k
@@ -277,7 +277,7 @@ module _ {V W T U : Type 0} (m : Machine V T) (d : Machine W U) (Val : T → V �
   command_of : (c : ProbeCall) (s : State V T) (r : State W U) → Sim s r → Comes Val (command m c s) (command d c r)
   unfolding command
   command_of c s r al =
-      let x : Out V T V = numbered m (m.commanded c s.rest) s in
+      let x : Out V T V = counted_number m (m.commanded c s.rest) s in
       let y : Out V T V = halt AccessLimit s in
       subst (λ (k : ℕ). Comes Val (cond (nat_lt k 1000000) x y) (command d c r)) al.units
       (match_if Val (nat_lt r.units 1000000) x y _ _ (numbered_of _ _ s r al (h.steady.commanded c s.rest) (h.commanded s.units s.rest r.rest c al.rest)) (refl, al))
@@ -437,27 +437,27 @@ module _ {V W T U : Type 0} (m : Machine V T) (d : Machine W U) (Val : T → V �
   guarded_at S s r x y false true false e k go c = dead_on S s x machine.Lost r go (k refl)
   guarded_at S s r x y false false ok e k go c = c
 
-  guarded_of : {A B : Type 0} (S : T → A → B → Type 0) (ok : Bool) (f : State V T → Out V T A) (k : State W U → Out W U B) (s : State V T) (r : State W U) → Sim s r → Goes P s (f s) → Comes S (f s) (k r) → Comes S (guarded m ok f s) (guarded d ok k r)
-  unfolding guarded
+  guarded_of : {A B : Type 0} (S : T → A → B → Type 0) (ok : Bool) (f : State V T → Out V T A) (k : State W U → Out W U B) (s : State V T) (r : State W U) → Sim s r → Goes P s (f s) → Comes S (f s) (k r) → Comes S (guarded_rest m ok f s) (guarded_rest d ok k r)
+  unfolding guarded_rest
   guarded_of S ok f k s r al go c = guarded_at S s r (f s) (k r) m.is_watchful d.is_watchful ok h.careless (lost_at s r al) go c
 
   is_visible_of : (name : List ℕ) (s : State V T) (r : State W U) → Sim s r → is_visible name s ≡ is_visible name r
   is_visible_of name s r al = rw (has_in_of (Val s.rest) s.locals r.locals name al.locals, has_in_of (Val s.rest) s.globals r.globals name al.globals) refl
 
-  stored_of : (name : Name) (v : V) (w : W) (s : State V T) (r : State W U) → Sim s r → Val s.rest v w → Comes Val (stored m name v s) (stored d name w r)
-  unfolding stored
+  stored_of : (name : Name) (v : V) (w : W) (s : State V T) (r : State W U) → Sim s r → Val s.rest v w → Comes Val (stored_value m name v s) (stored_value d name w r)
+  unfolding stored_value
   stored_of name v w s r al a =
       rw (is_visible_of name.text s r al) (guarded_of Val (is_visible name.text r) (λ q. Ok (v, set_visible name.text v q)) (λ q. Ok (w, set_visible name.text w q)) s r al
       (record { so = rw (g.stored_rest m P h.steady name.text v s) (h.steady.same s.rest) })
       (set_visible_of name.text v w s r al a, subst (λ t. Val t v w) (sym (g.stored_rest m P h.steady name.text v s)) a))
 
-  named_of : (name : Name) (s : State V T) (r : State W U) → Sim s r → Comes Val (named m name s) (named d name r)
-  unfolding named
+  named_of : (name : Name) (s : State V T) (r : State W U) → Sim s r → Comes Val (named_value m name s) (named_value d name r)
+  unfolding named_value
   named_of name s r al = given_of Val _ _ (visible name.text s) (visible name.text r) s r al (h.number s.rest 0)
       (both_or (Val s.rest) _ _ _ _ (newest_in_of (Val s.rest) _ _ name.text al.locals) (value_in_of (Val s.rest) _ _ name.text al.globals))
 
-  assigned_of : (name : Name) (out : Out V T V) (q : Out W U W) → Comes Val out q → Comes Val (assigned m name out) (assigned d name q)
-  unfolding assigned
+  assigned_of : (name : Name) (out : Out V T V) (q : Out W U W) → Comes Val out q → Comes Val (assigned_value m name out) (assigned_value d name q)
+  unfolding assigned_value
   assigned_of name out q k = match_then Val Val out q _ _ k (λ x. g.goes_stored m P h.steady name x.0 x.1) (λ x y al a. stored_of name x.0 y.0 x.1 y.1 al a)
 
   used_now_of : (out : Out V T V) (q : Out W U W) → Comes Val out q → Comes Equal (used_now m out) (used_now d q)
@@ -528,8 +528,8 @@ module _ {V W T U : Type 0} (m : Machine V T) (d : Machine W U) (Val : T → V �
       (λ x. g.goes_cond m P h.steady x.1 (nat_eq x.0 0) _ _ (go2 x.1) (go x.1))
       (λ x y al e. rw e (match_if Val (nat_eq x.0 0) _ _ _ _ (fol2 x.1 y.1 al) (fol x.1 y.1 al)))
 
-  appended_of : (got : List V) (got2 : List W) (s : State V T) (out : Out V T V) (q : Out W U W) → Vals s.rest got got2 → Goes P s out → Comes Val out q → Comes Vals (appended m got out) (appended d got2 q)
-  unfolding appended
+  appended_of : (got : List V) (got2 : List W) (s : State V T) (out : Out V T V) (q : Out W U W) → Vals s.rest got got2 → Goes P s out → Comes Val out q → Comes Vals (appended_values m got out) (appended_values d got2 q)
+  unfolding appended_values
   appended_of got got2 s out q a go c = match_bind Val Vals s out q _ _ c go (λ x. g.goes_ok m P h.steady x.1 _)
       (λ x y al p b. (al, vals_snoc (Val x.1.rest) got got2 x.0 y.0 (vals_keep _ s.rest x.1.rest y.1.rest got got2 p al.rest a) b))
 
@@ -548,8 +548,8 @@ module _ {V W T U : Type 0} (m : Machine V T) (d : Machine W U) (Val : T → V �
   numbers_of_of out q c = match_then Vals Equal out q _ _ c (λ x. g.goes_all_used m P h.steady x.0 x.1) (λ x y al a. all_used_of x.0 y.0 x.1 y.1 al a)
 
   chained_of : (out : Out V T (List V)) (q : Out W U (List W)) (f : List V → State V T → Out V T (List V)) (k : List W → State W U → Out W U (List W)) → Comes Vals out q → ((vs : List V) → Goer (f vs))
-      → ((vs : List V) (ws : List W) (s : State V T) (r : State W U) → Sim s r → Vals s.rest vs ws → Comes Vals (f vs s) (k ws r)) → Comes Vals (chained m out f) (chained d q k)
-  unfolding chained
+      → ((vs : List V) (ws : List W) (s : State V T) (r : State W U) → Sim s r → Vals s.rest vs ws → Comes Vals (f vs s) (k ws r)) → Comes Vals (chained_values m out f) (chained_values d q k)
+  unfolding chained_values
   chained_of out q f k c go fol = match_then Vals Vals out q _ _ c (λ x. go x.0 x.1) (λ x y al a. fol x.0 y.0 x.1 y.1 al a)
 
   -- ---- steps
@@ -557,27 +557,27 @@ module _ {V W T U : Type 0} (m : Machine V T) (d : Machine W U) (Val : T → V �
   abbrev Any : {A B : Type 0} → T → A → B → Type 0
   Any t x y = ⊤
 
-  counted_of : (s : State V T) (r : State W U) → Sim s r → Comes Equal (counted m s) (counted d r)
-  unfolding counted
+  counted_of : (s : State V T) (r : State W U) → Sim s r → Comes Equal (counted_step m s) (counted_step d r)
+  unfolding counted_step
   counted_of s r al =
       let x : Out V T (Unit {0}) = Ok (tt, step_more s) in
       let y : Out V T (Unit {0}) = halt StepLimit s in
-      subst (λ (i : ℕ). Comes Equal (cond (nat_lt i 100000000) x y) (counted d r)) al.steps
+      subst (λ (i : ℕ). Comes Equal (cond (nat_lt i 100000000) x y) (counted_step d r)) al.steps
       (match_if Equal (nat_lt r.steps 100000000) x y _ _
       (record { globals = al.globals; locals = al.locals; units = al.units; lines = al.lines; steps = ap (λ i. i + 1) al.steps; rest = al.rest }, refl) (refl, al))
 
-  declared_of : (name : Name) (out : Out V T V) (q : Out W U W) → Comes Val out q → Comes Equal (declared m name out) (declared d name q)
-  unfolding declared
+  declared_of : (name : Name) (out : Out V T V) (q : Out W U W) → Comes Val out q → Comes Equal (declared_variable m name out) (declared_variable d name q)
+  unfolding declared_variable
   declared_of name out q c = match_then Val Equal out q _ _ c (λ x. record { so = h.steady.same x.1.rest })
       (λ x y al a. (record { globals = al.globals; locals = binds_append (Val x.1.rest) _ _ name.text x.0 y.0 al.locals a; units = al.units; lines = al.lines; steps = al.steps; rest = al.rest }, refl))
 
-  dropped_of : (out : Out V T V) (q : Out W U W) → Comes Val out q → Comes Equal (dropped m out) (dropped d q)
-  unfolding dropped
+  dropped_of : (out : Out V T V) (q : Out W U W) → Comes Val out q → Comes Equal (dropped_value m out) (dropped_value d q)
+  unfolding dropped_value
   dropped_of out q c = match_then Val Equal out q _ _ c (λ x. g.goes_ok m P h.steady x.1 _) (λ x y al a. (al, refl))
 
   after_counted_of : (f : State V T → Out V T (Unit {0})) (k : State W U → Out W U (Unit {0})) → Goer f → Follows Equal f k → Follows Equal (after_counted m f) (after_counted d k)
   unfolding after_counted
-  after_counted_of f k go fol s r al = match_then Equal Equal (counted m s) (counted d r) _ _ (counted_of s r al) (λ x. go x.1) (λ x y al2 e. fol x.1 y.1 al2)
+  after_counted_of f k go fol s r al = match_then Equal Equal (counted_step m s) (counted_step d r) _ _ (counted_of s r al) (λ x. go x.1) (λ x y al2 e. fol x.1 y.1 al2)
 
   in_order_of : (out : Out V T (Unit {0})) (q : Out W U (Unit {0})) (f : State V T → Out V T (Unit {0})) (k : State W U → Out W U (Unit {0})) → Comes Equal out q → Goer f → Follows Equal f k → Comes Equal (in_order m out f) (in_order d q k)
   unfolding in_order
@@ -600,7 +600,7 @@ module _ {V W T U : Type 0} (m : Machine V T) (d : Machine W U) (Val : T → V �
 
   turn_of : (test : State V T → Out V T V) (test2 : State W U → Out W U W) (f : State V T → Out V T (Unit {0})) (k : State W U → Out W U (Unit {0})) → Goer test → Follows Val test test2 → Goer f → Follows Equal f k → Follows Equal (turn m test f) (turn d test2 k)
   unfolding turn
-  turn_of test test2 f k go fol go2 fol2 s r al = match_then Equal Equal (counted m s) (counted d r) _ _ (counted_of s r al)
+  turn_of test test2 f k go fol go2 fol2 s r al = match_then Equal Equal (counted_step m s) (counted_step d r) _ _ (counted_of s r al)
       (λ c. g.goes_bind m P h.steady c.1 (used_now m (test c.1)) _ (g.goes_used_now m P h.steady (test c.1) c.1 (go c.1)) (λ x. rest_goes x.0 x.1))
       (λ c e al2 i. match_then Equal Equal (used_now m (test c.1)) (used_now d (test2 e.1)) _ _ (used_now_of _ _ (fol c.1 e.1 al2)) (λ x. rest_goes x.0 x.1)
       (λ x y al3 j. rw j (match_if Equal (nat_eq x.0 0) _ _ _ _ (al3, refl)
@@ -622,7 +622,7 @@ module _ {V W T U : Type 0} (m : Machine V T) (d : Machine W U) (Val : T → V �
 
   polled_of : (form : ℕ × ℕ) (n : ℕ) → Follows Equal (poll_result m form n) (poll_result d form n)
   unfolding poll_result
-  polled_of form n s r al = match_then Equal Equal (counted m s) (counted d r) _ _ (counted_of s r al)
+  polled_of form n s r al = match_then Equal Equal (counted_step m s) (counted_step d r) _ _ (counted_of s r al)
       (λ x. g.goes_bind m P h.steady x.1 (global m (codes "__dp") x.1) _ (g.goes_global m P h.steady _ x.1) (λ y. g.goes_polled_at m P h.steady form n y.0 y.1))
       (λ x y al2 e. match_then Equal Equal (global m (codes "__dp") x.1) (global d (codes "__dp") y.1) _ _ (global_of (codes "__dp") x.1 y.1 al2) (λ z. g.goes_polled_at m P h.steady form n z.0 z.1)
       (λ z w al3 e2. rw e2 (polled_at_of form n z.0 z.1 w.1 al3)))
@@ -694,12 +694,12 @@ module _ {V W T U : Type 0} (m : Machine V T) (d : Machine W U) (Val : T → V �
       repeated_of : (o : Option Tree) (timeout : Option ℕ) (steps : CodeSteps) (f : State V T → Out V T (Unit {0})) (k : State W U → Out W U (Unit {0})) → Goer f → Follows Equal f k → Follows Equal (repeat_result m turn_us seq o timeout steps f) (repeat_result d turn_us seq2 o timeout steps k)
       unfolding repeat_result
       repeated_of None timeout steps f k go fol s r al = inside_of f k fol s r al
-      repeated_of (Some e) timeout steps f k go fol s r al = match_then Equal Equal (given m 0 (timeout_of timeout) s) (given d 0 (timeout_of timeout) r) _ _ (given_of Equal 0 0 (timeout_of timeout) (timeout_of timeout) s r al refl (both_same s.rest (timeout_of timeout)))
+      repeated_of (Some e) timeout steps f k go fol s r al = match_then Equal Equal (value_or_missing m 0 (timeout_of timeout) s) (value_or_missing d 0 (timeout_of timeout) r) _ _ (given_of Equal 0 0 (timeout_of timeout) (timeout_of timeout) s r al refl (both_same s.rest (timeout_of timeout)))
           (λ x. g.goes_looped m P h.steady seq gs turn_us (poll_of e steps) e _ f x.1 go)
           (λ x y al2 i. rw i (looped_of (poll_of e steps) e _ f k go fol x.1 y.1 al2))
 
-      controlled_of : (o o2 : Option Tree) (timeout : Option ℕ) (steps : CodeSteps) (f : State V T → Out V T (Unit {0})) (k : State W U → Out W U (Unit {0})) → Goer f → Follows Equal f k → Follows Equal (controlled m turn_us seq o o2 timeout steps f) (controlled d turn_us seq2 o o2 timeout steps k)
-      unfolding controlled
+      controlled_of : (o o2 : Option Tree) (timeout : Option ℕ) (steps : CodeSteps) (f : State V T → Out V T (Unit {0})) (k : State W U → Out W U (Unit {0})) → Goer f → Follows Equal f k → Follows Equal (control_result m turn_us seq o o2 timeout steps f) (control_result d turn_us seq2 o o2 timeout steps k)
+      unfolding control_result
       controlled_of o o2 timeout steps f k go fol s r al = match_then Equal Equal (condition m turn_us seq o s) (condition d turn_us seq2 o r) _ _ (condition_of o s r al)
           (λ x. g.goes_cond m P h.steady x.1 x.0 _ _ (g.goes_repeated m P h.steady seq gs turn_us o2 timeout steps f x.1 go) (g.goes_ok m P h.steady x.1 tt))
           (λ x y al2 i. rw i (match_if Equal x.0 _ _ _ _ (repeated_of o2 timeout steps f k go fol x.1 y.1 al2) (al2, refl)))
@@ -761,21 +761,21 @@ module _ {V W T U : Type 0} (m : Machine V T) (d : Machine W U) (Val : T → V �
         (λ x. g.goes_done m P h.steady _ (λ n y. g.goes_sequence m P h.steady turn_us set i n y) turn_us x.0 x.1)
         (λ x y al3 e. rw e (done_of (λ n z. sequence_at m turn_us set i n z) (λ n z. sequence_at d turn_us set i n z) (λ n z. g.goes_sequence m P h.steady turn_us set i n z) (λ n. sequence_of i n) turn_us x.0 x.1 y.1 al3))) s r al
 
-    pub debugged_of : (code : List StmtTree) → Follows Equal (debugged m turn_us set code) (debugged d turn_us set code)
-    unfolding debugged
+    pub debugged_of : (code : List StmtTree) → Follows Equal (debug_result m turn_us set code) (debug_result d turn_us set code)
+    unfolding debug_result
     debugged_of [] s r al = (al, refl)
     debugged_of (t.Empty at ∷ code) s r al = debugged_of code s r al
     debugged_of (t.Declare name e ∷ code) s r al = match_then Val Equal (value m (λ n q. sequence_at m turn_us set 0 n q) e s) (value d (λ n q. sequence_at d turn_us set 0 n q) e r) _ _
         (value_of (λ n q. sequence_at m turn_us set 0 n q) (λ n q. sequence_at d turn_us set 0 n q) (λ n q. g.goes_sequence m P h.steady turn_us set 0 n q) (λ n. sequence_of 0 n) e s r al)
-        (λ x. g.goes_bind m P h.steady x.1 (stored m name x.0 x.1) _ (g.goes_stored m P h.steady name x.0 x.1) (λ y. g.goes_debugged m P h.steady turn_us set code y.1))
-        (λ x y al2 a. match_then Val Equal (stored m name x.0 x.1) (stored d name y.0 y.1) _ _ (stored_of name x.0 y.0 x.1 y.1 al2 a) (λ z. g.goes_debugged m P h.steady turn_us set code z.1)
+        (λ x. g.goes_bind m P h.steady x.1 (stored_value m name x.0 x.1) _ (g.goes_stored m P h.steady name x.0 x.1) (λ y. g.goes_debugged m P h.steady turn_us set code y.1))
+        (λ x y al2 a. match_then Val Equal (stored_value m name x.0 x.1) (stored_value d name y.0 y.1) _ _ (stored_of name x.0 y.0 x.1 y.1 al2 a) (λ z. g.goes_debugged m P h.steady turn_us set code z.1)
         (λ z w al3 b. debugged_of code z.1 w.1 al3))
     debugged_of (t.Plain at e ∷ code) s r al = debugged_of code s r al
 
     -- a whole run
     pub run_of_of : (start : List ℕ) → Follows Equal (run_of m turn_us set start) (run_of d turn_us set start)
     unfolding run_of
-    run_of_of start s r al = match_then Equal Equal (debugged m turn_us set set.debugvars s) (debugged d turn_us set set.debugvars r) _ _ (debugged_of set.debugvars s r al)
+    run_of_of start s r al = match_then Equal Equal (debug_result m turn_us set set.debugvars s) (debug_result d turn_us set set.debugvars r) _ _ (debugged_of set.debugvars s r al)
         (λ x. g.goes_bind m P h.steady x.1 (steps_at m turn_us set start x.1) _ (g.goes_steps_at m P h.steady turn_us set start x.1) (λ y. g.goes_done m P h.steady _ (λ n p. g.goes_sequence m P h.steady turn_us set 31 n p) turn_us y.0 y.1))
         (λ x y al2 e. match_then Equal Equal (steps_at m turn_us set start x.1) (steps_at d turn_us set start y.1) _ _ (steps_at_of start x.1 y.1 al2)
         (λ z. g.goes_done m P h.steady _ (λ n p. g.goes_sequence m P h.steady turn_us set 31 n p) turn_us z.0 z.1)

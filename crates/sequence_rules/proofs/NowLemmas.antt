@@ -6,12 +6,12 @@ use Rattle.sequence_rules.specs.declared.bindings.Binding.{Binding}
 use Rattle.sequence_rules.specs.Direct.{Now, direct}
 use Rattle.sequence_rules.specs.Machine.{State, Out}
 use Rattle.sequence_rules.specs.Variables.{value_named}
-use Rattle.sequence_rules.specs.Calls.{use_now, missing, given, global, port_with, port_from, port}
+use Rattle.sequence_rules.specs.Calls.{use_now, missing, value_or_missing, global, port_with, port_from, port}
 use Rattle.sequence_rules.specs.Steps.{steps_at}
 use Rattle.sequence_rules.specs.Values.{all_used, numbers_of}
 
-pub given_is : (o : Option ℕ) (s : State ℕ Now) → (given (direct false) 0 o s >>= λ v. use_now (direct false) v.0 v.1) ≡ Ok (unwrap_or o 0, s)
-unfolding given missing use_now direct
+pub given_is : (o : Option ℕ) (s : State ℕ Now) → (value_or_missing (direct false) 0 o s >>= λ v. use_now (direct false) v.0 v.1) ≡ Ok (unwrap_or o 0, s)
+unfolding value_or_missing missing use_now direct
 given_is None s = refl
 given_is (Some n) s = refl
 
@@ -42,8 +42,8 @@ unfolding numbers_of direct
 numbers_as (Ok x) = all_as x.0 x.1
 numbers_as (Err e) = refl
 
-given_steps : (o : Option CodeSteps) (s : State ℕ Now) → given (direct false) NoSteps o s ≡ Ok (unwrap_or o NoSteps, s)
-unfolding given missing direct
+given_steps : (o : Option CodeSteps) (s : State ℕ Now) → value_or_missing (direct false) NoSteps o s ≡ Ok (unwrap_or o NoSteps, s)
+unfolding value_or_missing missing direct
 given_steps None s = refl
 given_steps (Some steps) s = refl
 

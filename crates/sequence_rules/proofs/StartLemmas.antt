@@ -5,7 +5,7 @@ use Rattle.expr_grammar.specs.Tree as t
 use Rattle.expr_grammar.specs.Tree.{StmtTree, stmt_tree, code_trees}
 use Rattle.expr_grammar.specs.declared.code.Stmt as statement
 use Rattle.target_calls.specs.World.{start_world}
-use Rattle.function_table.specs.Variables.{predefined}
+use Rattle.function_table.specs.Variables.{names_of_predefined}
 use Rattle.sequence_trees.specs.Trees.{SetTrees}
 use Rattle.target_machine.specs.State.{TargetState}
 use Rattle.target_machine.specs.declared.unit.Variable.{Variable}
@@ -14,7 +14,7 @@ use Rattle.sequence_rules.specs.Direct.{Now, now_at, direct}
 use Rattle.sequence_rules.specs.Machine.{State}
 use Rattle.sequence_rules.specs.Runs.{as_values, variables_of}
 use Rattle.sequence_rules.specs.Steps.{declared_names, start_state}
-use Rattle.sequence_rules.specs.Variables.{bound, has_in, with_new, with_all_new}
+use Rattle.sequence_rules.specs.Variables.{bound_variable, has_in, with_new, with_all_new}
 
 -- ---- the predefined variables have names of their own
 
@@ -29,7 +29,7 @@ has_is [] (suc i) n = refl
 has_is (v ∷ vs) zero n = refl
 has_is (v ∷ vs) (suc i) n = ap (λ b. cond (bytes_eq n v.name) true b) (has_is vs i n)
 
-own_name : (i : ℕ) → i < 7 → has (take i predefined) (get_or predefined i []) ≡ false
+own_name : (i : ℕ) → i < 7 → has (take i names_of_predefined) (get_or names_of_predefined i []) ≡ false
 unfolding has
 own_name zero h = refl
 own_name (suc zero) h = refl
@@ -40,19 +40,19 @@ own_name (suc (suc (suc (suc (suc zero))))) h = refl
 own_name (suc (suc (suc (suc (suc (suc zero)))))) h = refl
 own_name (suc (suc (suc (suc (suc (suc (suc i))))))) h = absurd (omega arith)
 
-pub new_name : (vs : List Variable) (i : ℕ) (d : Variable) → map (λ v. v.name) vs ≡ predefined → i < length vs → has_in (variables_of (take i vs)) (get_or vs i d).name ≡ false
+pub new_name : (vs : List Variable) (i : ℕ) (d : Variable) → map (λ v. v.name) vs ≡ names_of_predefined → i < length vs → has_in (variables_of (take i vs)) (get_or vs i d).name ≡ false
 new_name vs i d same h =
     let seven : length vs ≡ 7 = sym (length-map vs (λ (v : Variable). v.name)) ∙ ap length same in
-    let named : (get_or vs i d).name ≡ get_or predefined i [] = sym (get_or-map (λ (v : Variable). v.name) vs i d [] h) ∙ ap (λ ns. get_or ns i []) same in
-    has_is vs i (get_or vs i d).name ∙ ap (λ ns. has (take i ns) (get_or vs i d).name) same ∙ ap (has (take i predefined)) named ∙ own_name i (omega arith)
+    let named : (get_or vs i d).name ≡ get_or names_of_predefined i [] = sym (get_or-map (λ (v : Variable). v.name) vs i d [] h) ∙ ap (λ ns. get_or ns i []) same in
+    has_is vs i (get_or vs i d).name ∙ ap (λ ns. has (take i ns) (get_or vs i d).name) same ∙ ap (has (take i names_of_predefined)) named ∙ own_name i (omega arith)
 
 -- one more of them
-pub start_more : (vs : List Variable) (i : ℕ) (d v : Variable) (old new : List (Binding ℕ)) → map (λ v. v.name) vs ≡ predefined → i < length vs → v ≡ get_or vs i d → old ≡ variables_of (take i vs) → new ≡ with_new old v.name v.value
+pub start_more : (vs : List Variable) (i : ℕ) (d v : Variable) (old new : List (Binding ℕ)) → map (λ v. v.name) vs ≡ names_of_predefined → i < length vs → v ≡ get_or vs i d → old ≡ variables_of (take i vs) → new ≡ with_new old v.name v.value
     → new ≡ variables_of (take (i + 1) vs)
 start_more vs i d v old new same h is was add =
     let fresh : has_in old v.name ≡ false = ap (λ bs. has_in bs v.name) was ∙ ap (λ x. has_in (variables_of (take i vs)) x.name) is ∙ new_name vs i d same h in
-    add ∙ ap (λ b. cond b old (old ++ bound v.name v.value ∷ [])) fresh ∙ ap (λ bs. bs ++ bound v.name v.value ∷ []) was
-    ∙ ap (λ x. variables_of (take i vs) ++ bound x.name x.value ∷ []) is
+    add ∙ ap (λ b. cond b old (old ++ bound_variable v.name v.value ∷ [])) fresh ∙ ap (λ bs. bs ++ bound_variable v.name v.value ∷ []) was
+    ∙ ap (λ x. variables_of (take i vs) ++ bound_variable x.name x.value ∷ []) is
     ∙ sym (ap variables_of (take_more vs i d h) ∙ map-append (λ (x : Variable). record { name = x.name; value = x.value }) (take i vs) (get_or vs i d ∷ []))
 
 -- ---- the debug variables

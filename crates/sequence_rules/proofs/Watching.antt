@@ -8,7 +8,7 @@ use Rattle.sequence_rules.specs.Laws.{Adds}
 use Rattle.sequence_rules.specs.Machine as machine
 use Rattle.sequence_rules.specs.Machine.{Over, State, Out}
 use Rattle.sequence_rules.specs.Runs as ending
-use Rattle.sequence_rules.specs.Runs.{Program, Outcome, outcome_at, outcome_over, outcome_of, meaning, watched}
+use Rattle.sequence_rules.specs.Runs.{Program, Outcome, outcome_at, outcome_over, outcome_of, meaning, watched_run}
 use Rattle.sequence_rules.proofs.Adding.{adds_direct}
 use Rattle.sequence_rules.proofs.Starting.{runs_alike}
 use Rattle.sequence_rules.proofs.Same.{same_binds, none_is, here_is}
@@ -80,5 +80,5 @@ watch_same (Err e) (Ok y) h = absurd h
 watch_same (Ok x) (Err y) h = alone_same x y.0 y.1 h
 watch_same (Err e) (Err y) h = ends_same e.0 e.1 y.0 y.1 h
 
-pub watched_same : (w : World) (p : Program) (written : Option (List ℕ)) → SameOrLost (meaning w p written) (watched w p written)
+pub watched_same : (w : World) (p : Program) (written : Option (List ℕ)) → SameOrLost (meaning w p written) (watched_run w p written)
 watched_same w p written = watch_same _ _ (runs_alike (direct false) (direct true) Equal Same Adds WatchEnds watch_tracks p (now_at w written) (now_at w written) refl)

@@ -10,7 +10,7 @@ use Rattle.target_machine.specs.Plain.{CallEnd, Answered, Skipped, Faulted, Smal
 use Rattle.target_machine.specs.declared.unit.HaltCause.TheVariants.{AddressTooLarge}
 use Rattle.target_machine.specs.declared.unit.Unit.{Unit as AccessUnit}
 use Rattle.sequence_rules.specs.Alike.{EndRelation, CallMatches, Matches, Equal, Tracks}
-use Rattle.sequence_rules.specs.Direct.{Now, now_at, with_call, with_line, line_after, answers, made, direct}
+use Rattle.sequence_rules.specs.Direct.{Now, now_at, with_call, with_line, line_after, answers, made_call, direct}
 use Rattle.sequence_rules.specs.Late.{Late, late_of, asks_with, used_late, asked_late, late, Later}
 use Rattle.sequence_rules.specs.Laws.{Adds, without_lines, LinesAreOnlyWritten}
 use Rattle.sequence_rules.specs.Machine as machine
@@ -51,8 +51,8 @@ call_by ask k n t x false Skipped = ((x, refl), refl)
 call_by ask k n t x false Faulted = (refl, (x, refl))
 call_by ask k n t x false Small = (refl, (x, refl))
 
-call_written : (ask : Ask) (k : ℕ) (t u : Now) → Written k t u → CallMatches Written WrittenEnds Equal (k + 1) (made ask t) (made ask u)
-unfolding made
+call_written : (ask : Ask) (k : ℕ) (t u : Now) → Written k t u → CallMatches Written WrittenEnds Equal (k + 1) (made_call ask t) (made_call ask u)
+unfolding made_call
 call_written ask k t u h = rw h.1 (call_by ask (k + 1) (next_world t.world ask) t h.0 (is_over t.world.answered) (done_now t.world ask).end)
 
 written_tracks : Tracks (direct false) (direct false) Equal Written Adds WrittenEnds

@@ -68,17 +68,17 @@ module _ {V T : Type 0} (m : Machine V T) where
   missing x s = if m.is_watchful then Err (Lost, s) else Ok (x, s)
 
   -- what is there, or this in its place
-  unfoldable pub given : {A : Type 0} → A → Option A → State V T → Out V T A
-  given x None s = missing x s
-  given x (Some y) s = Ok (y, s)
+  unfoldable pub value_or_missing : {A : Type 0} → A → Option A → State V T → Out V T A
+  value_or_missing x None s = missing x s
+  value_or_missing x (Some y) s = Ok (y, s)
 
   -- the rest is done only where this is so; else something is missing which every valid set has
-  unfoldable pub guarded : {A : Type 0} → Bool → (State V T → Out V T A) → State V T → Out V T A
-  guarded ok rest s = if m.is_watchful && not ok then Err (Lost, s) else rest s
+  unfoldable pub guarded_rest : {A : Type 0} → Bool → (State V T → Out V T A) → State V T → Out V T A
+  guarded_rest ok rest s = if m.is_watchful && not ok then Err (Lost, s) else rest s
 
   -- the number of a predefined variable, which is used
   unfoldable pub global : List ℕ → State V T → Out V T ℕ
-  global name s = given (m.number 0) (value_named s.globals name) s >>= λ v. use_now v.0 v.1
+  global name s = value_or_missing (m.number 0) (value_named s.globals name) s >>= λ v. use_now v.0 v.1
 
   -- `__dp` is used last
   unfoldable pub port_with : ℕ → ℕ → State V T → Out V T Port
@@ -95,22 +95,22 @@ module _ {V T : Type 0} (m : Machine V T) where
   -- ---- units
 
   -- the unit is counted, however it ends
-  unfoldable pub answered : Result (V × T) (Over × T) → State V T → Out V T V
-  answered (Ok x) s = Ok (x.0, unit_more s x.1)
-  answered (Err e) s = Err (e.0, unit_more s e.1)
+  unfoldable pub counted_answer : Result (V × T) (Over × T) → State V T → Out V T V
+  counted_answer (Ok x) s = Ok (x.0, unit_more s x.1)
+  counted_answer (Err e) s = Err (e.0, unit_more s e.1)
 
   -- an access as a unit, unless it would be number 1,000,001
   unfoldable pub ask : AccessUnit → Bool → State V T → Out V T V
-  ask u forgive s = if nat_lt s.units 1000000 then answered (m.asked u forgive s.rest) s else halt AccessLimit s
+  ask u forgive s = if nat_lt s.units 1000000 then counted_answer (m.asked u forgive s.rest) s else halt AccessLimit s
 
   -- the unit is counted, and its result is a number at once
-  unfoldable pub numbered : Result (ℕ × T) (Over × T) → State V T → Out V T V
-  numbered (Ok x) s = Ok (m.number x.0, unit_more s x.1)
-  numbered (Err e) s = Err (e.0, unit_more s e.1)
+  unfoldable pub counted_number : Result (ℕ × T) (Over × T) → State V T → Out V T V
+  counted_number (Ok x) s = Ok (m.number x.0, unit_more s x.1)
+  counted_number (Err e) s = Err (e.0, unit_more s e.1)
 
   -- a command of the probe as a unit, unless it would be number 1,000,001
   unfoldable pub command : ProbeCall → State V T → Out V T V
-  command c s = if nat_lt s.units 1000000 then numbered (m.commanded c s.rest) s else halt AccessLimit s
+  command c s = if nat_lt s.units 1000000 then counted_number (m.commanded c s.rest) s else halt AccessLimit s
 
   -- 0 in place of a value that is dropped
   unfoldable pub zero_of : Out V T V → Out V T V

@@ -47,8 +47,8 @@ answers ask Faulted t = Err (machine.Faulted ask.call, t)
 answers ask Small t = Err (machine.Halted AddressTooLarge, t)
 
 -- A call, made alone and at once. One that is not answered changes nothing.
-unfoldable pub made : Ask → Now → Result (ℕ × Now) (Over × Now)
-made ask t =
+unfoldable pub made_call : Ask → Now → Result (ℕ × Now) (Over × Now)
+made_call ask t =
     if is_over t.world.answered then Err (machine.Unanswered, with_call ask t.world t)
     else answers ask (done_now t.world ask).end (with_call ask (next_world t.world ask) t)
 
@@ -57,8 +57,8 @@ unfoldable pub direct : Bool → Machine ℕ Now
 direct watchful = record {
   number = λ n. n;
   used = λ n t. (n, t);
-  asked = λ u forgive t. made (unit_ask u forgive) t;
-  commanded = λ c t. made (probe_ask c) t;
+  asked = λ u forgive t. made_call (unit_ask u forgive) t;
+  commanded = λ c t. made_call (probe_ask c) t;
   confirmed = λ t. t;
   written = with_line;
   is_watchful = watchful;

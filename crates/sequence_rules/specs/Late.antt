@@ -9,7 +9,7 @@ use Rattle.target_calls.specs.declared.calls.Ask.{Ask}
 use Rattle.target_calls.specs.declared.calls.Value.{Value}
 use Rattle.target_calls.specs.declared.calls.Value.TheVariants.{Number, Pending}
 use Rattle.target_calls.specs.Asks.{unit_ask, probe_ask}
-use Rattle.target_calls.specs.NeedPoints.{Asks, Costs, asked, used, needed}
+use Rattle.target_calls.specs.NeedPoints.{Asks, Costs, asks_with_call, asks_at_use, asks_at_need}
 use Rattle.target_calls.specs.Values.{number_of, IsAsked}
 use Rattle.target_calls.specs.World.{World, results, stop, world_after, skips, small_now, is_over}
 use Rattle.sequence_rules.specs.Machine as machine
@@ -33,12 +33,12 @@ line_unless (Some u) line bytes = bytes
 module _ (cost : Costs) (w : World) where
   -- one more call is asked, with its need points
   abbrev pub asks_with : Ask → Asks → Asks
-  asks_with ask asks = asked (cost w.target asks.calls ask) ask asks
+  asks_with ask asks = asks_with_call (cost w.target asks.calls ask) ask asks
 
   -- a result that is used has come
   abbrev pub used_late : Value → Late → ℕ × Late
   used_late (Number n) t = (n, t)
-  used_late (Pending slot) t = (slice_index (results w t.asks.calls) slot.index, late_of (used slot t.asks) t.written)
+  used_late (Pending slot) t = (slice_index (results w t.asks.calls) slot.index, late_of (asks_at_use slot t.asks) t.written)
 
   -- an access has the place of its result, unless its address is too large for its AP
   abbrev pub asked_late : AccessUnit → Bool → Late → Result (Value × Late) (Over × Late)
@@ -53,7 +53,7 @@ module _ (cost : Costs) (w : World) where
 
   -- before a line is written there is a need point
   abbrev pub written_late : List ℕ → Late → Late
-  written_late line t = late_of (needed t.asks) (option_map (line_unless (stop w t.asks.calls) line) t.written)
+  written_late line t = late_of (asks_at_need t.asks) (option_map (line_unless (stop w t.asks.calls) line) t.written)
 
   -- the machine on which results come later
   unfoldable pub late : Machine Value Late
@@ -62,7 +62,7 @@ module _ (cost : Costs) (w : World) where
     used = used_late;
     asked = asked_late;
     commanded = commanded_late;
-    confirmed = λ t. late_of (needed t.asks) t.written;
+    confirmed = λ t. late_of (asks_at_need t.asks) t.written;
     written = written_late;
     is_watchful = false;
   }

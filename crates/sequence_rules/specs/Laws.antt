@@ -13,7 +13,8 @@ use Rattle.sequence_rules.specs.Direct.{Now, direct}
 use Rattle.sequence_rules.specs.Late.{Late, late, ComesTo, SameRest, StoppedBy, Grows, Later}
 use Rattle.sequence_rules.specs.Machine.{State, Out, end_state}
 use Rattle.sequence_rules.specs.Runs as ending
-use Rattle.sequence_rules.specs.Runs.{Program, Ending, Outcome, outcome_of, outcome, outcome_within, units_of, meaning, watched, late_meaning, target_at, written_before}
+use Rattle.sequence_rules.specs.Runs.{Program, Ending, Outcome, outcome_of, outcome, outcome_within, units_of, meaning, watched_run, late_meaning}
+use Rattle.sequence_rules.specs.Runs.{target_at, written_before}
 use Rattle.sequence_rules.specs.Steady.{Goes}
 use Rattle.sequence_rules.specs.Steps.{run_of}
 
@@ -103,7 +104,7 @@ LimitsCutRuns = (m : ℕ) (p : Program) (t : TargetState) (written : Option (Lis
 -- a watched run comes to what the meaning comes to, unless it is lost
 abbrev pub WatchedIsTheMeaning : Type 0
 WatchedIsTheMeaning = (w : World) (p : Program) (written : Option (List ℕ))
-    → (outcome_of (watched w p written) ≡ outcome_of (meaning w p written)) ⊎ ((outcome_of (watched w p written)).ending ≡ ending.Lost)
+    → (outcome_of (watched_run w p written) ≡ outcome_of (meaning w p written)) ⊎ ((outcome_of (watched_run w p written)).ending ≡ ending.Lost)
 
 -- ---- what was written before
 
@@ -143,8 +144,8 @@ CutsAreFronts = (p : Program) (t : TargetState) (written : Option (List ℕ)) �
 
 -- a watched run of a program that lacks nothing is not lost, and so comes to what the meaning comes to
 pub record IsNeverLost (w : World) (p : Program) (written : Option (List ℕ)) : Type 0 where
-  pub never : (outcome_of (watched w p written)).ending ≡ ending.Lost → ⊥
-  pub same : outcome_of (watched w p written) ≡ outcome_of (meaning w p written)
+  pub never : (outcome_of (watched_run w p written)).ending ≡ ending.Lost → ⊥
+  pub same : outcome_of (watched_run w p written) ≡ outcome_of (meaning w p written)
 
 -- that is so of each such program
 abbrev pub CompleteIsNeverLost : Type 0

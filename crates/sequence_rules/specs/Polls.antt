@@ -8,9 +8,9 @@ use Rattle.sequence_trees.specs.Trees as c
 use Rattle.sequence_trees.specs.Trees.{CodeSteps}
 
 -- the expression in groups of parentheses
-abbrev pub ungrouped : Tree → Tree
-ungrouped (t.Group a) = ungrouped a
-ungrouped e = e
+abbrev pub ungrouped_tree : Tree → Tree
+ungrouped_tree (t.Group a) = ungrouped_tree a
+ungrouped_tree e = e
 
 -- a literal of at most 32 bits
 abbrev pub word_of : Tree → Option ℕ
@@ -31,7 +31,7 @@ only_arg (t.MoreArgs a (t.MoreArgs other more)) = None
 -- the argument is the literal 4
 abbrev pub is_four_arg : Option ArgTree → Bool
 is_four_arg None = false
-is_four_arg (Some (t.ExprArg at e)) = is_four (ungrouped e)
+is_four_arg (Some (t.ExprArg at e)) = is_four (ungrouped_tree e)
 is_four_arg (Some (t.TextArg a)) = false
 
 -- `ReadDP(0x4)`
@@ -41,7 +41,7 @@ reads_ctrl_stat e = false
 
 -- the mask of `ReadDP(0x4) & MASK`
 abbrev pub mask_of : Tree → Option ℕ
-mask_of (t.Binary b.BitAnd a d) = if reads_ctrl_stat (ungrouped a) then word_of (ungrouped d) else None
+mask_of (t.Binary b.BitAnd a d) = if reads_ctrl_stat (ungrouped_tree a) then word_of (ungrouped_tree d) else None
 mask_of e = None
 
 -- both, where there are both
@@ -52,10 +52,10 @@ pair_of (Some mask) (Some value) = Some (mask, value)
 
 -- the mask and the value of `(ReadDP(0x4) & MASK) != VALUE`
 abbrev pub poll_form : Tree → Option (ℕ × ℕ)
-poll_form (t.Binary b.Ne a d) = pair_of (mask_of (ungrouped a)) (word_of (ungrouped d))
+poll_form (t.Binary b.Ne a d) = pair_of (mask_of (ungrouped_tree a)) (word_of (ungrouped_tree d))
 poll_form e = None
 
 -- the mask and the value of a `while` with these steps, where the control is a poll
 abbrev pub poll_of : Tree → CodeSteps → Option (ℕ × ℕ)
-poll_of e c.NoSteps = poll_form (ungrouped e)
+poll_of e c.NoSteps = poll_form (ungrouped_tree e)
 poll_of e (c.MoreSteps step more) = None

@@ -5,7 +5,7 @@ use Rattle.expr_grammar.specs.declared.code.Name.{Name}
 use Rattle.expr_grammar.specs.declared.code.BinaryOp.TheVariants as b
 use Rattle.expr_grammar.specs.Tree as t
 use Rattle.expr_grammar.specs.Tree.{Tree, ArgTree, ArgTrees, StmtTree}
-use Rattle.function_table.specs.Variables.{predefined}
+use Rattle.function_table.specs.Variables.{names_of_predefined}
 use Rattle.sequence_trees.specs.Trees as c
 use Rattle.sequence_trees.specs.Trees.{CodeStep, CodeSteps, SequenceTrees}
 use Rattle.target_machine.specs.declared.unit.HaltCause.{HaltCause}
@@ -14,8 +14,8 @@ use Rattle.target_calls.specs.World.{World}
 use Rattle.sequence_rules.specs.declared.bindings.Binding.{Binding}
 use Rattle.sequence_rules.specs.Machine.{end_state}
 use Rattle.sequence_rules.specs.Runs as ending
-use Rattle.sequence_rules.specs.Runs.{Program, Ending, Outcome, outcome_of, watched}
-use Rattle.sequence_rules.specs.Variables.{bound}
+use Rattle.sequence_rules.specs.Runs.{Program, Ending, Outcome, outcome_of, watched_run}
+use Rattle.sequence_rules.specs.Variables.{bound_variable}
 
 -- ---- code
 
@@ -78,7 +78,7 @@ program debugvars sequences = record {
   set = record { debugvars = debugvars; sequences = sequences };
   start = codes "Main";
   turn_us = 10;
-  predefined = map (λ title. bound title 0) predefined;
+  predefined = map (λ title. bound_variable title 0) names_of_predefined;
 }
 
 -- the values of variables
@@ -87,11 +87,11 @@ values bs = map (λ (x : Binding ℕ). x.value) bs
 
 -- What a program comes to: its ending, how many steps were counted, the values of its variables, and what it wrote. It asks no unit.
 pub record RunsTo (w : World) (p : Program) (how : Ending) (count : ℕ) (numbers bytes : List ℕ) : Type 0 where
-  pub ending : (outcome_of (watched w p (Some []))).ending ≡ how
-  pub steps : (end_state (watched w p (Some []))).steps ≡ count
-  pub variables : values (outcome_of (watched w p (Some []))).variables ≡ numbers
-  pub lines : (outcome_of (watched w p (Some []))).written ≡ Some bytes
-  pub calls : (outcome_of (watched w p (Some []))).calls ≡ []
+  pub ending : (outcome_of (watched_run w p (Some []))).ending ≡ how
+  pub steps : (end_state (watched_run w p (Some []))).steps ≡ count
+  pub variables : values (outcome_of (watched_run w p (Some []))).variables ≡ numbers
+  pub lines : (outcome_of (watched_run w p (Some []))).written ≡ Some bytes
+  pub calls : (outcome_of (watched_run w p (Some []))).calls ≡ []
 
 -- ---- rows
 

@@ -2,7 +2,7 @@
 use Rattle.std.specs.Prelude.{ℕ, true, false, List, [], map, take, length, Option, Some, None, Ok, Err}
 use Rattle.target_calls.specs.declared.calls.Ask.{Ask}
 use Rattle.target_calls.specs.declared.calls.Value.{Value}
-use Rattle.target_calls.specs.NeedPoints.{Asks, Costs, nothing_asked, needed, finished}
+use Rattle.target_calls.specs.NeedPoints.{Asks, Costs, nothing_asked, asks_at_need, asks_at_finish}
 use Rattle.target_calls.specs.World.{World, start_world, world_after}
 use Rattle.sequence_trees.specs.Trees.{SetTrees}
 use Rattle.target_machine.specs.State.{TargetState}
@@ -47,8 +47,8 @@ abbrev pub meaning : World → Program → Option (List ℕ) → Out ℕ Now (Un
 meaning w p written = run_on (direct false) p (now_at w written)
 
 -- the same, but over where something is missing which every valid set has
-abbrev pub watched : World → Program → Option (List ℕ) → Out ℕ Now (Unit {0})
-watched w p written = run_on (direct true) p (now_at w written)
+abbrev pub watched_run : World → Program → Option (List ℕ) → Out ℕ Now (Unit {0})
+watched_run w p written = run_on (direct true) p (now_at w written)
 
 -- the same with results that come later
 abbrev pub late_meaning : Costs → World → Program → Option (List ℕ) → Out Value Late (Unit {0})
@@ -129,7 +129,7 @@ cut m n p t written = record { target = target_at n p t; written = written_befor
 
 -- what was asked by the end of a run that is Done or Halted, with the need point of its end
 abbrev pub asks_at_end : Costs → Program → TargetState → Asks
-asks_at_end cost p t = needed (finished (end_state (late_meaning cost (start_world t None) p None)).rest.asks)
+asks_at_end cost p t = asks_at_need (asks_at_finish (end_state (late_meaning cost (start_world t None) p None)).rest.asks)
 
 -- how many need points there are in such a run
 abbrev pub needs : Costs → Program → TargetState → ℕ

@@ -10,11 +10,11 @@ use Rattle.sequence_trees.specs.Trees.{CodeStep, CodeSteps, SetTrees, steps_name
 use Rattle.target_machine.specs.declared.unit.HaltCause.TheVariants.{StepLimit, Unsupported}
 use Rattle.target_machine.specs.declared.unit.Unit.TheVariants as unit
 use Rattle.sequence_rules.specs.declared.bindings.Binding.{Binding}
-use Rattle.sequence_rules.specs.Calls.{missing, given, global, ask}
+use Rattle.sequence_rules.specs.Calls.{missing, value_or_missing, global, ask}
 use Rattle.sequence_rules.specs.Machine.{Machine, State, Out, halt, step_more, with_locals, with_variables}
 use Rattle.sequence_rules.specs.Polls.{poll_of}
-use Rattle.sequence_rules.specs.Values.{value, used_now, stored}
-use Rattle.sequence_rules.specs.Variables.{bound, value_named, set_in, with_all_new}
+use Rattle.sequence_rules.specs.Values.{value, used_now, stored_value}
+use Rattle.sequence_rules.specs.Variables.{bound_variable, value_named, set_in, with_all_new}
 
 -- ---- loops
 
@@ -37,20 +37,20 @@ turn_count turn_us timeout = max 1 (timeout / turn_us)
 
 module _ {V T : Type 0} (m : Machine V T) where
   -- a step is counted before it is run, unless it would be number 100,000,001
-  unfoldable pub counted : State V T → Out V T (Unit {0})
-  counted s = if nat_lt s.steps 100000000 then Ok (tt, step_more s) else halt StepLimit s
+  unfoldable pub counted_step : State V T → Out V T (Unit {0})
+  counted_step s = if nat_lt s.steps 100000000 then Ok (tt, step_more s) else halt StepLimit s
 
   -- a step is counted, and then run
   unfoldable pub after_counted : (State V T → Out V T (Unit {0})) → State V T → Out V T (Unit {0})
-  after_counted rest s = counted s >>= λ k. rest k.1
+  after_counted rest s = counted_step s >>= λ k. rest k.1
 
   -- one more variable of the running sequence, with a value that is not used
-  unfoldable pub declared : Name → Out V T V → Out V T (Unit {0})
-  declared name out = out >>= λ x. Ok (tt, with_locals x.1 (x.1.locals ++ bound name.text x.0 ∷ []))
+  unfoldable pub declared_variable : Name → Out V T V → Out V T (Unit {0})
+  declared_variable name out = out >>= λ x. Ok (tt, with_locals x.1 (x.1.locals ++ bound_variable name.text x.0 ∷ []))
 
   -- a value that is dropped without a use
-  unfoldable pub dropped : Out V T V → Out V T (Unit {0})
-  dropped out = out >>= λ x. Ok (tt, x.1)
+  unfoldable pub dropped_value : Out V T V → Out V T (Unit {0})
+  dropped_value out = out >>= λ x. Ok (tt, x.1)
 
   -- one thing, and then the rest
   unfoldable pub in_order : Out V T (Unit {0}) → (State V T → Out V T (Unit {0})) → Out V T (Unit {0})
@@ -62,7 +62,7 @@ module _ {V T : Type 0} (m : Machine V T) where
 
   -- one turn, counted before its condition; whether another may follow
   unfoldable pub turn : (State V T → Out V T V) → (State V T → Out V T (Unit {0})) → State V T → Out V T Bool
-  turn test body s = counted s >>= λ k. used_now m (test k.1) >>= λ x. if nat_eq x.0 0 then Ok (false, x.1) else (body x.1 >>= λ y. Ok (true, y.1))
+  turn test body s = counted_step s >>= λ k. used_now m (test k.1) >>= λ x. if nat_eq x.0 0 then Ok (false, x.1) else (body x.1 >>= λ y. Ok (true, y.1))
 
   -- at most so many turns; after the last one the run goes on
   unfoldable pub turns : (State V T → Out V T V) → (State V T → Out V T (Unit {0})) → ℕ → State V T → Out V T (Unit {0})
@@ -71,20 +71,20 @@ module _ {V T : Type 0} (m : Machine V T) where
 
   -- a poll is one unit, whose result is dropped
   unfoldable pub poll_result_at : ℕ × ℕ → ℕ → ℕ → State V T → Out V T (Unit {0})
-  poll_result_at form turns dp s = if nat_eq dp 0 then dropped (ask m (unit.Poll form.0 form.1 turns) false s) else halt Unsupported s
+  poll_result_at form turns dp s = if nat_eq dp 0 then dropped_value (ask m (unit.Poll form.0 form.1 turns) false s) else halt Unsupported s
 
   -- a poll is counted as one step, and uses `__dp`
   unfoldable pub poll_result : ℕ × ℕ → ℕ → State V T → Out V T (Unit {0})
-  poll_result form turns s = counted s >>= λ k. global m (codes "__dp") k.1 >>= λ d. poll_result_at form turns d.0 d.1
+  poll_result form turns s = counted_step s >>= λ k. global m (codes "__dp") k.1 >>= λ d. poll_result_at form turns d.0 d.1
 
 -- ---- steps
 
 module _ {V T : Type 0} (m : Machine V T) (turn_us : ℕ) (sequence : List ℕ → State V T → Out V T (Unit {0})) where
   -- a statement is a step
   unfoldable pub statement : StmtTree → State V T → Out V T (Unit {0})
-  statement (t.Empty at) s = counted m s
-  statement (t.Declare name e) s = after_counted m (λ r. declared m name (value m sequence e r)) s
-  statement (t.Plain at e) s = after_counted m (λ r. dropped m (value m sequence e r)) s
+  statement (t.Empty at) s = counted_step m s
+  statement (t.Declare name e) s = after_counted m (λ r. declared_variable m name (value m sequence e r)) s
+  statement (t.Plain at e) s = after_counted m (λ r. dropped_value m (value m sequence e r)) s
 
   -- statements in order
   unfoldable pub block : List StmtTree → State V T → Out V T (Unit {0})
@@ -104,17 +104,17 @@ module _ {V T : Type 0} (m : Machine V T) (turn_us : ℕ) (sequence : List ℕ �
   -- the steps of a control once, or as its `while` and its timeout say
   unfoldable pub repeat_result : Option Tree → Option ℕ → CodeSteps → (State V T → Out V T (Unit {0})) → State V T → Out V T (Unit {0})
   repeat_result None timeout steps body s = inside m body s
-  repeat_result (Some e) timeout steps body s = given m 0 (timeout_of timeout) s >>= λ w. loop_result (poll_of e steps) e (turn_count turn_us w.0) body w.1
+  repeat_result (Some e) timeout steps body s = value_or_missing m 0 (timeout_of timeout) s >>= λ w. loop_result (poll_of e steps) e (turn_count turn_us w.0) body w.1
 
   -- a control is skipped where its `if` is 0
-  unfoldable pub controlled : Option Tree → Option Tree → Option ℕ → CodeSteps → (State V T → Out V T (Unit {0})) → State V T → Out V T (Unit {0})
-  controlled cond repeat timeout steps body s = condition cond s >>= λ x. if x.0 then repeat_result repeat timeout steps body x.1 else Ok (tt, x.1)
+  unfoldable pub control_result : Option Tree → Option Tree → Option ℕ → CodeSteps → (State V T → Out V T (Unit {0})) → State V T → Out V T (Unit {0})
+  control_result cond repeat timeout steps body s = condition cond s >>= λ x. if x.0 then repeat_result repeat timeout steps body x.1 else Ok (tt, x.1)
 
   unfoldable mutual
     -- a step is run
     pub step : CodeStep → State V T → Out V T (Unit {0})
     step (c.Block code) r = block code r
-    step (c.Control cond repeat timeout steps) r = controlled cond repeat timeout steps (λ q. steps_result steps q) r
+    step (c.Control cond repeat timeout steps) r = control_result cond repeat timeout steps (λ q. steps_result steps q) r
 
     -- steps are run in order
     pub steps_result : CodeSteps → State V T → Out V T (Unit {0})
@@ -149,7 +149,7 @@ declared_names (t.Plain at e ∷ code) = declared_names code
 module _ {V T : Type 0} (m : Machine V T) (turn_us : ℕ) (set : SetTrees) where
   -- the steps of a sequence, none where the set does not have it
   unfoldable pub steps_at : List ℕ → State V T → Out V T CodeSteps
-  steps_at name s = given m c.NoSteps (steps_named name set.sequences) s
+  steps_at name s = value_or_missing m c.NoSteps (steps_named name set.sequences) s
 
   -- the sequence of the name, from which calls lead at most so deep
   unfoldable pub sequence_at : ℕ → List ℕ → State V T → Out V T (Unit {0})
@@ -157,15 +157,15 @@ module _ {V T : Type 0} (m : Machine V T) (turn_us : ℕ) (set : SetTrees) where
   sequence_at (suc d) name s = sequence_result m (λ r. steps_at name r >>= λ x. steps_result m turn_us (λ n q. sequence_at d n q) x.0 x.1) s
 
   -- the debug variables get their values, in order; no call is among these, and they are no steps
-  unfoldable pub debugged : List StmtTree → State V T → Out V T (Unit {0})
-  debugged [] s = Ok (tt, s)
-  debugged (t.Empty at ∷ code) s = debugged code s
-  debugged (t.Declare name e ∷ code) s = value m (λ n q. sequence_at 0 n q) e s >>= λ x. stored m name x.0 x.1 >>= λ y. debugged code y.1
-  debugged (t.Plain at e ∷ code) s = debugged code s
+  unfoldable pub debug_result : List StmtTree → State V T → Out V T (Unit {0})
+  debug_result [] s = Ok (tt, s)
+  debug_result (t.Empty at ∷ code) s = debug_result code s
+  debug_result (t.Declare name e ∷ code) s = value m (λ n q. sequence_at 0 n q) e s >>= λ x. stored_value m name x.0 x.1 >>= λ y. debug_result code y.1
+  debug_result (t.Plain at e ∷ code) s = debug_result code s
 
   -- a run: the debug variables, and then the sequence of the name, in a chain of at most 32 sequences
   unfoldable pub run_of : List ℕ → State V T → Out V T (Unit {0})
-  run_of start s = debugged set.debugvars s >>= λ x. steps_at start x.1 >>= λ y. steps_result m turn_us (λ n q. sequence_at 31 n q) y.0 y.1
+  run_of start s = debug_result set.debugvars s >>= λ x. steps_at start x.1 >>= λ y. steps_result m turn_us (λ n q. sequence_at 31 n q) y.0 y.1
 
   -- the state in which a run begins: the predefined variables, and the debug variables at 0
   abbrev pub start_state : List (Binding V) → T → State V T

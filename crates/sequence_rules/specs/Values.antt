@@ -15,7 +15,7 @@ use Rattle.function_table.specs.declared.function.ParameterKind.TheVariants as k
 use Rattle.function_table.specs.Functions.{has_more, parameters_of, kind_at}
 use Rattle.function_table.specs.Lookup.{function_named}
 use Rattle.target_machine.specs.declared.unit.HaltCause.TheVariants.{DivideByZero}
-use Rattle.sequence_rules.specs.Calls.{use_now, missing, given, guarded, function_result}
+use Rattle.sequence_rules.specs.Calls.{use_now, missing, value_or_missing, guarded_rest, function_result}
 use Rattle.sequence_rules.specs.Machine.{Machine, State, Out, halt}
 use Rattle.sequence_rules.specs.Variables.{is_visible, visible, set_visible}
 
@@ -63,16 +63,16 @@ module _ {V T : Type 0} (m : Machine V T) where
   -- ---- names
 
   -- the value of a variable, which is copied and not used
-  unfoldable pub named : Name → State V T → Out V T V
-  named name s = given m (m.number 0) (visible name.text s) s
+  unfoldable pub named_value : Name → State V T → Out V T V
+  named_value name s = value_or_missing m (m.number 0) (visible name.text s) s
 
   -- a visible variable gets a value, and the expression has it
-  unfoldable pub stored : Name → V → State V T → Out V T V
-  stored name v s = guarded m (is_visible name.text s) (λ r. Ok (v, set_visible name.text v r)) s
+  unfoldable pub stored_value : Name → V → State V T → Out V T V
+  stored_value name v s = guarded_rest m (is_visible name.text s) (λ r. Ok (v, set_visible name.text v r)) s
 
   -- the right side is evaluated, and stored without a use
-  unfoldable pub assigned : Name → Out V T V → Out V T V
-  assigned name right = right >>= λ x. stored name x.0 x.1
+  unfoldable pub assigned_value : Name → Out V T V → Out V T V
+  assigned_value name right = right >>= λ x. stored_value name x.0 x.1
 
   -- ---- operators
 
@@ -126,12 +126,12 @@ module _ {V T : Type 0} (m : Machine V T) where
   -- ---- arguments
 
   -- one more value, after those of the earlier arguments
-  unfoldable pub appended : List V → Out V T V → Out V T (List V)
-  appended got out = out >>= λ x. Ok (got ++ x.0 ∷ [], x.1)
+  unfoldable pub appended_values : List V → Out V T V → Out V T (List V)
+  appended_values got out = out >>= λ x. Ok (got ++ x.0 ∷ [], x.1)
 
   -- the next arguments, after the values of the earlier ones
-  unfoldable pub chained : Out V T (List V) → (List V → State V T → Out V T (List V)) → Out V T (List V)
-  chained first more = first >>= λ x. more x.0 x.1
+  unfoldable pub chained_values : Out V T (List V) → (List V → State V T → Out V T (List V)) → Out V T (List V)
+  chained_values first more = first >>= λ x. more x.0 x.1
 
   -- values, used one after the other
   unfoldable pub all_used : List V → State V T → Out V T (List ℕ)
@@ -154,26 +154,26 @@ module _ {V T : Type 0} (m : Machine V T) (sequence : List ℕ → State V T →
   -- all arguments are used, and then the call is done
   unfoldable pub call_of : Name → ArgTrees → Out V T (List V) → Out V T V
   call_of name args out =
-      numbers_of m out >>= λ x. guarded m (is_call (function_named name.text) args) (λ r. call_result (function_named name.text) (text_of args) x.0 r) x.1
+      numbers_of m out >>= λ x. guarded_rest m (is_call (function_named name.text) args) (λ r. call_result (function_named name.text) (text_of args) x.0 r) x.1
 
   unfoldable mutual
     -- the value of an expression, and the state after it
     pub value : Tree → State V T → Out V T V
     value (t.Number n) s = Ok (m.number n, s)
-    value (t.Named name) s = named m name s
+    value (t.Named name) s = named_value m name s
     value (t.Group a) s = value a s
     value (t.Unary op a) s = of_unary m op (value a s)
     value (t.Binary op a c) s = of_binary m op (value a s) (λ r. value c r)
     value (t.Cond c a d) s = choice m (value c s) (λ r. value a r) (λ r. value d r)
-    value (t.Assign name a) s = assigned m name (value a s)
+    value (t.Assign name a) s = assigned_value m name (value a s)
     value (t.Call name args) s = call_of name args (arguments args [] s)
 
     -- the values of the arguments so far and of this one, where it is an expression
     pub argument : ArgTree → List V → State V T → Out V T (List V)
-    argument (t.ExprArg at e) got s = appended m got (value e s)
+    argument (t.ExprArg at e) got s = appended_values m got (value e s)
     argument (t.TextArg a) got s = Ok (got, s)
 
     -- the values of the arguments so far and of these, from left to right
     pub arguments : ArgTrees → List V → State V T → Out V T (List V)
     arguments t.NoArgs got s = Ok (got, s)
-    arguments (t.MoreArgs a more) got s = chained m (argument a got s) (λ g r. arguments more g r)
+    arguments (t.MoreArgs a more) got s = chained_values m (argument a got s) (λ g r. arguments more g r)

@@ -6,8 +6,8 @@ use Rattle.sequence_rules.specs.declared.bindings.Binding.{Binding}
 use Rattle.sequence_rules.specs.Machine.{State, with_locals, with_variables}
 
 -- a variable
-abbrev pub bound : {V : Type 0} → List ℕ → V → Binding V
-bound name v = record { name = name; value = v }
+abbrev pub bound_variable : {V : Type 0} → List ℕ → V → Binding V
+bound_variable name v = record { name = name; value = v }
 
 -- a variable has the name
 abbrev pub has_in : {V : Type 0} → List (Binding V) → List ℕ → Bool
@@ -22,7 +22,7 @@ value_named (b ∷ bs) name = if bytes_eq name b.name then Some b.value else val
 -- the first variable with the name has this value
 abbrev pub set_in : {V : Type 0} → List (Binding V) → List ℕ → V → List (Binding V)
 set_in [] name v = []
-set_in (b ∷ bs) name v = if bytes_eq name b.name then bound b.name v ∷ bs else b ∷ set_in bs name v
+set_in (b ∷ bs) name v = if bytes_eq name b.name then bound_variable b.name v ∷ bs else b ∷ set_in bs name v
 
 -- the value of the newest variable with the name, which is the last
 abbrev pub newest_in : {V : Type 0} → List (Binding V) → List ℕ → Option V
@@ -33,11 +33,11 @@ newest_in (b ∷ bs) name = option_or (newest_in bs name) (if bytes_eq name b.na
 abbrev pub set_newest : {V : Type 0} → List (Binding V) → List ℕ → V → List (Binding V)
 set_newest [] name v = []
 set_newest (b ∷ bs) name v =
-    if has_in bs name then b ∷ set_newest bs name v else (if bytes_eq name b.name then bound b.name v ∷ bs else b ∷ bs)
+    if has_in bs name then b ∷ set_newest bs name v else (if bytes_eq name b.name then bound_variable b.name v ∷ bs else b ∷ bs)
 
 -- one more variable, unless one has the name
 abbrev pub with_new : {V : Type 0} → List (Binding V) → List ℕ → V → List (Binding V)
-with_new bs name v = if has_in bs name then bs else bs ++ bound name v ∷ []
+with_new bs name v = if has_in bs name then bs else bs ++ bound_variable name v ∷ []
 
 -- one more variable of each of these names
 abbrev pub with_all_new : {V : Type 0} → List (Binding V) → List (List ℕ) → V → List (Binding V)

@@ -25,7 +25,7 @@ fn digits_of(alloc: Global, form: NumberForm, number: u64) -> Result<String, Out
 
 // Digits, filled on the left to the width.
 fn push_filled(out: &mut Vec<u8>, fill: u8, width: usize, digits: &[u8]) -> Result<(), OutOfMemory>
-    ensures { OnOk result (out.new.items ≡ out.old.items ++ spec.filled fill width digits.now) }
+    ensures { OnOk result (out.new.items ≡ out.old.items ++ spec.filled_digits fill width digits.now) }
 {
     let mut length = digits.len();
     while length < width {
@@ -63,7 +63,7 @@ fn push_conversion(
     conversion: Conversion,
     number: u64,
 ) -> Result<(), OutOfMemory>
-    ensures { OnOk result (out.new.items ≡ out.old.items ++ spec.converted conversion number) }
+    ensures { OnOk result (out.new.items ≡ out.old.items ++ spec.converted_number conversion number) }
 {
     let digits = digits_of(alloc, conversion.form, number)?;
     let fill = if conversion.zero { b'0' } else { b' ' };
@@ -71,9 +71,9 @@ fn push_conversion(
 }
 
 // A format with numbers for its conversions, up to a `%` that begins no piece.
-#[tactic(auto, unfolding(crate::specs::Lines::formatted))]
+#[tactic(auto, unfolding(crate::specs::Lines::formatted_text))]
 fn format_message(alloc: Global, format: &str, numbers: &[u64]) -> Result<Vec<u8>, OutOfMemory>
-    ensures { IfOk result (λ out. out.items ≡ spec.formatted (length format.now) format.now numbers.now) }
+    ensures { IfOk result (λ out. out.items ≡ spec.formatted_text (length format.now) format.now numbers.now) }
 {
     let mut out = Vec::new(alloc);
     let mut rest = format.as_bytes();

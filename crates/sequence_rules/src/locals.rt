@@ -1,7 +1,7 @@
 //! The variables that a sequence declares.
 ghost use Rattle.std.specs.Prelude.{◌≡◌, ◌++◌, false, [], ◌∷◌, OnErr, OnOk, length, take};
 ghost use Rattle.sequence_rules.specs.Locals.{locals_of};
-ghost use Rattle.sequence_rules.specs.Variables.{bound, has_in, newest_in, set_newest};
+ghost use Rattle.sequence_rules.specs.Variables.{bound_variable, has_in, newest_in, set_newest};
 
 use crate::bindings::{Binding, newest_in, set_newest};
 use crate::globals::Globals;
@@ -22,7 +22,7 @@ fn push<V: Copy>(
     name: &str,
     value: V,
 ) -> Result<(), OutOfMemory>
-    ensures answer { OnOk result (bindings.new.items ≡ bindings.old.items ++ bound name.now value ∷ []) }
+    ensures answer { OnOk result (bindings.new.items ≡ bindings.old.items ++ bound_variable name.now value ∷ []) }
     ensures same { OnErr result (bindings.new.items ≡ bindings.old.items) }
 {
     let name = NameText::new(alloc, name)?;
@@ -81,7 +81,7 @@ impl<V: Copy> Locals<V> {
 
     /// Adds a variable at the end. `OutOfMemory` where memory is refused; nothing has changed then.
     pub fn add(&mut self, alloc: Global, name: &str, value: V) -> Result<(), OutOfMemory>
-        ensures answer { OnOk result (locals_of self.new ≡ locals_of self.old ++ bound name.now value ∷ []) }
+        ensures answer { OnOk result (locals_of self.new ≡ locals_of self.old ++ bound_variable name.now value ∷ []) }
         ensures same { OnErr result (locals_of self.new ≡ locals_of self.old) }
     {
         if self.len() >= MOST {

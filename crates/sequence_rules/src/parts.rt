@@ -1,6 +1,6 @@
 //! The variables of a sequence, and where they lie.
 ghost use Rattle.std.specs.Prelude.{◌≤◌, ◌^◌, length};
-ghost use Rattle.sequence_rules.specs.Shared.{joined};
+ghost use Rattle.sequence_rules.specs.Shared.{joined_locals};
 
 use crate::bindings::Binding;
 use crate::globals::Globals;
@@ -13,5 +13,5 @@ pub struct Locals<V> {
     pub(crate) first: Vec<Binding<V>>,
     pub(crate) named: Globals<V>,
     pub(crate) hiding: Vec<Binding<V>>,
-    ghost bounded: { length (joined first.items named hiding.items) ≤ 2 ^ 32 },
+    ghost bounded: { length (joined_locals first.items named hiding.items) ≤ 2 ^ 32 },
 }

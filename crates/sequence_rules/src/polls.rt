@@ -10,7 +10,7 @@ use sequence_trees::CheckedStep;
 
 // The expression in groups of parentheses.
 fn strip_groups(expr: &Expr) -> &Expr
-    ensures { tree result.now ≡ spec.ungrouped (tree expr.now) }
+    ensures { tree result.now ≡ spec.ungrouped_tree (tree expr.now) }
 {
     match expr {
         Expr::Group(inner) => strip_groups(inner),

@@ -1,7 +1,7 @@
 //! The variables with which a run starts.
 ghost use Rattle.std.specs.Prelude.{◌≡◌, [], ◌∷◌, IfOk, OnOk, map};
 ghost use Rattle.expr_grammar.specs.Tree.{code_trees, stmt_tree};
-ghost use Rattle.function_table.specs.Variables.{predefined};
+ghost use Rattle.function_table.specs.Variables.{names_of_predefined};
 ghost use Rattle.sequence_rules.specs.Runs.{variables_of};
 ghost use Rattle.sequence_rules.specs.Shared.{bindings_of};
 ghost use Rattle.sequence_rules.specs.Steps.{declared_names};
@@ -18,7 +18,7 @@ use target_machine::Variable;
 ///
 /// `OutOfMemory` where memory is refused.
 pub fn predefined_globals(alloc: Global, start: &[Variable]) -> Result<Globals<u64>, OutOfMemory>
-    requires { map (λ variable. variable.name) start.now ≡ predefined }
+    requires { map (λ variable. variable.name) start.now ≡ names_of_predefined }
     ensures { IfOk result (λ globals. bindings_of globals ≡ variables_of start.now) }
 {
     let mut globals = Globals::new(alloc);

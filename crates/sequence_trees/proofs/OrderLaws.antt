@@ -7,7 +7,7 @@ use Rattle.expr_grammar.specs.declared.limit.Span.TheVariants as spans
 use Rattle.expr_grammar.specs.Grammar.{ReadsCode, ReadsExpr}
 use Rattle.sequence_trees.specs.declared.spot.Part.{Part}
 use Rattle.sequence_trees.specs.declared.spot.Part.TheVariants as kinds
-use Rattle.sequence_trees.specs.Order.{TextAt, moved, IsFine, IsFaulty, IsFirstFaulty}
+use Rattle.sequence_trees.specs.Order.{TextAt, moved_text, IsFine, IsFaulty, IsFirstFaulty}
 use Rattle.sequence_trees.proofs.TextLaws as laws
 use Rattle.sequence_trees.proofs.TextLaws.{exact_code, exact_condition}
 
@@ -39,7 +39,7 @@ pub fine_both : {W : Type 0} (xs ys : List (TextAt W)) → AreFine xs → AreFin
 fine_both [] ys a b = b
 fine_both (x ∷ xs) ys a b = (a.0, fine_both xs ys a.1 b)
 
-pub fine_moved : {V W : Type 0} (f : V → W) (xs : List (TextAt V)) → AreFine xs → AreFine (map (moved f) xs)
+pub fine_moved : {V W : Type 0} (f : V → W) (xs : List (TextAt V)) → AreFine xs → AreFine (map (moved_text f) xs)
 fine_moved f [] a = a
 fine_moved f (x ∷ xs) a = (a.0, fine_moved f xs a.1)
 
@@ -74,12 +74,12 @@ first_after xs ys step part at a f = record {
   faulty = f.faulty;
 }
 
-pub first_moved : {V W : Type 0} (g : V → W) (xs : List (TextAt V)) (step : V) (part : Part) (at : Place) → IsFirstFaulty xs step part at → IsFirstFaulty (map (moved g) xs) (g step) part at
+pub first_moved : {V W : Type 0} (g : V → W) (xs : List (TextAt V)) (step : V) (part : Part) (at : Place) → IsFirstFaulty xs step part at → IsFirstFaulty (map (moved_text g) xs) (g step) part at
 first_moved g xs step part at f = record {
-  before = map (moved g) f.before;
+  before = map (moved_text g) f.before;
   text = f.text;
-  after = map (moved g) f.after;
-  parts = ap (map (moved g)) f.parts ∙ map-append (moved g) f.before (text_at step part f.text ∷ f.after);
+  after = map (moved_text g) f.after;
+  parts = ap (map (moved_text g)) f.parts ∙ map-append (moved_text g) f.before (text_at step part f.text ∷ f.after);
   fine = fine_moved g f.before f.fine;
   faulty = f.faulty;
 }

@@ -16,7 +16,7 @@ use Rattle.sequence_trees.specs.declared.spot.Part.TheVariants as kinds
 use Rattle.sequence_trees.specs.declared.spot.Spot.{Spot}
 use Rattle.sequence_trees.specs.Texts.{IsTextOf, IsFaultyText, bad_token, unexpected, too_deep, IsCodeOf, IsConditionOf, IsFaultyCode, IsFaultyCondition}
 use Rattle.sequence_trees.specs.Trees.{CodeStep, Block, Control, CodeSteps, NoSteps, MoreSteps, SequenceTrees, SetTrees}
-use Rattle.sequence_trees.specs.Order.{TextAt, moved, IsFirstFaulty, StepText, text_if_some, block_texts, control_texts, under, steps_texts, enabled_steps, entry_texts, entries_texts, debugvars_texts, IsFirstFault}
+use Rattle.sequence_trees.specs.Order.{TextAt, moved_text, IsFirstFaulty, StepText, text_if_some, block_texts, control_texts, under, steps_texts, enabled_steps, entry_texts, entries_texts, debugvars_texts, IsFirstFault}
 use Rattle.sequence_trees.specs.Reading.{MayBeCondition, ReadsBlock, ReadsControl, Begins, ReadsSteps, ReadsEntry, ReadsEntries, ReadsSet}
 use Rattle.sequence_trees.proofs.OrderLaws.{AreFine, fine_both, fine_moved, first_before, first_after, first_moved, first_single}
 use Rattle.sequence_trees.proofs.ReadingLaws.{cond_fine, repeat_fine, block_fine, control_fine, steps_fine}
@@ -56,7 +56,7 @@ before xs ys f = (f.0, f.1, f.2, first_before xs ys f.0 f.1 f.2 f.3)
 after : {W : Type 0} (xs ys : List (TextAt W)) → AreFine xs → Faulty ys → Faulty (xs ++ ys)
 after xs ys fine f = (f.0, f.1, f.2, first_after xs ys f.0 f.1 f.2 fine f.3)
 
-seen : {V W : Type 0} (g : V → W) (xs : List (TextAt V)) → Faulty xs → Faulty (map (moved g) xs)
+seen : {V W : Type 0} (g : V → W) (xs : List (TextAt V)) → Faulty xs → Faulty (map (moved_text g) xs)
 seen g xs f = (g f.0, f.1, f.2, first_moved g xs f.0 f.1 f.2 f.3)
 
 -- ---- the texts of a step

@@ -19,8 +19,8 @@ pub record TextAt (W : Type 0) : Type 0 where
   pub text : List ℕ
 
 -- the same text, its step seen from elsewhere
-abbrev pub moved : {V W : Type 0} → (V → W) → TextAt V → TextAt W
-moved f t = record { step = f t.step; part = t.part; text = t.text }
+abbrev pub moved_text : {V W : Type 0} → (V → W) → TextAt V → TextAt W
+moved_text f t = record { step = f t.step; part = t.part; text = t.text }
 
 -- ---- what a text of a part is to be
 
@@ -73,7 +73,7 @@ control_texts cond repeat inner = (text_if_some kinds.If cond ++ text_if_some ki
 
 -- the texts of a step, seen from the list in which it has the number n
 abbrev pub under : ℕ → List StepText → List StepText
-under n texts = map (moved (λ path. n ∷ path)) texts
+under n texts = map (moved_text (λ path. n ∷ path)) texts
 
 -- the texts of steps, of which the first has the number n
 abbrev pub steps_texts : ℕ → device.StepTree → List StepText
@@ -94,7 +94,7 @@ enabled_steps e = if e.disabled then device.no_steps else e.steps
 
 -- the texts of a sequence
 abbrev pub entry_texts : SeqEntry → List (TextAt SetStep)
-entry_texts e = map (moved (λ path. record { sequence = Some e.name; path = path })) (steps_texts 0 (enabled_steps e))
+entry_texts e = map (moved_text (λ path. record { sequence = Some e.name; path = path })) (steps_texts 0 (enabled_steps e))
 
 -- the texts of sequences, in order
 abbrev pub entries_texts : List SeqEntry → List (TextAt SetStep)

@@ -1,5 +1,6 @@
 -- What a sort and a `dedup` leave of the faults of one text.
 use Rattle.std.proofs.Common.{◌≡◌, ◌∙◌, sym, subst, ℕ, suc, ◌<◌, ◌≤◌, Bool, true, false, not, cond, List, [], ◌∷◌, length, get_or, refl, arith, true≢false, inl, inr}
+use Rattle.std.proofs.lemmas.Bool.{not-true, not-false}
 use Rattle.std.specs.Prelude.{Contains}
 use Rattle.std.specs.Cmp.{IsStrictWeakOrder}
 use Rattle.std.specs.List.{AllByRecursion, dedup, dedup_from}
@@ -36,16 +37,10 @@ abbrev pub is_again : CodeFault → CodeFault → Bool
 is_again f kept = not (is_before kept f)
 
 not_again : (k x : CodeFault) → is_again x k ≡ false → is_before k x ≡ true
-not_again k x e = at (is_before k x) e where
-  at : (b : Bool) → not b ≡ false → b ≡ true
-  at true e = refl
-  at false e = absurd (true≢false e)
+not_again k x e = not-false (is_before k x) e
 
 again : (k x : CodeFault) → is_again x k ≡ true → is_before k x ≡ false
-again k x e = at (is_before k x) e where
-  at : (b : Bool) → not b ≡ true → b ≡ false
-  at true e = absurd (true≢false (sym e))
-  at false e = refl
+again k x e = not-true (is_before k x) e
 
 -- the faults that are left were there
 left : (k : CodeFault) (xs : List CodeFault) (y : CodeFault) → Contains (dedup_from is_again k xs) y → Contains (k ∷ xs) y

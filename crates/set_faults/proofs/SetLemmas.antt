@@ -3,7 +3,7 @@ use Rattle.std.proofs.Common.{◌≡◌, ◌∙◌, ap, subst, ℕ, zero, suc, �
 use Rattle.std.proofs.lemmas.List.{take_more, length-take-le}
 use Rattle.std.proofs.lemmas.Bool.{lt-ltb}
 use Rattle.sequence_trees.specs.Trees.{CodeSteps, SetTrees}
-use Rattle.function_table.specs.Variables.{predefined}
+use Rattle.function_table.specs.Variables.{names_of_predefined}
 use Rattle.sequence_trees.specs.declared.spot.Part.TheVariants as parts
 use Rattle.code_check.specs.BlockFaults.{names_after_all, BlockFault}
 use Rattle.code_check.specs.First.{InEither, here, there}
@@ -113,7 +113,7 @@ sequences_more set s all i steps old mid new at before next =
 
 -- ---- the debug variables, and then the sequences
 
-pub rules_of : (set : SetTrees) (names sequences more : List (List ℕ)) (none mid all : List Fault) → names ≡ predefined → sequences ≡ names_of set → more ≡ names_after_all names set.debugvars → none ≡ []
+pub rules_of : (set : SetTrees) (names sequences more : List (List ℕ)) (none mid all : List Fault) → names ≡ names_of_predefined → sequences ≡ names_of set → more ≡ names_after_all names set.debugvars → none ≡ []
     → Appends is_set_before (fault_of set) (Of holders.Debugvars (At parts.Debugvars (BlockFault (record { visible = names; sequences = sequences; in_debugvars = true }) set.debugvars))) none mid
     → Appends is_set_before (fault_of set) (FaultInSequences (record { visible = more; sequences = sequences; in_debugvars = false }) 0 (map (λ s. s.steps) set.sequences)) mid all → AreRuleFaults set all
 rules_of set names sequences more none mid all is_names is_sequences is_more is_none h k =
@@ -122,7 +122,7 @@ rules_of set names sequences more none mid all is_names is_sequences is_more is_
     subst (λ ns. Appends is_set_before (fault_of set) (Of holders.Debugvars (At parts.Debugvars (BlockFault (record { visible = ns; sequences = names_of set; in_debugvars = true }) set.debugvars))) none mid) is_names
     (subst (λ ns. Appends is_set_before (fault_of set) (Of holders.Debugvars (At parts.Debugvars (BlockFault (record { visible = names; sequences = ns; in_debugvars = true }) set.debugvars))) none mid) is_sequences h) in
     let steps = map (λ s. s.steps) set.sequences in
-    let visible : more ≡ names_after_all predefined set.debugvars = is_more ∙ ap (λ ns. names_after_all ns set.debugvars) is_names in
+    let visible : more ≡ names_after_all names_of_predefined set.debugvars = is_more ∙ ap (λ ns. names_after_all ns set.debugvars) is_names in
     let second : Appends is_set_before (fault_of set) (FaultInSequences (sequences_scope set) 0 steps) mid all =
     subst (λ ns. Appends is_set_before (fault_of set) (FaultInSequences (record { visible = ns; sequences = names_of set; in_debugvars = false }) 0 steps) mid all) visible
     (subst (λ ns. Appends is_set_before (fault_of set) (FaultInSequences (record { visible = more; sequences = ns; in_debugvars = false }) 0 steps) mid all) is_sequences k) in

@@ -2,7 +2,7 @@
 ghost use Rattle.std.specs.Prelude.{◌≡◌, ◌++◌, ◌⊎◌, IfOk, OnOk, map};
 ghost use Rattle.device_tree.specs.StepsView.{steps_view};
 ghost use Rattle.sequence_trees.specs.declared.spot.Part.TheVariants as parts;
-ghost use Rattle.sequence_trees.specs.Order.{moved, text_if_some, entry_texts, steps_texts};
+ghost use Rattle.sequence_trees.specs.Order.{moved_text, text_if_some, entry_texts, steps_texts};
 ghost use Rattle.sequence_trees.specs.Outcomes.{step_texts};
 ghost use Rattle.set_faults.specs.Sites.{site_step};
 ghost use Rattle.set_faults.specs.Syntax.{IsFaultOf, syntax_fault, AreSyntaxFaults, AddsFaultsOf, inside};
@@ -66,7 +66,7 @@ fn add_condition(
     found: &mut ItemList<Fault>,
 ) -> Result<(), OutOfMemory>
     requires { (part ≡ parts.If) ⊎ (part ≡ parts.While) }
-    ensures { OnOk result (AddsFaultsOf (map (moved (inside (site_step site.entry))) (text_if_some part condition.now)) found.old found.new) }
+    ensures { OnOk result (AddsFaultsOf (map (moved_text (inside (site_step site.entry))) (text_if_some part condition.now)) found.old found.new) }
 {
     match condition {
         Some(text) => add_syntax(alloc, site, part, condition_fault(alloc, text)?, found),
@@ -82,7 +82,7 @@ fn add_step(
     step: &Step,
     found: &mut ItemList<Fault>,
 ) -> Result<(), OutOfMemory>
-    ensures { OnOk result (AddsFaultsOf (map (moved (inside (site_step site.entry))) (step_texts step.now)) found.old found.new) }
+    ensures { OnOk result (AddsFaultsOf (map (moved_text (inside (site_step site.entry))) (step_texts step.now)) found.old found.new) }
 {
     match step {
         Step::Block { code, .. } => {
@@ -109,7 +109,7 @@ fn add_items(
     items: &[Step],
     found: &mut ItemList<Fault>,
 ) -> Result<(), OutOfMemory>
-    ensures { OnOk result (AddsFaultsOf (map (moved (inside (site_step site.entry))) (steps_texts 0 (steps_view items.now))) found.old found.new) }
+    ensures { OnOk result (AddsFaultsOf (map (moved_text (inside (site_step site.entry))) (steps_texts 0 (steps_view items.now))) found.old found.new) }
 {
     for (number, step) in items.iter().enumerate() {
         let path = inner_path(alloc, site.path, number as u64)?;
@@ -129,7 +129,7 @@ fn add_steps(
     steps: &Steps,
     found: &mut ItemList<Fault>,
 ) -> Result<(), OutOfMemory>
-    ensures { OnOk result (AddsFaultsOf (map (moved (inside (site_step site.entry))) (steps_texts 0 steps.now)) found.old found.new) }
+    ensures { OnOk result (AddsFaultsOf (map (moved_text (inside (site_step site.entry))) (steps_texts 0 steps.now)) found.old found.new) }
 {
     add_items(alloc, site, steps.as_slice(), found)
 }

@@ -7,7 +7,7 @@ use Rattle.expr_grammar.specs.Tree as t
 use Rattle.expr_grammar.specs.Tree.{Tree, ArgTree}
 use Rattle.sequence_trees.specs.Trees as c
 use Rattle.sequence_trees.specs.Trees.{CodeSteps}
-use Rattle.sequence_rules.specs.Polls.{ungrouped, is_four, only_arg}
+use Rattle.sequence_rules.specs.Polls.{ungrouped_tree, is_four, only_arg}
 use Rattle.sequence_rules.specs.Steps.{timeout_of, turn_count}
 use Rattle.seq_check.specs.StepFaults.{no_place}
 use Rattle.set_warnings.specs.declared.warning.Warning.{Warning}
@@ -40,7 +40,7 @@ both_forms (Some (Some name)) (Some second) = Some (Some name)
 -- the only argument, as the address
 abbrev pub address_form : Option ArgTree → Option (Option Name)
 address_form None = None
-address_form (Some (t.ExprArg at e)) = four_form (ungrouped e)
+address_form (Some (t.ExprArg at e)) = four_form (ungrouped_tree e)
 address_form (Some (t.TextArg a)) = None
 
 -- `ReadDP(ADDRESS)`
@@ -50,17 +50,17 @@ read_form e = None
 
 -- `ReadDP(ADDRESS) & MASK`
 abbrev pub masked_form : Tree → Option (Option Name)
-masked_form (t.Binary b.BitAnd a d) = both_forms (read_form (ungrouped a)) (word_form (ungrouped d))
+masked_form (t.Binary b.BitAnd a d) = both_forms (read_form (ungrouped_tree a)) (word_form (ungrouped_tree d))
 masked_form e = None
 
 -- `(ReadDP(ADDRESS) & MASK) != VALUE`
 abbrev pub wait_form : Tree → Option (Option Name)
-wait_form (t.Binary b.Ne a d) = both_forms (masked_form (ungrouped a)) (word_form (ungrouped d))
+wait_form (t.Binary b.Ne a d) = both_forms (masked_form (ungrouped_tree a)) (word_form (ungrouped_tree d))
 wait_form e = None
 
 -- the first name of a `while` with these steps, where the control would be a poll if each such name were a number
 abbrev pub wait_name : Tree → CodeSteps → Option Name
-wait_name e c.NoSteps = unwrap_or (wait_form (ungrouped e)) None
+wait_name e c.NoSteps = unwrap_or (wait_form (ungrouped_tree e)) None
 wait_name e (c.MoreSteps step more) = None
 
 -- a warning of this name, where there is one

@@ -2,7 +2,7 @@
 ghost use Rattle.std.specs.Prelude.{◌≡◌, ◌++◌, OnOk, Some, option_map};
 ghost use Rattle.expr_grammar.specs.Tree.{tree, arg_tree, arg_trees};
 ghost use Rattle.sequence_trees.specs.Trees.{steps_tree};
-ghost use Rattle.sequence_rules.specs.Polls.{ungrouped, only_arg};
+ghost use Rattle.sequence_rules.specs.Polls.{ungrouped_tree, only_arg};
 ghost use Rattle.set_warnings.specs.Sites.{part_at};
 ghost use Rattle.set_warnings.specs.Waits as spec;
 
@@ -22,7 +22,7 @@ type FirstName<'a> = Option<Option<&'a Name>>;
 
 // The expression in groups of parentheses.
 fn strip_groups(expr: &Expr) -> &Expr
-    ensures { tree result.now ≡ ungrouped (tree expr.now) }
+    ensures { tree result.now ≡ ungrouped_tree (tree expr.now) }
 {
     match expr {
         Expr::Group(inner) => strip_groups(inner),

@@ -6,7 +6,7 @@ use Rattle.std.proofs.lemmas.Nat.{and_le_r}
 use Rattle.std.specs.List.{AllByRecursion}
 use Rattle.target_machine.proofs.ActionRanges.{acted_in_range, in_order_in_range, sound_in_range}
 use Rattle.target_machine.specs.InRange.{IsActionInRange, IsInRange, IsWord}
-use Rattle.target_machine.specs.Plain.{Action, Makes, Commands, CallDone, acted, after_cfg, ap_access_of, call_actions, call_done, cfg_actions, contains, csw_actions, csw_for, ended, forgives, given, has_large, in_order, is_fault, issued, memory_actions, needs_cfg, result_of, size_code, transfer_actions, unit_actions}
+use Rattle.target_machine.specs.Plain.{Action, Makes, Commands, CallDone, action_attempt, after_cfg, ap_access_of, call_actions, call_done, cfg_actions, contains, csw_actions, csw_for, ended_call, forgives, given_number, has_large, in_order, is_fault, issued_actions, memory_actions, needs_cfg, result_of, size_code, transfer_actions, unit_actions}
 use Rattle.target_machine.specs.Registers.{csw_others}
 use Rattle.target_machine.specs.Sound.{IsSound, IsSoundCall, IsSoundMemory}
 use Rattle.target_machine.specs.State.{TargetState}
@@ -82,7 +82,7 @@ transfer_fits large size read address value csw sound wide = (
 
 memory_fits : (t : TargetState) (large : Bool) (size : ℕ) (read : Bool) (port address value : ℕ) → IsSoundMemory size read address value → port < 2 ^ 8 → address < 2 ^ 64 → Fit (memory_actions t large size read port address value)
 memory_fits t large size read port address value sound few wide =
-    let csw : ℕ = given (in_order t (csw_actions port)).outcome in
+    let csw : ℕ = given_number (in_order t (csw_actions port)).outcome in
     fit_append (csw_actions port) (transfer_actions large size read address value csw) (omega (arith, few), (omega arith, tt)) (transfer_fits large size read address value csw sound wide)
 
 wide_fits : (t : TargetState) (size : ℕ) (read : Bool) (port address value : ℕ) → IsSoundMemory size read address value → port < 2 ^ 8 → address < 2 ^ 64
@@ -108,9 +108,9 @@ call_fits t large (Probe c) sound range = (sound_in_range c sound range, tt)
 
 -- ---- what a call issues, gives and leaves
 
-issued_fits : (t : TargetState) (xs : List Action) → Fit xs → Fit (issued t xs)
+issued_fits : (t : TargetState) (xs : List Action) → Fit xs → Fit (issued_actions t xs)
 issued_fits t [] h = tt
-issued_fits t (x ∷ xs) h = (h.0, fit_either (is_fault (acted t x).outcome) [] _ tt (issued_fits (acted t x).next xs h.1))
+issued_fits t (x ∷ xs) h = (h.0, fit_either (is_fault (action_attempt t x).outcome) [] _ tt (issued_fits (action_attempt t x).next xs h.1))
 
 divided_fits : (n a b : ℕ) → IsWord n → IsWord (n / a % b)
 divided_fits n a b h = let k = div-le_self n a in let m = mod-le (n / a) b in omega (arith, h, k, m)
@@ -128,7 +128,7 @@ record DoneFits (d : CallDone) : Type 0 where
   result : IsWord (end_result d.end)
   next : IsInRange d.next
 
-ended_fits : (fault forgive small : Bool) (n : ℕ) (t : TargetState) (large : List ℕ) (actions : List Action) → IsWord n → IsInRange t → Fit actions → DoneFits (ended fault forgive small n t large actions)
+ended_fits : (fault forgive small : Bool) (n : ℕ) (t : TargetState) (large : List ℕ) (actions : List Action) → IsWord n → IsInRange t → Fit actions → DoneFits (ended_call fault forgive small n t large actions)
 ended_fits true true small n t large actions word range fit =
     let k = acted_in_range t (Commands forgives) range (omega arith) in
     record { actions = fit_append actions (Commands forgives ∷ []) fit (omega arith, tt); result = omega arith; next = k.next }

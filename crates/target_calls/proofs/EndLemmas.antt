@@ -1,7 +1,7 @@
 -- How calls end.
 use Rattle.std.proofs.Common.{◌≡◌, ◌∙◌, ℕ, ◌+◌, Bool, true, false, cond, ◌&&◌, nat_lt, List, [], ◌∷◌, refl, sym, ap, arith}
 use Rattle.std.specs.Prelude.{not}
-use Rattle.target_machine.specs.Plain.{Action, CallEnd, Answered, Faulted, Skipped, Small, call_done, contains, ended, has_large, is_small}
+use Rattle.target_machine.specs.Plain.{Action, CallEnd, Answered, Faulted, Skipped, Small, call_done, contains, ended_call, has_large, is_small}
 use Rattle.target_machine.specs.State.{TargetState}
 use Rattle.target_machine.specs.declared.unit.Call.{Call}
 use Rattle.target_machine.specs.declared.unit.Call.TheVariants.{Access, Probe}
@@ -11,19 +11,19 @@ use Rattle.target_calls.specs.World.{World, done_now, next_world, one_if_skipped
 use Rattle.target_calls.specs.declared.calls.Ask.{Ask}
 use Rattle.dap_base.proofs.Basics.{first_true}
 
-pub end_skipped : (f g s : Bool) (n : ℕ) (t : TargetState) (large : List ℕ) (actions : List Action) → (ended f g s n t large actions).end ≡ Skipped → g ≡ true
+pub end_skipped : (f g s : Bool) (n : ℕ) (t : TargetState) (large : List ℕ) (actions : List Action) → (ended_call f g s n t large actions).end ≡ Skipped → g ≡ true
 end_skipped true true s n t large actions h = refl
 end_skipped true false s n t large actions h = absurd cc
 end_skipped false g true n t large actions h = absurd cc
 end_skipped false g false n t large actions h = absurd cc
 
-pub end_faulted : (f g s : Bool) (n : ℕ) (t : TargetState) (large : List ℕ) (actions : List Action) → (ended f g s n t large actions).end ≡ Faulted → g ≡ false
+pub end_faulted : (f g s : Bool) (n : ℕ) (t : TargetState) (large : List ℕ) (actions : List Action) → (ended_call f g s n t large actions).end ≡ Faulted → g ≡ false
 end_faulted true true s n t large actions h = absurd cc
 end_faulted true false s n t large actions h = refl
 end_faulted false g true n t large actions h = absurd cc
 end_faulted false g false n t large actions h = absurd cc
 
-end_small : (f g s : Bool) (n : ℕ) (t : TargetState) (large : List ℕ) (actions : List Action) → (ended f g s n t large actions).end ≡ Small → s ≡ true
+end_small : (f g s : Bool) (n : ℕ) (t : TargetState) (large : List ℕ) (actions : List Action) → (ended_call f g s n t large actions).end ≡ Small → s ≡ true
 end_small true true s n t large actions h = absurd cc
 end_small true false s n t large actions h = absurd cc
 end_small false g true n t large actions h = refl

@@ -2,7 +2,7 @@
 use Rattle.std.specs.Prelude.{◌≡◌, ℕ, ◌-◌, Bool, true, false, not, ◌&&◌, if◌then◌else◌, List, [], ◌∷◌, map, sum_by, Option, Some, None, ⊤}
 use Rattle.target_machine.specs.Counts.{one_if}
 use Rattle.target_machine.specs.Lists as lists
-use Rattle.target_machine.specs.Plain.{Action, acted, is_fault}
+use Rattle.target_machine.specs.Plain.{Action, action_attempt, is_fault}
 use Rattle.target_machine.specs.State.{TargetState}
 use Rattle.target_calls.specs.World.{later_by}
 use Rattle.target_calls.specs.declared.journal.Part.{Part}
@@ -43,17 +43,17 @@ target_after t entries = lists.after t (actions_in entries)
 
 -- on t the entry gives a fault that its unit does not forgive
 abbrev pub is_unforgiven : TargetState → Entry → Bool
-is_unforgiven t e = is_fault (acted t e.action).outcome && not e.forgiving
+is_unforgiven t e = is_fault (action_attempt t e.action).outcome && not e.forgiving
 
 -- From t no entry gives a fault that its unit does not forgive.
 abbrev pub Passes : TargetState → List Entry → Type 0
 Passes t [] = ⊤
-Passes t (e ∷ entries) = (is_unforgiven t e ≡ false) × Passes (acted t e.action).next entries
+Passes t (e ∷ entries) = (is_unforgiven t e ≡ false) × Passes (action_attempt t e.action).next entries
 
 -- The number, from 1, of the first entry that gives a fault which its unit does not forgive.
 abbrev pub first_fault : TargetState → List Entry → Option ℕ
 first_fault t [] = None
-first_fault t (e ∷ entries) = if is_unforgiven t e then Some 1 else later_by 1 (first_fault (acted t e.action).next entries)
+first_fault t (e ∷ entries) = if is_unforgiven t e then Some 1 else later_by 1 (first_fault (action_attempt t e.action).next entries)
 
 -- how many units' lines are written before the entry is issued: those of all units before its own
 abbrev pub lines_before : Entry → ℕ

@@ -34,21 +34,21 @@ needed_more zero asks = asks
 needed_more (suc more) asks = record asks { needs = capped_sum asks.needs (suc more); fence = length asks.calls }
 
 -- one need point comes now
-abbrev pub needed : Asks → Asks
-needed asks = needed_more 1 asks
+abbrev pub asks_at_need : Asks → Asks
+asks_at_need asks = needed_more 1 asks
 
 -- The value of a slot is used: a need point, where its call was asked after the last one.
-abbrev pub used : Slot → Asks → Asks
-used slot asks = if nat_lt slot.index asks.fence then asks else needed asks
+abbrev pub asks_at_use : Slot → Asks → Asks
+asks_at_use slot asks = if nat_lt slot.index asks.fence then asks else asks_at_need asks
 
 -- one more call is asked
 abbrev pub with_call : Ask → Asks → Asks
 with_call ask asks = record asks { calls = asks.calls ++ ask ∷ [] }
 
 -- One more call is asked, which makes these need points.
-abbrev pub asked : Cost → Ask → Asks → Asks
-asked cost ask asks = needed_more cost.after (with_call ask (needed_more cost.before asks))
+abbrev pub asks_with_call : Cost → Ask → Asks → Asks
+asks_with_call cost ask asks = needed_more cost.after (with_call ask (needed_more cost.before asks))
 
 -- a `finish` is made after the last call
-abbrev pub finished : Asks → Asks
-finished asks = record asks { calls = settled_last asks.calls }
+abbrev pub asks_at_finish : Asks → Asks
+asks_at_finish asks = record asks { calls = settled_last asks.calls }

@@ -2,26 +2,26 @@
 use Rattle.std.specs.Prelude.{ℕ, suc, ◌+◌, ◌-◌, ◌<◌, nat_le, if◌then◌else◌, List, [], ◌∷◌, sum_by, ⊤}
 use Rattle.std.specs.List.{AllByRecursion}
 use Rattle.target_machine.specs.Packets.{commands_for}
-use Rattle.target_machine.specs.Plain.{Action, Makes, Polls, Commands, acted, polled}
+use Rattle.target_machine.specs.Plain.{Action, Makes, Polls, Commands, action_attempt, poll_result}
 use Rattle.target_machine.specs.State.{TargetState}
 use Rattle.target_calls.specs.Journal.{Entry}
 
 -- What an action weighs on t: 1, the reads of a poll, or the commands of a probe call.
 abbrev pub weight : TargetState → Action → ℕ
 weight t (Makes a) = 1
-weight t (Polls mask requested turns) = (polled turns mask requested t).reads
+weight t (Polls mask requested turns) = (poll_result turns mask requested t).reads
 weight t (Commands c) = commands_for c
 
 -- What these entries weigh together, one at a time from t.
 abbrev pub weight_in : TargetState → List Entry → ℕ
 weight_in t [] = 0
-weight_in t (e ∷ entries) = weight t e.action + weight_in (acted t e.action).next entries
+weight_in t (e ∷ entries) = weight t e.action + weight_in (action_attempt t e.action).next entries
 
 -- How many entries were performed: the first ones that weigh together at most this.
-abbrev pub performed : TargetState → List Entry → ℕ → ℕ
-performed t [] work = 0
-performed t (e ∷ entries) work =
-    if nat_le (weight t e.action) work then suc (performed (acted t e.action).next entries (work - weight t e.action)) else 0
+abbrev pub entries_performed : TargetState → List Entry → ℕ → ℕ
+entries_performed t [] work = 0
+entries_performed t (e ∷ entries) work =
+    if nat_le (weight t e.action) work then suc (entries_performed (action_attempt t e.action).next entries (work - weight t e.action)) else 0
 
 -- a poll has at least one turn
 abbrev pub IsWeighty : Action → Type 0

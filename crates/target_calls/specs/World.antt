@@ -17,8 +17,8 @@ abbrev pub start_world : TargetState → Option ℕ → World
 start_world t answered = record { target = t; large = []; answered = answered }
 
 -- the same world with all calls answered
-abbrev pub unlimited : World → World
-unlimited w = record w { answered = None }
+abbrev pub unlimited_world : World → World
+unlimited_world w = record w { answered = None }
 
 -- no further call is answered
 abbrev pub is_over : Option ℕ → Bool

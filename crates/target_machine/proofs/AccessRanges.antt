@@ -9,9 +9,9 @@ use Rattle.std.proofs.Math.ListN.{get_or-eq_default}
 use Rattle.std.proofs.lemmas.Nat.{and_le_l, and_le_r, or_lt}
 use Rattle.dap_base.specs.Bits.{has_bit}
 use Rattle.target_machine.proofs.Values.{each_inserted}
-use Rattle.target_machine.specs.Attempt.{Attempt, attempt, answers, done, posted, bus_error, is_free, bank, acknowledges, with_bit, ctrl_stat, ctrl_written, dp_read, dp_write, dp_access, selected_ap, register, with_ap, size_of, advanced, lanes, next_tar, drw_address, bd_address, register_value, register_written, stored_csw, read_through, memory_write, drw_read, drw_write, ap_read, ap_write, at_ap, ap_access}
+use Rattle.target_machine.specs.Attempt.{Attempt, attempt, answers, done_attempt, posted_attempt, bus_error, is_free, bank, acknowledges, with_bit, ctrl_stat, ctrl_written, dp_read, dp_write, dp_access, selected_ap, register, with_ap, size_of, advanced_target, lanes, next_tar, drw_address, bd_address, register_value, register_written, stored_csw, read_through, memory_write, drw_read, drw_write, ap_read, ap_write, at_ap, ap_access}
 use Rattle.target_machine.specs.InRange.{EachValue, IsWord, IsPortInRange, IsCellInRange, IsInRange, IsAttemptInRange}
-use Rattle.target_machine.specs.Memory.{Memory, Cell, shown_value, moved_on, with_values, merged, WordRead, word_read, read_cell, WordWritten, word_written, write_cell}
+use Rattle.target_machine.specs.Memory.{Memory, Cell, shown_value, moved_on, with_values, merged_word, WordRead, word_read, read_cell, WordWritten, word_written, write_cell}
 use Rattle.target_machine.specs.Registers.{cdbgpwrupreq, cdbgpwrupack, csyspwrupreq, csyspwrupack, power_requests, stickyerr, ctrl_stored, stkerrclr, select_stored, device_en, csw_stored, csw_addrinc, whole_word}
 use Rattle.target_machine.specs.State.{TargetState}
 use Rattle.target_machine.specs.declared.ap.ApState.{ApState}
@@ -45,7 +45,7 @@ masked_word n mask h = let le = and_le_l n mask in omega arith
 pub shown_in_range : (c : Cell) → IsCellInRange c → IsWord (shown_value c)
 shown_in_range c h = elim (cases_lt c.place (length c.values)) [ inl lt ↦ h c.place 0 lt | inr ge ↦ subst IsWord (sym (get_or-eq_default c.values 0 ge)) (omega arith) ]
 
-merged_in_range : (old new mask : ℕ) → IsWord old → IsWord new → IsWord (merged old new mask)
+merged_in_range : (old new mask : ℕ) → IsWord old → IsWord new → IsWord (merged_word old new mask)
 merged_in_range old new mask h k = or_lt 32 (bit_and old (bit_not w32 mask)) (bit_and new mask) (masked_word old (bit_not w32 mask) h) (masked_word new mask k)
 
 abbrev IsOptionInRange : Option ℕ → Type 0
@@ -73,7 +73,7 @@ written_in_range m address mask value h v = by_cell (map.get m address) refl
     by_cell : (o : Option Cell) → map.get m address ≡ o → EachValue IsCellInRange (write_cell m address mask value o).next
     by_cell None e = h
     by_cell (Some c) e =
-        let new : ℕ = merged (shown_value c) value mask in
+        let new : ℕ = merged_word (shown_value c) value mask in
         let fits : IsWord new = merged_in_range (shown_value c) value mask (shown_in_range c (h address c e)) v in
         written_either c.read_only (record { done = false; next = m }) (record { done = true; next = map.insert m address (with_values c (new ∷ [])) }) h
         (each_inserted IsCellInRange m address (with_values c (new ∷ [])) h (All-cons IsWord new [] fits (All-nil IsWord)))
@@ -140,10 +140,10 @@ module _ (t : TargetState) (h : IsInRange t) where
   bus = record { value = omega arith; next = changed true t.rdbuff t.aps t.words h.rdbuff h.aps h.words }
 
   gives : (n : ℕ) (aps : map.FinMap nat_cmp ApState) (words : Memory) → IsWord n → EachValue IsPortInRange aps → EachValue IsCellInRange words →
-      IsAttemptInRange (posted n (record t { aps = aps; words = words }))
+      IsAttemptInRange (posted_attempt n (record t { aps = aps; words = words }))
   gives n aps words lt b c = record { value = lt; next = changed t.sticky n aps words lt b c }
 
-  writes : (aps : map.FinMap nat_cmp ApState) (words : Memory) → EachValue IsPortInRange aps → EachValue IsCellInRange words → IsAttemptInRange (done (record t { aps = aps; words = words }))
+  writes : (aps : map.FinMap nat_cmp ApState) (words : Memory) → EachValue IsPortInRange aps → EachValue IsCellInRange words → IsAttemptInRange (done_attempt (record t { aps = aps; words = words }))
   writes aps words b c = record { value = omega arith; next = changed t.sticky t.rdbuff aps words h.rdbuff b c }
 
   reads : (aps : map.FinMap nat_cmp ApState) (mask : ℕ) (r : WordRead) → EachValue IsPortInRange aps → IsReadInRange r → IsAttemptInRange (read_through t (record t { aps = aps }) mask r.value r.next)
@@ -156,13 +156,13 @@ module _ (t : TargetState) (h : IsInRange t) where
   stores : (aps : map.FinMap nat_cmp ApState) (address mask value : ℕ) → EachValue IsPortInRange aps → IsWord value → IsAttemptInRange (memory_write t (record t { aps = aps }) address mask value)
   stores aps address mask value b v =
       let w = word_written t.words address mask value in
-      either w.done (done (record t { aps = aps; words = w.next })) (bus_error t) (writes aps w.next b (written_in_range t.words address mask value h.words v)) bus
+      either w.done (done_attempt (record t { aps = aps; words = w.next })) (bus_error t) (writes aps w.next b (written_in_range t.words address mask value h.words v)) bus
 
   module _ (port : ApState) (p : IsPortInRange port) where
     placed : (q : ApState) → IsPortInRange q → EachValue IsPortInRange (map.insert t.aps (selected_ap t) q)
     placed q k = each_inserted IsPortInRange t.aps (selected_ap t) q h.aps k
 
-    moved : (size : ℕ) → EachValue IsPortInRange (advanced t port size).aps
+    moved : (size : ℕ) → EachValue IsPortInRange (advanced_target t port size).aps
     moved size =
         let b : Bool = eqb (bit_and port.csw csw_addrinc) 0x10 in
         let tar : ℕ = cond b (next_tar t.carry port.tar size) port.tar in
@@ -170,11 +170,11 @@ module _ (t : TargetState) (h : IsInRange t) where
 
     drw_reads : (size : Option ℕ) → IsAttemptInRange (drw_read t port size)
     drw_reads None = bus
-    drw_reads (Some size) = reads (advanced t port size).aps (lanes size port.tar) (word_read t.words (drw_address port)) (moved size) (read_in_range t.words (drw_address port) h.words)
+    drw_reads (Some size) = reads (advanced_target t port size).aps (lanes size port.tar) (word_read t.words (drw_address port)) (moved size) (read_in_range t.words (drw_address port) h.words)
 
     drw_writes : (value : ℕ) (size : Option ℕ) → IsWord value → IsAttemptInRange (drw_write t port value size)
     drw_writes value None v = bus
-    drw_writes value (Some size) v = stores (advanced t port size).aps (drw_address port) (lanes size port.tar) value (moved size) v
+    drw_writes value (Some size) v = stores (advanced_target t port size).aps (drw_address port) (lanes size port.tar) value (moved size) v
 
     ap_reads : (reg : ℕ) → IsAttemptInRange (ap_read t port reg)
     ap_reads reg =
@@ -225,7 +225,7 @@ module _ (t : TargetState) (h : IsInRange t) where
       either (eqb addr 0) _ _
       (record { value = omega arith; next = state_either (has_bit value stkerrclr) (record t { sticky = false }) t (changed false t.rdbuff t.aps t.words h.rdbuff h.aps h.words) h })
       (either (eqb addr 4) _ _ (record { value = omega arith; next = state_either (eqb (bank t) 0) (ctrl_written t value) t (ctrl_written_in_range value) h })
-      (either (eqb addr 8) (done (record t { select = bit_and value select_stored })) (done t) (record { value = omega arith; next = selected }) (record { value = omega arith; next = h })))
+      (either (eqb addr 8) (done_attempt (record t { select = bit_and value select_stored })) (done_attempt t) (record { value = omega arith; next = selected }) (record { value = omega arith; next = h })))
 
   -- an access of a value of 32 bits
   pub attempt_in_range : (a : RegAccess) → IsWord a.value → IsAttemptInRange (attempt t a)

@@ -3,9 +3,9 @@ use Rattle.std.proofs.Common.{◌≡◌, ◌∙◌, ℕ, zero, suc, ◌+◌, ◌
 use Rattle.std.specs.FinMap as map
 use Rattle.std.specs.Ordering.{nat_cmp}
 use Rattle.dap_base.specs.Bits.{has_bit}
-use Rattle.target_machine.specs.Attempt.{Attempt, attempt, answers, done, is_free, gives_rdbuff, bank, ctrl_stat, ctrl_written, dp_read, dp_write, dp_access, ap_access}
+use Rattle.target_machine.specs.Attempt.{Attempt, attempt, answers, done_attempt, is_free, gives_rdbuff, bank, ctrl_stat, ctrl_written, dp_read, dp_write, dp_access, ap_access}
 use Rattle.target_machine.specs.Lists.{SparesAps, with_ports}
-use Rattle.target_machine.specs.Plain.{Action, Makes, Polls, Commands, Polled, polled, looked, dp_read_of, dp_write_of, acted}
+use Rattle.target_machine.specs.Plain.{Action, Makes, Polls, Commands, Polled, poll_result, poll_read, dp_read_of, dp_write_of, action_attempt}
 use Rattle.target_machine.specs.Registers.{abort_address, ctrl_stat_address, select_stored, stkerrclr}
 use Rattle.target_machine.specs.State.{TargetState}
 use Rattle.target_machine.specs.declared.access.Outcome.{Outcome}
@@ -42,8 +42,8 @@ module _ (r : ℕ) (m : map.FinMap nat_cmp ApState) where
   other_either true x y v w h k = h
   other_either false x y v w h k = k
 
-  written : (x v : TargetState) → x ≡ other v → done x ≡ moved (done v)
-  written x v e = ap (λ (s : TargetState). done s) e
+  written : (x v : TargetState) → x ≡ other v → done_attempt x ≡ moved (done_attempt v)
+  written x v e = ap (λ (s : TargetState). done_attempt s) e
 
   module _ (t : TargetState) where
     dp_reads : (addr : ℕ) → (not (eqb addr 0) && not (eqb addr 4)) ≡ false → dp_read (other t) addr ≡ moved (dp_read t addr)
@@ -56,11 +56,11 @@ module _ (r : ℕ) (m : map.FinMap nat_cmp ApState) where
     dp_writes addr value =
         let cleared : TargetState = record t { sticky = false } in
         let selected : TargetState = record t { select = bit_and value select_stored } in
-        moved_either (eqb addr 0) _ _ (done (cond (has_bit value stkerrclr) cleared t)) _
+        moved_either (eqb addr 0) _ _ (done_attempt (cond (has_bit value stkerrclr) cleared t)) _
         (written (cond (has_bit value stkerrclr) (other cleared) (other t)) (cond (has_bit value stkerrclr) cleared t) (other_either (has_bit value stkerrclr) (other cleared) (other t) cleared t refl refl))
-        (moved_either (eqb addr 4) _ _ (done (cond (eqb (bank t) 0) (ctrl_written t value) t)) _
+        (moved_either (eqb addr 4) _ _ (done_attempt (cond (eqb (bank t) 0) (ctrl_written t value) t)) _
         (written (cond (eqb (bank t) 0) (other (ctrl_written t value)) (other t)) (cond (eqb (bank t) 0) (ctrl_written t value) t) (other_either (eqb (bank t) 0) (other (ctrl_written t value)) (other t) (ctrl_written t value) t refl refl))
-        (moved_either (eqb addr 8) (done (other selected)) (done (other t)) (done selected) (done t) refl refl))
+        (moved_either (eqb addr 8) (done_attempt (other selected)) (done_attempt (other t)) (done_attempt selected) (done_attempt t) refl refl))
 
     attempt_moved : (a : RegAccess) → a.ap ≡ false → gives_rdbuff a ≡ false → attempt (other t) a ≡ moved (attempt t a)
     unfolding attempt is_free
@@ -77,23 +77,23 @@ module _ (r : ℕ) (m : map.FinMap nat_cmp ApState) where
   poll_either true x y v w h k = h
   poll_either false x y v w h k = k
 
-  looked_moved : (o : Outcome) (u : TargetState) (mask requested : ℕ) (p q : Polled) → p ≡ moved_poll q → looked o (other u) mask requested p ≡ moved_poll (looked o u mask requested q)
+  looked_moved : (o : Outcome) (u : TargetState) (mask requested : ℕ) (p q : Polled) → p ≡ moved_poll q → poll_read o (other u) mask requested p ≡ moved_poll (poll_read o u mask requested q)
   looked_moved (Value n) u mask requested p q e =
       poll_either (eqb (bit_and n mask) requested) (record { outcome = Value 1; reads = 1; next = other u }) (record p { reads = p.reads + 1 })
       (record { outcome = Value 1; reads = 1; next = u }) (record q { reads = q.reads + 1 }) refl (ap (λ (x : Polled). record x { reads = x.reads + 1 }) e)
   looked_moved Done u mask requested p q e = ap (λ (x : Polled). record x { reads = x.reads + 1 }) e
   looked_moved Fault u mask requested p q e = refl
 
-  polled_moved : (turns mask requested : ℕ) (t : TargetState) → polled turns mask requested (other t) ≡ moved_poll (polled turns mask requested t)
-  unfolding polled
+  polled_moved : (turns mask requested : ℕ) (t : TargetState) → poll_result turns mask requested (other t) ≡ moved_poll (poll_result turns mask requested t)
+  unfolding poll_result
   polled_moved zero mask requested t = refl
   polled_moved (suc turns) mask requested t =
       let x : Attempt = attempt t (dp_read_of ctrl_stat_address) in
-      ap (λ (y : Attempt). looked y.outcome y.next mask requested (polled turns mask requested y.next)) (attempt_moved t (dp_read_of ctrl_stat_address) refl refl)
-      ∙ looked_moved x.outcome x.next mask requested (polled turns mask requested (other x.next)) (polled turns mask requested x.next) (polled_moved turns mask requested x.next)
+      ap (λ (y : Attempt). poll_read y.outcome y.next mask requested (poll_result turns mask requested y.next)) (attempt_moved t (dp_read_of ctrl_stat_address) refl refl)
+      ∙ looked_moved x.outcome x.next mask requested (poll_result turns mask requested (other x.next)) (poll_result turns mask requested x.next) (polled_moved turns mask requested x.next)
 
   -- one action that is no access of an AP
-  pub acted_moved : (t : TargetState) (x : Action) → SparesAps x → acted (other t) x ≡ moved (acted t x)
+  pub acted_moved : (t : TargetState) (x : Action) → SparesAps x → action_attempt (other t) x ≡ moved (action_attempt t x)
   acted_moved t (Makes a) spares = attempt_moved t a spares.0 spares.1
   acted_moved t (Polls mask requested turns) spares = ap (λ (p : Polled). record { outcome = p.outcome; next = p.next }) (polled_moved turns mask requested t)
   acted_moved t (Commands (probe.Delay micros)) spares = refl

@@ -5,10 +5,10 @@ use Rattle.std.proofs.lemmas.Nat.{and_assoc}
 use Rattle.target_machine.proofs.AccessLaws.{attempt_keeps, setting_faults, fault_sets}
 use Rattle.target_machine.proofs.OneAp.{csw_stays_stored}
 use Rattle.target_machine.proofs.Values.{each_entry}
-use Rattle.target_machine.specs.Attempt.{Attempt, attempt, done, is_free}
+use Rattle.target_machine.specs.Attempt.{Attempt, attempt, done_attempt, is_free}
 use Rattle.target_machine.specs.Fresh.{HasStoredCsw, HaveStoredCsw, IsFresh}
 use Rattle.target_machine.specs.Lists.{PassTo}
-use Rattle.target_machine.specs.Plain.{Action, Makes, Polls, Commands, Polled, polled, looked, dp_read_of, dp_write_of, commanded, acted, is_fault, forgives}
+use Rattle.target_machine.specs.Plain.{Action, Makes, Polls, Commands, Polled, poll_result, poll_read, dp_read_of, dp_write_of, command_attempt, action_attempt, is_fault, forgives}
 use Rattle.target_machine.specs.Ranges.{IsTargetJob}
 use Rattle.target_machine.specs.Registers.{abort_address, ctrl_stat_address, csw_stored}
 use Rattle.target_machine.specs.Start.{ap_entry, start}
@@ -54,22 +54,22 @@ polled_either : (t : TargetState) (b : Bool) (p q : Polled) → Stays t p.next �
 polled_either t true p q h k = h
 polled_either t false p q h k = k
 
-looked_stays : (t : TargetState) (o : Outcome) (u : TargetState) (mask requested : ℕ) (p : Polled) → Stays t u → Stays t p.next → Stays t (looked o u mask requested p).next
+looked_stays : (t : TargetState) (o : Outcome) (u : TargetState) (mask requested : ℕ) (p : Polled) → Stays t u → Stays t p.next → Stays t (poll_read o u mask requested p).next
 looked_stays t (Value n) u mask requested p h k =
     polled_either t (eqb (bit_and n mask) requested) (record { outcome = Value 1; reads = 1; next = u }) (record p { reads = p.reads + 1 }) h k
 looked_stays t Done u mask requested p h k = k
 looked_stays t Fault u mask requested p h k = h
 
-polled_stays : (turns mask requested : ℕ) (t : TargetState) → Stays t (polled turns mask requested t).next
-unfolding polled
+polled_stays : (turns mask requested : ℕ) (t : TargetState) → Stays t (poll_result turns mask requested t).next
+unfolding poll_result
 polled_stays zero mask requested t = stays_same t
 polled_stays (suc turns) mask requested t =
     let x : Attempt = attempt t (dp_read_of ctrl_stat_address) in
     let first : Stays t x.next = attempt_stays t (dp_read_of ctrl_stat_address) in
-    looked_stays t x.outcome x.next mask requested (polled turns mask requested x.next) first
-    (stays_then t x.next (polled turns mask requested x.next).next first (polled_stays turns mask requested x.next))
+    looked_stays t x.outcome x.next mask requested (poll_result turns mask requested x.next) first
+    (stays_then t x.next (poll_result turns mask requested x.next).next first (polled_stays turns mask requested x.next))
 
-pub acted_stays : (t : TargetState) (x : Action) → Stays t (acted t x).next
+pub acted_stays : (t : TargetState) (x : Action) → Stays t (action_attempt t x).next
 acted_stays t (Makes a) = attempt_stays t a
 acted_stays t (Polls mask requested turns) = polled_stays turns mask requested t
 acted_stays t (Commands (probe.Delay micros)) = record { power_reads = refl; stored = λ h. h }
@@ -96,21 +96,21 @@ polled_set_either true p q h k = h
 polled_set_either false p q h k = k
 
 looked_sets : (o : Outcome) (u : TargetState) (mask requested : ℕ) (p : Polled) → u.sticky ≡ is_fault o → (u.sticky ≡ false → p.next.sticky ≡ is_fault p.outcome) →
-    (looked o u mask requested p).next.sticky ≡ is_fault (looked o u mask requested p).outcome
+    (poll_read o u mask requested p).next.sticky ≡ is_fault (poll_read o u mask requested p).outcome
 looked_sets (Value n) u mask requested p h k =
     polled_set_either (eqb (bit_and n mask) requested) (record { outcome = Value 1; reads = 1; next = u }) (record p { reads = p.reads + 1 }) h (k h)
 looked_sets Done u mask requested p h k = k h
 looked_sets Fault u mask requested p h k = h
 
-polled_sets : (turns mask requested : ℕ) (t : TargetState) → t.sticky ≡ false → (polled turns mask requested t).next.sticky ≡ is_fault (polled turns mask requested t).outcome
-unfolding polled
+polled_sets : (turns mask requested : ℕ) (t : TargetState) → t.sticky ≡ false → (poll_result turns mask requested t).next.sticky ≡ is_fault (poll_result turns mask requested t).outcome
+unfolding poll_result
 polled_sets zero mask requested t clear = clear
 polled_sets (suc turns) mask requested t clear =
     let x : Attempt = attempt t (dp_read_of ctrl_stat_address) in
-    looked_sets x.outcome x.next mask requested (polled turns mask requested x.next) (attempt_sets t (dp_read_of ctrl_stat_address) clear)
+    looked_sets x.outcome x.next mask requested (poll_result turns mask requested x.next) (attempt_sets t (dp_read_of ctrl_stat_address) clear)
     (λ e. polled_sets turns mask requested x.next e)
 
-pub acted_sets : (t : TargetState) (x : Action) → t.sticky ≡ false → (acted t x).next.sticky ≡ is_fault (acted t x).outcome
+pub acted_sets : (t : TargetState) (x : Action) → t.sticky ≡ false → (action_attempt t x).next.sticky ≡ is_fault (action_attempt t x).outcome
 acted_sets t (Makes a) clear = attempt_sets t a clear
 acted_sets t (Polls mask requested turns) clear = polled_sets turns mask requested t clear
 acted_sets t (Commands (probe.Delay micros)) clear = clear
@@ -121,25 +121,25 @@ acted_sets t (Commands (probe.Line count bits)) clear = clear
 
 -- ---- an action that does not fault
 
-pub acted_fresh : (t : TargetState) (x : Action) → IsFresh t → is_fault (acted t x).outcome ≡ false → IsFresh (acted t x).next
+pub acted_fresh : (t : TargetState) (x : Action) → IsFresh t → is_fault (action_attempt t x).outcome ≡ false → IsFresh (action_attempt t x).next
 acted_fresh t x h good =
     let k = acted_stays t x in
     record { clear = acted_sets t x h.clear ∙ good; few = subst (λ (n : ℕ). n < 2 ^ 32) (sym k.power_reads) h.few; stored = k.stored h.stored }
 
 pub pass_fresh : (t u : TargetState) (xs : List Action) → IsFresh t → PassTo t xs u → IsFresh u
 pass_fresh t u [] h p = subst IsFresh (sym p) h
-pass_fresh t u (x ∷ xs) h p = pass_fresh (acted t x).next u xs (acted_fresh t x h p.0) p.1
+pass_fresh t u (x ∷ xs) h p = pass_fresh (action_attempt t x).next u xs (acted_fresh t x h p.0) p.1
 
 clear_either : (b : Bool) (x y : Attempt) → y.next.sticky ≡ false → (cond (b && false) x y).next.sticky ≡ false
 clear_either true x y h = h
 clear_either false x y h = h
 
-forgives_clears : (t : TargetState) → (commanded t forgives).next.sticky ≡ false
+forgives_clears : (t : TargetState) → (command_attempt t forgives).next.sticky ≡ false
 unfolding attempt is_free
-forgives_clears t = clear_either t.sticky _ (done (record t { sticky = false })) refl
+forgives_clears t = clear_either t.sticky _ (done_attempt (record t { sticky = false })) refl
 
 -- the write of ABORT after a fault that is forgiven
-pub forgiven_fresh : (t : TargetState) → t.power_reads < 2 ^ 32 → HaveStoredCsw t → IsFresh (commanded t forgives).next
+pub forgiven_fresh : (t : TargetState) → t.power_reads < 2 ^ 32 → HaveStoredCsw t → IsFresh (command_attempt t forgives).next
 forgiven_fresh t few stored =
     let k = acted_stays t (Commands forgives) in
     record { clear = forgives_clears t; few = subst (λ (n : ℕ). n < 2 ^ 32) (sym k.power_reads) few; stored = k.stored stored }

@@ -2,7 +2,7 @@
 use Rattle.std.proofs.Common.{◌≡◌, ℕ, ◌/◌, ◌&&◌, ◌||◌, not, Bool, true, false, cond, eqb, Option, Some, None, refl, sym, subst}
 use Rattle.std.specs.FinMap as map
 use Rattle.target_machine.proofs.OneAp.{no_ap_changed}
-use Rattle.target_machine.specs.Attempt.{Attempt, attempt, done, posted, bus_error, is_free, acknowledges, selected_ap, register, ap_read, ap_write, at_ap, ap_access, dp_access}
+use Rattle.target_machine.specs.Attempt.{Attempt, attempt, done_attempt, posted_attempt, bus_error, is_free, acknowledges, selected_ap, register, ap_read, ap_write, at_ap, ap_access, dp_access}
 use Rattle.target_machine.specs.Laws.{holds_memory}
 use Rattle.target_machine.specs.Registers.{cdbgpwrupreq}
 use Rattle.target_machine.specs.State.{TargetState}
@@ -21,7 +21,7 @@ module _ (t : TargetState) where
   neither false false x y z e h = h
 
   at_leaves : (a : RegAccess) (o : Option ApState) → holds_memory (register t a.addr) ≡ false → (at_ap t a o).next.words ≡ t.words
-  at_leaves a None none = either a.read (posted 0 t) (done t) refl refl
+  at_leaves a None none = either a.read (posted_attempt 0 t) (done_attempt t) refl refl
   at_leaves a (Some port) none =
       let reg : ℕ = register t a.addr in
       either a.read (ap_read t port reg) (ap_write t port reg a.value) (neither (eqb reg 0x0C) (eqb (reg / 16) 1) _ _ _ none refl) (neither (eqb reg 0x0C) (eqb (reg / 16) 1) _ _ _ none refl)

@@ -7,7 +7,7 @@ use Rattle.std.proofs.lemmas.Nat.{and_assoc}
 use Rattle.dap_base.specs.Bits.{has_bit}
 use Rattle.target_machine.proofs.Maps.{got_inserted}
 use Rattle.target_machine.proofs.Values.{each_inserted}
-use Rattle.target_machine.specs.Attempt.{Attempt, attempt, answers, done, bus_error, is_free, bank, acknowledges, ctrl_stat, ctrl_written, dp_read, dp_write, dp_access, selected_ap, register, with_ap, size_of, lanes, drw_address, bd_address, register_value, register_written, read_through, drw_read, drw_write, ap_read, ap_write, at_ap, ap_access}
+use Rattle.target_machine.specs.Attempt.{Attempt, attempt, answers, done_attempt, bus_error, is_free, bank, acknowledges, ctrl_stat, ctrl_written, dp_read, dp_write, dp_access, selected_ap, register, with_ap, size_of, lanes, drw_address, bd_address, register_value, register_written, read_through, drw_read, drw_write, ap_read, ap_write, at_ap, ap_access}
 use Rattle.target_machine.specs.Fresh.{HasStoredCsw, HaveStoredCsw}
 use Rattle.target_machine.specs.Laws.{ChangesOneAp, ChangesNoAp}
 use Rattle.target_machine.specs.Memory.{Memory, word_read, word_written}
@@ -77,7 +77,7 @@ module _ (t : TargetState) where
     ap_writes reg value =
         let word = word_written t.words (bd_address port reg) whole_word value in
         either (eqb reg 0x0C) _ _ (drw_writes value (size_of port.csw))
-        (either (eqb (reg / 16) 1) _ _ (either word.done (done (record t { words = word.next })) (bus_error t) (kept Done t.rdbuff word.next) bus)
+        (either (eqb (reg / 16) 1) _ _ (either word.done (done_attempt (record t { words = word.next })) (bus_error t) (kept Done t.rdbuff word.next) bus)
         (placed Done (register_written port reg value) t.rdbuff t.words
         (λ h. stored_either (eqb reg 0x00) _ _ (and_assoc csw_stored value csw_stored) (stored_either (eqb reg 0x04) _ _ h (stored_either (eqb reg 0x08) _ _ (stored_either port.large _ _ h h) h)))))
 
@@ -118,11 +118,11 @@ module _ (t : TargetState) where
 
   dp_writes : (addr value : ℕ) → ChangesNoAp t (dp_write t addr value).next
   dp_writes addr value =
-      none_either (eqb addr 0) (done (cond (has_bit value stkerrclr) (record t { sticky = false }) t)) _
+      none_either (eqb addr 0) (done_attempt (cond (has_bit value stkerrclr) (record t { sticky = false }) t)) _
       (none_state (has_bit value stkerrclr) (record t { sticky = false }) t (record { aps = refl; words = refl }) same)
-      (none_either (eqb addr 4) (done (cond (eqb (bank t) 0) (ctrl_written t value) t)) _
+      (none_either (eqb addr 4) (done_attempt (cond (eqb (bank t) 0) (ctrl_written t value) t)) _
       (none_state (eqb (bank t) 0) (ctrl_written t value) t (record { aps = refl; words = refl }) same)
-      (none_either (eqb addr 8) (done (record t { select = bit_and value select_stored })) (done t) (record { aps = refl; words = refl }) same))
+      (none_either (eqb addr 8) (done_attempt (record t { select = bit_and value select_stored })) (done_attempt t) (record { aps = refl; words = refl }) same))
 
   -- an access of the DP
   pub no_ap_changed : (a : RegAccess) → a.ap ≡ false → ChangesNoAp t (attempt t a).next

@@ -5,7 +5,7 @@ use Rattle.std.proofs.lemmas.Bool.{le-leb, lt-leb, leb-true, leb-false, ltb-true
 use Rattle.std.specs.Int.Bits.{and_zero_l}
 use Rattle.dap_base.specs.Bits.{has_bit}
 use Rattle.target_machine.specs.Attempt.{Attempt, answers, attempt, bank, ctrl_stat, dp_read, is_free, with_bit}
-use Rattle.target_machine.specs.Plain.{Polled, dp_read_of, looked, polled}
+use Rattle.target_machine.specs.Plain.{Polled, dp_read_of, poll_read, poll_result}
 use Rattle.target_machine.specs.PollCounts.{is_match, reads_counted}
 use Rattle.target_machine.specs.State.{TargetState}
 use Rattle.target_machine.specs.declared.access.Outcome.TheVariants.{Value, Fault}
@@ -73,51 +73,51 @@ matched_one false x u e = absurd (cc)
 
 module _ (mask requested : ℕ) where
   first_read : (n : ℕ) (t : TargetState) → bank t ≡ 0 →
-      polled (suc n) mask requested t ≡ looked (Value (ctrl_stat t)) (reads_counted t 1) mask requested (polled n mask requested (reads_counted t 1))
-  unfolding polled
-  first_read n t e = ap (λ (x : Attempt). looked x.outcome x.next mask requested (polled n mask requested x.next)) (reads_plain t e)
+      poll_result (suc n) mask requested t ≡ poll_read (Value (ctrl_stat t)) (reads_counted t 1) mask requested (poll_result n mask requested (reads_counted t 1))
+  unfolding poll_result
+  first_read n t e = ap (λ (x : Attempt). poll_read x.outcome x.next mask requested (poll_result n mask requested x.next)) (reads_plain t e)
 
   -- the first read matches
   pub polled_match : (n : ℕ) (t : TargetState) → bank t ≡ 0 → 0 < n → eqb (bit_and (ctrl_stat t) mask) requested ≡ true →
-      polled n mask requested t ≡ record { outcome = Value 1; reads = 1; next = reads_counted t 1 }
+      poll_result n mask requested t ≡ record { outcome = Value 1; reads = 1; next = reads_counted t 1 }
   polled_match zero t e some hit = absurd (omega (arith, some))
   polled_match (suc n) t e some hit =
-      first_read n t e ∙ matched_one (eqb (bit_and (ctrl_stat t) mask) requested) (polled n mask requested (reads_counted t 1)) (reads_counted t 1) hit
+      first_read n t e ∙ matched_one (eqb (bit_and (ctrl_stat t) mask) requested) (poll_result n mask requested (reads_counted t 1)) (reads_counted t 1) hit
 
   -- reads that show the same, and do not match
   pub polled_misses : (n more : ℕ) (t : TargetState) → bank t ≡ 0 → t.power_reads < 2 ^ 32 → t.reads < 2 ^ 32 → AreSteady t n → Misses t mask requested n →
-      polled (n + more) mask requested t ≡ after_reads n (polled more mask requested (reads_counted t n))
+      poll_result (n + more) mask requested t ≡ after_reads n (poll_result more mask requested (reads_counted t n))
   polled_misses zero more t e fits few steady miss =
       let none : zero + more ≡ more = omega arith in
       let here : min (t.reads + 0) (2 ^ 32 - 1) ≡ t.reads = omega arith in
-      let count : (polled more mask requested t).reads ≡ 0 + (polled more mask requested t).reads = omega arith in
-      ap (λ (k : ℕ). polled k mask requested t) none
-      ∙ ap (λ (r : ℕ). record (polled more mask requested t) { reads = r }) count
-      ∙ ap (λ (r : ℕ). after_reads 0 (polled more mask requested (record t { reads = r }))) (sym here)
+      let count : (poll_result more mask requested t).reads ≡ 0 + (poll_result more mask requested t).reads = omega arith in
+      ap (λ (k : ℕ). poll_result k mask requested t) none
+      ∙ ap (λ (r : ℕ). record (poll_result more mask requested t) { reads = r }) count
+      ∙ ap (λ (r : ℕ). after_reads 0 (poll_result more mask requested (record t { reads = r }))) (sym here)
   polled_misses (suc n) more t e fits few steady miss =
       let one : suc n + more ≡ suc (n + more) = omega arith in
       let u : TargetState = reads_counted t 1 in
       let hit : eqb (bit_and (ctrl_stat t) mask) requested ≡ false = miss (omega arith) in
       let more_miss : Misses u mask requested n = λ some. ap (λ (v : ℕ). eqb (bit_and v mask) requested) (next_shown t n fits some steady) ∙ hit in
       let reads : min (min (t.reads + 1) (2 ^ 32 - 1) + n) (2 ^ 32 - 1) ≡ min (t.reads + suc n) (2 ^ 32 - 1) = omega arith in
-      let sum : n + (polled more mask requested (reads_counted t (suc n))).reads + 1 ≡ suc n + (polled more mask requested (reads_counted t (suc n))).reads = omega arith in
-      ap (λ (k : ℕ). polled k mask requested t) one
+      let sum : n + (poll_result more mask requested (reads_counted t (suc n))).reads + 1 ≡ suc n + (poll_result more mask requested (reads_counted t (suc n))).reads = omega arith in
+      ap (λ (k : ℕ). poll_result k mask requested t) one
       ∙ first_read (n + more) t e
-      ∙ missed_one (eqb (bit_and (ctrl_stat t) mask) requested) (polled (n + more) mask requested u) u hit
+      ∙ missed_one (eqb (bit_and (ctrl_stat t) mask) requested) (poll_result (n + more) mask requested u) u hit
       ∙ ap (λ (x : Polled). record x { reads = x.reads + 1 }) (polled_misses n more u e fits (omega arith) (next_steady t n fits steady) more_miss)
-      ∙ ap (λ (r : ℕ). record (after_reads n (polled more mask requested (record t { reads = r }))) { reads = n + (polled more mask requested (record t { reads = r })).reads + 1 }) reads
-      ∙ ap (λ (r : ℕ). record (polled more mask requested (reads_counted t (suc n))) { reads = r }) sum
+      ∙ ap (λ (r : ℕ). record (after_reads n (poll_result more mask requested (record t { reads = r }))) { reads = n + (poll_result more mask requested (record t { reads = r })).reads + 1 }) reads
+      ∙ ap (λ (r : ℕ). record (poll_result more mask requested (reads_counted t (suc n))) { reads = r }) sum
 
-  pub polled_none : (t : TargetState) → polled 0 mask requested t ≡ record { outcome = Value 0; reads = 0; next = t }
-  unfolding polled
+  pub polled_none : (t : TargetState) → poll_result 0 mask requested t ≡ record { outcome = Value 0; reads = 0; next = t }
+  unfolding poll_result
   polled_none t = refl
 
   -- no read matches
   pub polled_all : (n : ℕ) (t : TargetState) → bank t ≡ 0 → t.power_reads < 2 ^ 32 → t.reads < 2 ^ 32 → AreSteady t n → Misses t mask requested n →
-      polled n mask requested t ≡ record { outcome = Value 0; reads = n; next = reads_counted t n }
+      poll_result n mask requested t ≡ record { outcome = Value 0; reads = n; next = reads_counted t n }
   polled_all n t e fits few steady miss =
       let whole : n ≡ n + 0 = omega arith in
-      ap (λ (k : ℕ). polled k mask requested t) whole
+      ap (λ (k : ℕ). poll_result k mask requested t) whole
       ∙ polled_misses n 0 t e fits few steady miss
       ∙ ap (after_reads n) (polled_none (reads_counted t n))
       ∙ ap (λ (k : ℕ). record { outcome = Value 0; reads = k; next = reads_counted t n }) (sym whole)
@@ -152,26 +152,26 @@ steady_after power reads n m after fits is now = by_order (leb power after) refl
 
 module _ (t : TargetState) (mask requested n m : ℕ) (here : bank t ≡ 0) (fits : t.power_reads < 2 ^ 32) (few : t.reads < 2 ^ 32) (is : m ≡ min n (t.power_reads - t.reads)) where
   -- the first read matches, before an acknowledgement
-  pub first_matches : is_match t mask requested m ≡ true → polled n mask requested t ≡ record { outcome = Value 1; reads = 1; next = reads_counted t 1 }
+  pub first_matches : is_match t mask requested m ≡ true → poll_result n mask requested t ≡ record { outcome = Value 1; reads = 1; next = reads_counted t 1 }
   first_matches e = let h = hits t mask requested m e in polled_match mask requested n t here (omega (arith, h.0, is)) h.1
 
   module _ (u : TargetState) (then : u ≡ reads_counted t m) (missed : is_match t mask requested m ≡ false) where
-    up_to : polled n mask requested t ≡ after_reads m (polled (n - m) mask requested u)
+    up_to : poll_result n mask requested t ≡ after_reads m (poll_result (n - m) mask requested u)
     up_to =
         let whole : n ≡ m + (n - m) = omega (arith, is) in
-        ap (λ (k : ℕ). polled k mask requested t) whole
+        ap (λ (k : ℕ). poll_result k mask requested t) whole
         ∙ polled_misses mask requested m (n - m) t here fits few (steady_before t m (omega (arith, is))) (misses t mask requested m missed)
-        ∙ ap (λ (x : TargetState). after_reads m (polled (n - m) mask requested x)) (sym then)
+        ∙ ap (λ (x : TargetState). after_reads m (poll_result (n - m) mask requested x)) (sym then)
 
     u_here : bank u ≡ 0
     u_here = ap (λ (x : TargetState). bank x) then ∙ here
 
     -- the first one of those that may be acknowledged matches
-    pub later_matches : is_match u mask requested (n - m) ≡ true → polled n mask requested t ≡ record { outcome = Value 1; reads = m + 1; next = reads_counted u 1 }
+    pub later_matches : is_match u mask requested (n - m) ≡ true → poll_result n mask requested t ≡ record { outcome = Value 1; reads = m + 1; next = reads_counted u 1 }
     later_matches e = let h = hits u mask requested (n - m) e in up_to ∙ ap (after_reads m) (polled_match mask requested (n - m) u u_here h.0 h.1)
 
     -- none matches
-    pub none_matches : is_match u mask requested (n - m) ≡ false → polled n mask requested t ≡ record { outcome = Value 0; reads = n; next = reads_counted u (n - m) }
+    pub none_matches : is_match u mask requested (n - m) ≡ false → poll_result n mask requested t ≡ record { outcome = Value 0; reads = n; next = reads_counted u (n - m) }
     none_matches e =
         let same_power : u.power_reads ≡ t.power_reads = ap (λ (x : TargetState). x.power_reads) then in
         let counted : u.reads ≡ min (t.reads + m) (2 ^ 32 - 1) = ap (λ (x : TargetState). x.reads) then in
@@ -195,24 +195,24 @@ module _ (t : TargetState) (other : bank t ≡ 0 → ⊥) where
   reads_zero e = rw e (rw (ne_eqb (bank t) 0 other) refl)
 
   module _ (mask requested : ℕ) where
-    pub elsewhere_fault : (n : ℕ) → 0 < n → t.sticky ≡ true → polled n mask requested t ≡ record { outcome = Fault; reads = 1; next = t }
-    unfolding polled
+    pub elsewhere_fault : (n : ℕ) → 0 < n → t.sticky ≡ true → poll_result n mask requested t ≡ record { outcome = Fault; reads = 1; next = t }
+    unfolding poll_result
     elsewhere_fault zero some e = absurd (omega (arith, some))
-    elsewhere_fault (suc n) some e = ap (λ (x : Attempt). looked x.outcome x.next mask requested (polled n mask requested x.next)) (stuck e)
+    elsewhere_fault (suc n) some e = ap (λ (x : Attempt). poll_read x.outcome x.next mask requested (poll_result n mask requested x.next)) (stuck e)
 
-    pub elsewhere_match : (n : ℕ) → 0 < n → t.sticky ≡ false → 0 ≡ requested → polled n mask requested t ≡ record { outcome = Value 1; reads = 1; next = t }
-    unfolding polled
+    pub elsewhere_match : (n : ℕ) → 0 < n → t.sticky ≡ false → 0 ≡ requested → poll_result n mask requested t ≡ record { outcome = Value 1; reads = 1; next = t }
+    unfolding poll_result
     elsewhere_match zero some e hit = absurd (omega (arith, some))
     elsewhere_match (suc n) some e hit =
-        ap (λ (x : Attempt). looked x.outcome x.next mask requested (polled n mask requested x.next)) (reads_zero e)
-        ∙ matched_one (eqb (bit_and 0 mask) requested) (polled n mask requested t) t (eq-eqb (bit_and 0 mask) requested (and_zero_l mask ∙ hit))
+        ap (λ (x : Attempt). poll_read x.outcome x.next mask requested (poll_result n mask requested x.next)) (reads_zero e)
+        ∙ matched_one (eqb (bit_and 0 mask) requested) (poll_result n mask requested t) t (eq-eqb (bit_and 0 mask) requested (and_zero_l mask ∙ hit))
 
-    pub elsewhere_all : (n : ℕ) → t.sticky ≡ false → (0 ≡ requested → ⊥) → polled n mask requested t ≡ record { outcome = Value 0; reads = n; next = t }
-    unfolding polled
+    pub elsewhere_all : (n : ℕ) → t.sticky ≡ false → (0 ≡ requested → ⊥) → poll_result n mask requested t ≡ record { outcome = Value 0; reads = n; next = t }
+    unfolding poll_result
     elsewhere_all zero e miss = refl
     elsewhere_all (suc n) e miss =
         let more : n + 1 ≡ suc n = omega arith in
-        ap (λ (x : Attempt). looked x.outcome x.next mask requested (polled n mask requested x.next)) (reads_zero e)
-        ∙ missed_one (eqb (bit_and 0 mask) requested) (polled n mask requested t) t (ne_eqb (bit_and 0 mask) requested (λ h. miss (sym (and_zero_l mask) ∙ h)))
+        ap (λ (x : Attempt). poll_read x.outcome x.next mask requested (poll_result n mask requested x.next)) (reads_zero e)
+        ∙ missed_one (eqb (bit_and 0 mask) requested) (poll_result n mask requested t) t (ne_eqb (bit_and 0 mask) requested (λ h. miss (sym (and_zero_l mask) ∙ h)))
         ∙ ap (λ (x : Polled). record x { reads = x.reads + 1 }) (elsewhere_all n e miss)
         ∙ ap (λ (k : ℕ). record { outcome = Value 0; reads = k; next = t }) more

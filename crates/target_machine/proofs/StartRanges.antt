@@ -8,7 +8,7 @@ use Rattle.std.proofs.lemmas.Nat.{and_le_l, and_le_r, or_lt}
 use Rattle.target_machine.proofs.Shifts.{shifted_fits}
 use Rattle.target_machine.proofs.Values.{each_inserted, each_entry}
 use Rattle.target_machine.specs.InRange.{EachValue, IsWord, IsPortInRange, IsCellInRange, IsLinesInRange, IsInRange, IsJobInRange}
-use Rattle.target_machine.specs.Lines.{driven, pins_after, resets, pins_set, grown, line_shifted, clock_set, delayed}
+use Rattle.target_machine.specs.Lines.{driven, pins_after, resets, pins_set, grown_counter, line_shifted, clock_set, delayed_target}
 use Rattle.target_machine.specs.Memory.{Memory, Cell, with_values, cell_with, with_values_at, with_word, with_script, cells, zero_cells, zeros}
 use Rattle.target_machine.specs.Ranges.{IsTargetJob}
 use Rattle.target_machine.specs.Registers.{csw_stored, driven_pins, power_requests}
@@ -121,7 +121,7 @@ module _ (t : TargetState) (h : IsInRange t) where
       (record { pins = or_lt 8 _ _ old new; bits = l.bits; last = l.last; clock = l.clock; delay = l.delay })
       (memory_either (resets t.lines.pins after) (fold with_word t.words t.reset) t.words (words_in_range t.reset t.words h.words h.reset) h.words)
 
-  grown_in_range : (n by : ℕ) → grown n by < 2 ^ 64
+  grown_in_range : (n by : ℕ) → grown_counter n by < 2 ^ 64
   grown_in_range n by = omega arith
 
   shifted_in_range : (last count bits : ℕ) → count ≤ 64 → last < 2 ^ 64 → last / 2 ^ count + bits % 2 ^ count * 2 ^ (64 - count) < 2 ^ 64
@@ -133,7 +133,7 @@ module _ (t : TargetState) (h : IsInRange t) where
   pub line_in_range : (count bits : ℕ) → count ≤ 64 → IsInRange (line_shifted t count bits)
   line_in_range count bits few =
       let l = h.lines in
-      changed (record t.lines { bits = grown t.lines.bits count; last = t.lines.last / 2 ^ count + bits % 2 ^ count * 2 ^ (64 - count) }) t.words
+      changed (record t.lines { bits = grown_counter t.lines.bits count; last = t.lines.last / 2 ^ count + bits % 2 ^ count * 2 ^ (64 - count) }) t.words
       (record { pins = l.pins; bits = grown_in_range t.lines.bits count; last = shifted_in_range t.lines.last count bits few l.last; clock = l.clock; delay = l.delay })
       h.words
 
@@ -142,7 +142,7 @@ module _ (t : TargetState) (h : IsInRange t) where
       let l = h.lines in
       changed (record t.lines { clock = hertz }) t.words (record { pins = l.pins; bits = l.bits; last = l.last; clock = lt; delay = l.delay }) h.words
 
-  pub delay_in_range : (micros : ℕ) → IsInRange (delayed t micros)
+  pub delay_in_range : (micros : ℕ) → IsInRange (delayed_target t micros)
   delay_in_range micros =
       let l = h.lines in
-      changed (record t.lines { delay = grown t.lines.delay micros }) t.words (record { pins = l.pins; bits = l.bits; last = l.last; clock = l.clock; delay = grown_in_range t.lines.delay micros }) h.words
+      changed (record t.lines { delay = grown_counter t.lines.delay micros }) t.words (record { pins = l.pins; bits = l.bits; last = l.last; clock = l.clock; delay = grown_in_range t.lines.delay micros }) h.words

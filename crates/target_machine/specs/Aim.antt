@@ -2,7 +2,7 @@
 use Rattle.std.specs.Prelude.{ℕ, ◌*◌, ◌^◌, Bool, false, not, ◌&&◌, List, [], ◌∷◌, ◌++◌, is_some, bit_or}
 use Rattle.std.specs.FinMap as map
 use Rattle.target_machine.specs.Attempt.{acknowledges, stored_csw}
-use Rattle.target_machine.specs.Plain.{Action, Makes, ap_access_of, csw_actions, csw_for, given, in_order}
+use Rattle.target_machine.specs.Plain.{Action, Makes, ap_access_of, csw_actions, csw_for, given_number, in_order}
 use Rattle.target_machine.specs.Registers.{cdbgpwrupreq, csw_register, device_en, tar_register}
 use Rattle.target_machine.specs.State.{TargetState}
 use Rattle.target_machine.specs.declared.ap.ApState.{ApState}
@@ -11,7 +11,7 @@ use Rattle.target_machine.specs.declared.ap.ApState.{ApState}
 abbrev pub aim_actions : TargetState → ℕ → ℕ → ℕ → List Action
 aim_actions t ap size address =
     csw_actions ap
-    ++ Makes (ap_access_of false csw_register (csw_for (given (in_order t (csw_actions ap)).outcome) size))
+    ++ Makes (ap_access_of false csw_register (csw_for (given_number (in_order t (csw_actions ap)).outcome) size))
     ∷ Makes (ap_access_of false tar_register address)
     ∷ []
 

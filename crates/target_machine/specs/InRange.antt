@@ -5,7 +5,7 @@ use Rattle.std.specs.List.{All}
 use Rattle.std.specs.Ordering.{nat_cmp}
 use Rattle.target_machine.specs.Attempt.{Attempt}
 use Rattle.target_machine.specs.Memory.{Cell}
-use Rattle.target_machine.specs.Plain.{Action, Makes, Polls, Commands, given}
+use Rattle.target_machine.specs.Plain.{Action, Makes, Polls, Commands, given_number}
 use Rattle.target_machine.specs.State.{TargetState}
 use Rattle.target_machine.specs.declared.ap.ApState.{ApState}
 use Rattle.target_machine.specs.declared.image.LinesImage.{LinesImage}
@@ -56,7 +56,7 @@ pub record IsInRange (t : TargetState) : Type 0 where
 
 -- what is given is of 32 bits, and the target after it is in range
 pub record IsAttemptInRange (x : Attempt) : Type 0 where
-  pub value : IsWord (given x.outcome)
+  pub value : IsWord (given_number x.outcome)
   pub next : IsInRange x.next
 
 -- the numbers of a command of the probe are those of its type

@@ -180,9 +180,9 @@ module _ (f : Followed) (m : BenchState) (n : Option ℕ) (p : Program) (before 
   followed_here : FollowsAs a.lines (comes (world_after w o.calls) g.sequel) closed a0.asks.calls a.asks.calls mid now
   followed_here = subst (λ (u : World). FollowsAs a.lines (comes u g.sequel) closed a0.asks.calls a.asks.calls mid now) here g.follows
 
-  joins : followed.followed (sequel_of f) w (outcome_of (meaning w p before)) ≡ joined_outcome w o (comes (world_after w o.calls) g.sequel)
-  joins = ap (λ (q : Option (Sequel Close)). followed.followed q w (outcome_of (meaning w p before))) g.is
-      ∙ ap (λ (x : Outcome). followed.followed (Some g.sequel) w x) same ∙ ap (followed_at w g.sequel o) done_all.0
+  joins : followed.followed_outcome (sequel_of f) w (outcome_of (meaning w p before)) ≡ joined_outcome w o (comes (world_after w o.calls) g.sequel)
+  joins = ap (λ (q : Option (Sequel Close)). followed.followed_outcome q w (outcome_of (meaning w p before))) g.is
+      ∙ ap (λ (x : Outcome). followed.followed_outcome (Some g.sequel) w x) same ∙ ap (followed_at w g.sequel o) done_all.0
 
   closed_is : followed.close_after_run (sequel_of f) w (outcome_of (meaning w p before)) ≡ followed.close_of (comes (world_after w o.calls) g.sequel).end
   closed_is = ap (λ (q : Option (Sequel Close)). followed.close_after_run q w (outcome_of (meaning w p before))) g.is
@@ -201,11 +201,11 @@ module _ (f : Followed) (m : BenchState) (n : Option ℕ) (p : Program) (before 
     skips = g.skips;
   }
 
-  pub goes_so : n ≡ answered_by a → RunEndsAs task.ended.ending a.lines (followed.followed (sequel_of f) w (outcome_of (meaning w p before))) (ran task.ended a.asks (known_part known now))
+  pub goes_so : n ≡ answered_by a → RunEndsAs task.ended.ending a.lines (followed.followed_outcome (sequel_of f) w (outcome_of (meaning w p before))) (ran task.ended a.asks (known_part known now))
   goes_so by = subst (λ (x : Outcome). RunEndsAs task.ended.ending a.lines x (ran task.ended a.asks (known_part known now))) (sym joins)
       (follows w g.sequel o whole_here a.lines closed ended task a.asks a0.asks.calls known mid now a.end closing by g.end followed_here)
 
-  pub part_so : (ComesToEnd task.ended.ending → ⊥) → IsPartOfOutcome (followed.followed (sequel_of f) w (outcome_of (meaning w p before))) (ran task.ended a.asks (known_part known now))
+  pub part_so : (ComesToEnd task.ended.ending → ⊥) → IsPartOfOutcome (followed.followed_outcome (sequel_of f) w (outcome_of (meaning w p before))) (ran task.ended a.asks (known_part known now))
   part_so never = subst (λ (x : Outcome). IsPartOfOutcome x (ran task.ended a.asks (known_part known now))) (sym joins)
       (follows_part w g.sequel o whole_here a.lines closed ended task a.asks a0.asks.calls known mid now closing never followed_here)
 

@@ -22,7 +22,7 @@ use Rattle.image_load.specs.Pieces.{load_calls, pieces}
 use Rattle.image_load.proofs.LaidLemmas.{loads_lay}
 use Rattle.image_load.proofs.SequelLemmas.{comes_whole}
 use Rattle.rom_scan.specs.Showing.{CanScan, ListsTarget}
-use Rattle.rom_scan.specs.Walk.{Walked, scanned}
+use Rattle.rom_scan.specs.Walk.{Walked, scanned_port}
 use Rattle.rom_scan.proofs.TargetLemmas.{lists_target}
 use Rattle.task_runs.specs.Laws.{EndsLaid, EndsListed, LoadsAreLaid, ScansAreListed, alone_in, with_sequel, world_then}
 use Rattle.task_runs.specs.Tasks as tasks
@@ -64,8 +64,8 @@ module _ (w : World) (p : Program) (before : Option (List ℕ)) (done : (alone_i
   listed_then : (ap' : ℕ) → ap' < 2 ^ 8 → CanScan u ap' → EndsListed w p before ap'
   listed_then ap' port can =
       let l : ListsTarget u 1024 ap' = lists_target u 1024 ap' port can in
-      let is = closed_comes u (scanned 1024 ap') tasks.scan_close
-      ∙ ap (λ (e : Option Walked). record { calls = (comes u (scanned 1024 ap')).calls; written = (comes u (scanned 1024 ap')).written; end = option_map tasks.scan_close e }) l.end in
+      let is = closed_comes u (scanned_port 1024 ap') tasks.scan_close
+      ∙ ap (λ (e : Option Walked). record { calls = (comes u (scanned_port 1024 ap')).calls; written = (comes u (scanned_port 1024 ap')).written; end = option_map tasks.scan_close e }) l.end in
       record {
         ending = ap (λ (x : Outcome). x.ending) (joins (scanning ap')) ∙ ap (λ (c : Comes Close). (joined_outcome w o c).ending) is;
         written = ap (λ (x : Outcome). x.written) (joins (scanning ap')) ∙ ap (λ (c : Comes Close). option_map (λ bytes. bytes ++ c.written) o.written) is

@@ -27,7 +27,7 @@ use Rattle.rom_scan.specs.Components.{component_details, component_line}
 use Rattle.rom_scan.specs.Listing.{component_lines}
 use Rattle.rom_scan.specs.Meets.{Finished, StopsIn, StopsInFinish}
 use Rattle.rom_scan.specs.Scans.{Scans}
-use Rattle.rom_scan.specs.Walk.{Walked, scanned}
+use Rattle.rom_scan.specs.Walk.{Walked, scanned_port}
 use Rattle.rom_scan.specs.Written.{AppendsComponents}
 use Rattle.rom_scan.specs.declared.component.Component.{Component}
 use Rattle.rom_scan.specs.declared.component.ComponentId.{ComponentId}
@@ -72,7 +72,7 @@ closed_comes {X = X} u s f = after_comes u s (λ x. Ends (f x)) ∙ by_end (come
 
 module _ (w : World) (n : ℕ) (old : List Ask) where
   abbrev s : Sequel Walked
-  s = scanned 1024 n
+  s = scanned_port 1024 n
 
   abbrev c : Comes Close
   c = comes (world_after w old) (scanning n)

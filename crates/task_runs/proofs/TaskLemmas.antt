@@ -27,7 +27,7 @@ use Rattle.sequels.specs.Limits.{GoesOnFrom}
 use Rattle.sequels.specs.Sequel.{Comes, Sequel, Asks, Ends, comes, stopped_at, call_first}
 use Rattle.sequels.specs.declared.close.Close.{Close}
 use Rattle.sequels.proofs.LimitLemmas.{from_on, from_same}
-use Rattle.followed_runs.specs.Followed.{followed, followed_at, joined_outcome, stopped_by}
+use Rattle.followed_runs.specs.Followed.{followed_outcome, followed_at, joined_outcome, stopped_by}
 use Rattle.followed_runs.proofs.CallLemmas.{from_few}
 use Rattle.control_flow.specs.Answers as answers
 use Rattle.control_flow.specs.Answers.{EndBy, EndsAtCut, EndsAtFault, IsAll, IsPartOfOutcome, Ran, RunEndsAs, SharesCalls, StopsAfter}
@@ -99,7 +99,7 @@ module _ (w : World) (s : Sequel Close) (o : Outcome) where
   }
 
   -- it was left in its middle
-  pub part_on : (r : Ran) → IsPartOfOutcome o r → IsPartOfOutcome (followed (Some s) w o) r
+  pub part_on : (r : Ran) → IsPartOfOutcome o r → IsPartOfOutcome (followed_outcome (Some s) w o) r
   part_on r h = by_end o.ending refl
     where
       by_end : (e : runs.Ending) → o.ending ≡ e → IsPartOfOutcome (followed_at w s o e) r
@@ -152,7 +152,7 @@ module _ (w : World) (s : Sequel Close) (o : Outcome) where
       by_stop (inl u) = absurd (let bad : runs.Done ≡ runs.Unanswered = sym done ∙ u.0 in cc)
       by_stop (inr q) = with_stays (settled_done lines done none answered q.1 quiet)
 
-  cut_on : (cause : StopCause) (lines : ℕ) (r : Ran) → StopBy w o.ending o.calls → w.answered ≡ answered_cut cause lines → StartsQuiet s → EndsAtCut cause lines o r → EndsAtCut cause lines (followed (Some s) w o) r
+  cut_on : (cause : StopCause) (lines : ℕ) (r : Ran) → StopBy w o.ending o.calls → w.answered ≡ answered_cut cause lines → StartsQuiet s → EndsAtCut cause lines o r → EndsAtCut cause lines (followed_outcome (Some s) w o) r
   cut_on cause lines r made answered quiet h = by_end o.ending refl
     where
       by_end : (e : runs.Ending) → o.ending ≡ e → EndsAtCut cause lines (followed_at w s o e) r
@@ -162,10 +162,10 @@ module _ (w : World) (s : Sequel Close) (o : Outcome) where
       by_end runs.Unanswered is = h
       by_end runs.Lost is = h
 
-  not_on : (e : runs.Ending) (en : Ending) (lines : ℕ) (r : Ran) → o.ending ≡ e → followed_at w s o e ≡ o → RunEndsAs en lines o r → RunEndsAs en lines (followed (Some s) w o) r
+  not_on : (e : runs.Ending) (en : Ending) (lines : ℕ) (r : Ran) → o.ending ≡ e → followed_at w s o e ≡ o → RunEndsAs en lines o r → RunEndsAs en lines (followed_outcome (Some s) w o) r
   not_on e en lines r is same h = subst (λ (x : Outcome). RunEndsAs en lines x r) (sym (ap (followed_at w s o) is ∙ same)) h
 
-  pub ends_on : (en : Ending) (lines : ℕ) (r : Ran) (end : Option Stop) → is_done en ≡ false → StopBy w o.ending o.calls → w.answered ≡ answered_at_end end lines → EndBy en end → StartsQuiet s → RunEndsAs en lines o r → RunEndsAs en lines (followed (Some s) w o) r
+  pub ends_on : (en : Ending) (lines : ℕ) (r : Ran) (end : Option Stop) → is_done en ≡ false → StopBy w o.ending o.calls → w.answered ≡ answered_at_end end lines → EndBy en end → StartsQuiet s → RunEndsAs en lines o r → RunEndsAs en lines (followed_outcome (Some s) w o) r
   ends_on ending.Done lines r end none made answered by quiet h = absurd cc
   ends_on (ending.Halted cause) lines r end none made answered by quiet h = not_on (runs.Halted cause) (ending.Halted cause) lines r h.0 refl h
   ends_on (ending.Cut report) lines r end none made answered by quiet h = cut_on report.cause lines r made (answered ∙ ap (λ (e : Option Stop). answered_at_end e lines) by) quiet h
@@ -176,7 +176,7 @@ module _ (w : World) (s : Sequel Close) (o : Outcome) where
 
 -- nothing goes on
 pub stays : (f : Followed) (m : BenchState) (answered : Option ℕ) (p : Program) (before : Option (List ℕ)) (en : Ending) (lines : ℕ) (r : Ran) (end : Option Stop) → goes_on f en ≡ false → answered ≡ answered_at_end end lines → EndBy en end
-    → RunEndsAs en lines (outcome_of (meaning (world_from m answered) p before)) r → RunEndsAs en lines (followed (sequel_of f) (world_from m answered) (outcome_of (meaning (world_from m answered) p before))) r
+    → RunEndsAs en lines (outcome_of (meaning (world_from m answered) p before)) r → RunEndsAs en lines (followed_outcome (sequel_of f) (world_from m answered) (outcome_of (meaning (world_from m answered) p before))) r
 stays Nothing m answered p before en lines r end none is by h = h
 stays (Load ap' image) m answered p before en lines r end none is by h =
     ends_on (world_from m answered) (load_sequel ap' image.now) (outcome_of (meaning (world_from m answered) p before)) en lines r end none (are_made (world_from m answered) p before).made.ending is by
@@ -186,7 +186,7 @@ stays (Scan ap') m answered p before en lines r end none is by h =
     (sequel_quiet (Scan ap') (scanning ap') refl) h
 
 -- what was left in its middle comes first in the whole
-pub part_stays : (f : Followed) (w : World) (o : Outcome) (r : Ran) → IsPartOfOutcome o r → IsPartOfOutcome (followed (sequel_of f) w o) r
+pub part_stays : (f : Followed) (w : World) (o : Outcome) (r : Ran) → IsPartOfOutcome o r → IsPartOfOutcome (followed_outcome (sequel_of f) w o) r
 part_stays Nothing w o r h = h
 part_stays (Load ap' image) w o r h = part_on w (load_sequel ap' image.now) o r h
 part_stays (Scan ap') w o r h = part_on w (scanning ap') o r h

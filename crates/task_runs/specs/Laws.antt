@@ -2,7 +2,7 @@
 use Rattle.std.specs.Prelude.{◌≡◌, ℕ, ◌^◌, ◌<◌, List, ◌++◌, Option, Some, length, option_map, take}
 use Rattle.hex_image.specs.Image.{Bytes}
 use Rattle.target_calls.specs.World.{World, world_after}
-use Rattle.image_load.specs.Laid.{CanLoad, laid}
+use Rattle.image_load.specs.Laid.{CanLoad, laid_memory}
 use Rattle.image_load.specs.LoadSequel.{load_sequel}
 use Rattle.image_load.specs.Pieces.{pieces}
 use Rattle.rom_scan.specs.Listing.{component_lines, components, listed_within}
@@ -32,7 +32,7 @@ with_sequel p s = record { program = p; sequel = Some s }
 -- loaded.
 pub record EndsLaid (w : World) (p : Program) (before : Option (List ℕ)) (ap : ℕ) (image : Bytes) : Type 0 where
   pub ending : (outcome_in_world w (with_sequel p (load_sequel ap image)) before).ending ≡ runs.Done
-  pub words : (outcome_in_world w (with_sequel p (load_sequel ap image)) before).target.words ≡ laid (world_then w p before).target.words image
+  pub words : (outcome_in_world w (with_sequel p (load_sequel ap image)) before).target.words ≡ laid_memory (world_then w p before).target.words image
   pub close : close_in w (with_sequel p (load_sequel ap image)) before ≡ close.Loaded (length image) (length (pieces image))
 
 -- Where the sequence is done, and the image may be loaded then, that is so.

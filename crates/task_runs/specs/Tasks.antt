@@ -1,14 +1,14 @@
 -- What follows a sequence, as a sequel.
 use Rattle.std.specs.Prelude.{◌≡◌, ◌<◌, ℕ, map, Bool, true, false, Option, Some, None, length, ⊤}
 use Rattle.target_machine.specs.declared.unit.Settings.{Settings}
-use Rattle.function_table.specs.Variables.{predefined}
+use Rattle.function_table.specs.Variables.{names_of_predefined}
 use Rattle.access_calls.specs.declared.ended.Ending.{Ending}
 use Rattle.access_calls.specs.declared.ended.Ending.TheVariants as e
 use Rattle.hex_image.specs.Image.{Bytes}
 use Rattle.image_load.specs.LoadSequel.{load_sequel}
 use Rattle.image_load.specs.Pieces.{pieces}
 use Rattle.rom_scan.specs.Walk as walk
-use Rattle.rom_scan.specs.Walk.{Walked, scanned}
+use Rattle.rom_scan.specs.Walk.{Walked, scanned_port}
 use Rattle.sequels.specs.Sequel.{Sequel, Ends, followed_by}
 use Rattle.sequels.specs.declared.close.Close.{Close}
 use Rattle.sequels.specs.declared.close.Close.TheVariants as close
@@ -29,7 +29,7 @@ scan_close walk.Full = close.Full
 
 -- A scan by an access port that lists at most 1,024 components, and then how it closes.
 abbrev pub scanning : ℕ → Sequel Close
-scanning ap = followed_by (scanned 1024 ap) (λ walked. Ends (scan_close walked))
+scanning ap = followed_by (scanned_port 1024 ap) (λ walked. Ends (scan_close walked))
 
 -- What follows, as a sequel.
 abbrev pub sequel_of : Followed → Option (Sequel Close)
@@ -70,4 +70,4 @@ ClosesAs (Scan ap) end = ClosesScan end
 -- A task may run with these settings: a turn takes at least a microsecond, and there is a starting value for each predefined variable, in their order.
 pub record AreTaskSettings (settings : Settings) : Type 0 where
   pub turns : 0 < settings.turn_us
-  pub names : map (λ variable. variable.name) settings.start ≡ predefined
+  pub names : map (λ variable. variable.name) settings.start ≡ names_of_predefined

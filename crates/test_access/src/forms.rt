@@ -106,7 +106,7 @@ impl Trial for Parts {
 }
 
 // How many accesses are held, of two kinds by turns.
-fn held(packet_size: u16, packet_count: u8, even: RegAccess, odd: RegAccess) -> u32 {
+fn count_held(packet_size: u16, packet_count: u8, even: RegAccess, odd: RegAccess) -> u32 {
     let mut size = FlightSize::new(packet_size, packet_count);
     for count in 0..20_000 {
         let next = if count % 2 == 0 { even } else { odd };
@@ -138,7 +138,7 @@ impl Trial for HeldAccesses {
         let (even, odd) = input.split_once(";").unwrap_or((input, input));
         let even = access_of(&mut RowWords::new(even))?;
         let odd = access_of(&mut RowWords::new(odd))?;
-        let most = held(self.packet_size, self.packet_count, even, odd);
+        let most = count_held(self.packet_size, self.packet_count, even, odd);
         Ok(format!(in alloc; "{most}")?)
     }
 }

@@ -2,7 +2,7 @@
 ghost use Rattle.std.specs.Prelude.{◌≡◌, ◌<◌, IfOk, map};
 ghost use Rattle.std.specs.List.{IsDistinct};
 ghost use Rattle.std.specs.Str.{bytes_eq};
-ghost use Rattle.function_table.specs.Variables.{predefined};
+ghost use Rattle.function_table.specs.Variables.{names_of_predefined};
 
 use dap_base::{ItemList, NameText, OutOfMemory};
 use device_tree::{SharedSteps, Step, Steps};
@@ -72,7 +72,7 @@ fn variable(alloc: Global, name: &str) -> Result<Variable, OutOfMemory>
 
 // The predefined variables at 0.
 fn start(alloc: Global) -> Result<Variables, OutOfMemory>
-    ensures { IfOk result (λ start. map (λ v. v.name) start ≡ predefined) }
+    ensures { IfOk result (λ start. map (λ v. v.name) start ≡ names_of_predefined) }
 {
     let mut start = Variables::new(alloc);
     start.push(variable(alloc, "__protocol")?)?;
@@ -88,7 +88,7 @@ fn start(alloc: Global) -> Result<Variables, OutOfMemory>
 /// A turn of ten microseconds, and the predefined variables at 0.
 pub(crate) fn settings(alloc: Global) -> Result<Settings, OutOfMemory>
     ensures turns { IfOk result (λ s. 0 < s.turn_us) }
-    ensures names { IfOk result (λ s. map (λ v. v.name) s.start ≡ predefined) }
+    ensures names { IfOk result (λ s. map (λ v. v.name) s.start ≡ names_of_predefined) }
 {
     Ok(Settings {
         turn_us: 10,

@@ -1,6 +1,6 @@
 //! The audit of a trace.
 ghost use Rattle.std.specs.Prelude.{◌≡◌, ◌↔◌, ◌^◌, ◌<◌, ◌≤◌, IfErr, IfOk, IsTrue, None, OnOk, Some, count_by, length, not, slice_get};
-ghost use Rattle.probe_core.specs.Packet.{accepted};
+ghost use Rattle.probe_core.specs.Packet.{probe_after_packet};
 ghost use Rattle.probe_core.specs.Probe.{ProbeState, fresh_probe, refusal_of};
 ghost use Rattle.probe_core.specs.Ranges.{IsBenchJob};
 ghost use Rattle.probe_core.specs.Runs.{IsRun, without_oldest};
@@ -77,7 +77,7 @@ fn is_same(a: &[u8], b: &[u8]) -> bool
 
 // The probe takes the packet.
 fn send(probe: &mut Probe, packet: &[u8]) -> Result<(), Wrong>
-    ensures ok { OnOk result ((refusal_of probe.old packet.now ≡ None) × (probe.new ≡ accepted probe.old packet.now)) }
+    ensures ok { OnOk result ((refusal_of probe.old packet.now ≡ None) × (probe.new ≡ probe_after_packet probe.old packet.now)) }
     ensures wrong { IfErr result (IsWrongPacket probe.old packet.now) }
     ensures limits { probe.new.executor.limits ≡ probe.old.executor.limits }
 {

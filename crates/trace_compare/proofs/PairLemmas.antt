@@ -15,7 +15,7 @@ use Rattle.trace_compare.specs.Coming.{Contents, PassesExchange, after_exchange,
 use Rattle.trace_compare.specs.Comparison.{are_both_absent, are_same, exchange_difference, is_right, same_exchange_number, summary}
 use Rattle.trace_compare.specs.Counting.{Counting}
 use Rattle.trace_compare.specs.Exchanges.{is_same}
-use Rattle.trace_compare.specs.Pairs.{Compared, GivesTwo, PutsDifference, TakesBoth, alike_left, compared, compared_left, comparison_left}
+use Rattle.trace_compare.specs.Pairs.{Compared, GivesTwo, PutsDifference, TakesBoth, alike_left, compared_traces, compared_left, comparison_left}
 use Rattle.trace_compare.specs.Texts.{two_text}
 
 -- ---- the first exchanges of both
@@ -32,8 +32,8 @@ split b last x y a b' = record {
 abbrev number_if : Bool → Exchange → Option ℕ
 number_if b x = cond b (Some x.number) None
 
-split_same : (b : Bool) (last n : ℕ) (x y : Exchange) (a b' : Contents) → number_if b x ≡ Some n → split b last x y a b' ≡ compared n a b'
-split_same true last n x y a b' is = let k : x.number ≡ n = cc in ap (λ (m : ℕ). compared m a b') k
+split_same : (b : Bool) (last n : ℕ) (x y : Exchange) (a b' : Contents) → number_if b x ≡ Some n → split b last x y a b' ≡ compared_traces n a b'
+split_same true last n x y a b' is = let k : x.number ≡ n = cc in ap (λ (m : ℕ). compared_traces m a b') k
 split_same false last n x y a b' is = absurd (let k : ⊥ = cc in k)
 
 -- what is compared where the first two exchanges are these
@@ -44,11 +44,11 @@ split_other : (b : Bool) (last : ℕ) (x y : Exchange) (a b' : Contents) → num
 split_other true last x y a b' is = absurd (let k : ⊥ = cc in k)
 split_other false last x y a b' is = refl
 
-both : (last : ℕ) (a b c d : Contents) → a ≡ c → b ≡ d → compared last a b ≡ compared last c d
-both last a b c d is other = ap (λ (k : Contents). compared last k b) is ∙ ap (λ (k : Contents). compared last c k) other
+both : (last : ℕ) (a b c d : Contents) → a ≡ c → b ≡ d → compared_traces last a b ≡ compared_traces last c d
+both last a b c d is other = ap (λ (k : Contents). compared_traces last k b) is ∙ ap (λ (k : Contents). compared_traces last c k) other
 
 -- the same two are passed over
-passes_same : (last n : ℕ) (a b c d : Contents) (x y : Option Exchange) (k l : Counting) → PassesExchange a x c k → PassesExchange b y d l → same_exchange_number x y ≡ Some n → compared last a b ≡ compared n c d
+passes_same : (last n : ℕ) (a b c d : Contents) (x y : Option Exchange) (k l : Counting) → PassesExchange a x c k → PassesExchange b y d l → same_exchange_number x y ≡ Some n → compared_traces last a b ≡ compared_traces n c d
 passes_same last n a b c d (Some x) (Some y) k l first second is =
     both last a b (after_exchange x c) (after_exchange y d) first second ∙ split_same (is_same x y) last n x y c d is
 passes_same last n a b c d None y k l first second is = absurd (let no : ⊥ = cc in no)
@@ -58,7 +58,7 @@ counting_of : (a : Contents) (k : Counting) → a ≡ over k → k ≡ a.countin
 counting_of a k is = ap (λ (x : Contents). x.counting) (sym is)
 
 -- any other two are the difference
-passes_other : (last : ℕ) (a b c d : Contents) (x y : Option Exchange) (k l : Counting) → PassesExchange a x c k → PassesExchange b y d l → same_exchange_number x y ≡ None → compared last a b ≡ parted last x y c.counting d.counting
+passes_other : (last : ℕ) (a b c d : Contents) (x y : Option Exchange) (k l : Counting) → PassesExchange a x c k → PassesExchange b y d l → same_exchange_number x y ≡ None → compared_traces last a b ≡ parted last x y c.counting d.counting
 passes_other last a b c d (Some x) (Some y) k l first second is =
     both last a b (after_exchange x c) (after_exchange y d) first second ∙ split_other (is_same x y) last x y c d is
 passes_other last a b c d None None k l first second is =

@@ -3,7 +3,7 @@ use Rattle.std.specs.Prelude.{◌≡◌, ◌⊎◌, ℕ, true, false, List, [], 
 use Rattle.std.specs.Io.KnownBytes.{Appends}
 use Rattle.std.specs.Str.{bytes_eq}
 use Rattle.dap_base.specs.Streams.{AppendsPrefix}
-use Rattle.text_lines.specs.Shown.{shown}
+use Rattle.text_lines.specs.Shown.{shown_text}
 use Rattle.trace_words.specs.Words.{words_of_trace, are_good}
 use Rattle.trace_compare.specs.Comparison.{are_alike, words_against}
 use Rattle.trace_compare.specs.declared.call.CompareStatus.{CompareStatus}
@@ -50,7 +50,7 @@ WritesAgainst bytes others other old new = AppendsPrefix old new (words_against 
 
 -- the line of a file that cannot be opened
 unfoldable pub not_opened_line : List ℕ → List ℕ
-not_opened_line name = codes "file " ++ shown name ++ codes " cannot be opened\n"
+not_opened_line name = codes "file " ++ shown_text name ++ codes " cannot be opened\n"
 
 -- what is written where it cannot be, by how the call ended
 abbrev pub WritesRefusal : List ℕ → CompareStatus → Option (List ℕ) → Option (List ℕ) → Type 0

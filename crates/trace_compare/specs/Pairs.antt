@@ -29,8 +29,9 @@ pub record Compared : Type 0 where
   pub against : Counting
 
 -- what comes of two traces, compared after the exchange of this number
-abbrev pub compared : ℕ → Contents → Contents → Compared
-compared last a b = record { text = exchange_difference last a.exchanges b.exchanges; same = are_same a.exchanges b.exchanges; trace = a.counting; against = b.counting }
+abbrev pub compared_traces : ℕ → Contents → Contents → Compared
+compared_traces last a b =
+    record { text = exchange_difference last a.exchanges b.exchanges; same = are_same a.exchanges b.exchanges; trace = a.counting; against = b.counting }
 
 -- the difference was put, and this is counted in all
 pub record DifferenceIsPut (c : Compared) (trace against : Counting) (written now : Option (List ℕ)) (same : Bool) : Type 0 where
@@ -41,7 +42,7 @@ pub record DifferenceIsPut (c : Compared) (trace against : Counting) (written no
 
 -- what comes of both, where these bytes are left of the sources
 abbrev pub compared_left : ℕ → Traces → List ℕ → List ℕ → Compared
-compared_left last traces a b = compared last (contents_left traces.trace a) (contents_left traces.against b)
+compared_left last traces a b = compared_traces last (contents_left traces.trace a) (contents_left traces.against b)
 
 -- the difference was put, where the bytes of both sources are known
 pub record PutsDifference (before after : Traces) (old new other_old other_new written now : Option (List ℕ)) (same : Bool) : Type 0 where

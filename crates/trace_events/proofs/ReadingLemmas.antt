@@ -5,7 +5,7 @@ use Rattle.trace_events.specs.declared.event.Event.{Event}
 use Rattle.trace_events.specs.declared.event.Event.TheVariants as at
 use Rattle.trace_events.specs.Entries.{entry_in}
 use Rattle.trace_events.specs.Inputs.{GivesFirstItem}
-use Rattle.trace_events.specs.Readings.{TraceReading, TraceStep, answer, answer_for, by_entry, end_events, step_at_last_line, step_at_line_end, step_at_unended_line, take_entry, take_packet, then_events, unreplied, waiting_too}
+use Rattle.trace_events.specs.Readings.{TraceReading, TraceStep, answer, answer_for, by_entry, end_events, step_at_last_line, step_at_line_end, step_at_unended_line, take_entry, take_packet, then_events, unreplied_packets, waiting_too}
 use Rattle.trace_events.specs.Steps.{Steps}
 
 -- ---- the line
@@ -51,29 +51,29 @@ line_gone r = last_of_line r r.line refl
 -- ---- the end
 
 -- without a last line the end is the packets that wait
-waits : (r : TraceReading) → r.line ≡ [] → end_events r ≡ unreplied r.waiting
+waits : (r : TraceReading) → r.line ≡ [] → end_events r ≡ unreplied_packets r.waiting
 unfolding step_at_last_line
-waits r none = ap (λ (line : List ℕ). then_events (step_at_unended_line r line).event (unreplied (step_at_unended_line r line).reading.waiting)) none
+waits r none = ap (λ (line : List ℕ). then_events (step_at_unended_line r line).event (unreplied_packets (step_at_unended_line r line).reading.waiting)) none
 
 no_line : (r s : TraceReading) → s ≡ (step_at_last_line r).reading → s.line ≡ []
 no_line r s is = ap (λ (q : TraceReading). q.line) is ∙ line_gone r
 
 -- the end after the last line
-after_last : (r s : TraceReading) (event : Option Event) → Steps (step_at_last_line r) event s → end_events r ≡ then_events event (unreplied s.waiting)
+after_last : (r s : TraceReading) (event : Option Event) → Steps (step_at_last_line r) event s → end_events r ≡ then_events event (unreplied_packets s.waiting)
 after_last r s event step =
-    ap (λ (e : Option Event). then_events e (unreplied (step_at_last_line r).reading.waiting)) (sym step.event_is)
-    ∙ ap (λ (q : TraceReading). then_events event (unreplied q.waiting)) (sym step.reading_is)
+    ap (λ (e : Option Event). then_events e (unreplied_packets (step_at_last_line r).reading.waiting)) (sym step.event_is)
+    ∙ ap (λ (q : TraceReading). then_events event (unreplied_packets q.waiting)) (sym step.reading_is)
 
 pub end_some : (old new : TraceReading) (event : Event) → Steps (step_at_last_line old) (Some event) new → GivesFirstItem (end_events old) (Some event) (end_events new)
 end_some old new event step = after_last old new (Some event) step ∙ ap (λ (es : List Event). event ∷ es) (sym (waits new (no_line old new step.reading_is)))
 
 answered : (mid new : TraceReading) (waiting : List (List ℕ)) (event : Option Event) → mid.waiting ≡ waiting → mid.line ≡ [] → event ≡ (answer_for mid waiting None).event
-    → new ≡ (answer_for mid waiting None).reading → GivesFirstItem (unreplied waiting) event (end_events new)
+    → new ≡ (answer_for mid waiting None).reading → GivesFirstItem (unreplied_packets waiting) event (end_events new)
 answered mid new [] event is none event_is new_is =
-    subst (λ (e : Option Event). GivesFirstItem (unreplied []) e (end_events new)) (sym event_is)
-    (refl, ap end_events new_is ∙ waits mid none ∙ ap unreplied is)
+    subst (λ (e : Option Event). GivesFirstItem (unreplied_packets []) e (end_events new)) (sym event_is)
+    (refl, ap end_events new_is ∙ waits mid none ∙ ap unreplied_packets is)
 answered mid new (packet ∷ others) event is none event_is new_is =
-    subst (λ (e : Option Event). GivesFirstItem (unreplied (packet ∷ others)) e (end_events new)) (sym event_is)
+    subst (λ (e : Option Event). GivesFirstItem (unreplied_packets (packet ∷ others)) e (end_events new)) (sym event_is)
     (ap (λ (es : List Event). at.Exchange packet None ∷ es) (sym (ap end_events new_is ∙ waits (record mid { waiting = others }) none)))
 
 pub end_none : (old mid new : TraceReading) (event : Option Event) → Steps (step_at_last_line old) None mid → Steps (answer mid None) event new → GivesFirstItem (end_events old) event (end_events new)

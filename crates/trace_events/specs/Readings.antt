@@ -80,9 +80,9 @@ unfoldable pub step_at_last_line : TraceReading → TraceStep
 step_at_last_line r = step_at_unended_line r r.line
 
 -- packets without a reply
-abbrev pub unreplied : List (List ℕ) → List Event
-unreplied [] = []
-unreplied (packet ∷ others) = event.Exchange packet None ∷ unreplied others
+abbrev pub unreplied_packets : List (List ℕ) → List Event
+unreplied_packets [] = []
+unreplied_packets (packet ∷ others) = event.Exchange packet None ∷ unreplied_packets others
 
 -- ---- all events
 
@@ -93,7 +93,7 @@ then_events (Some first) events = first ∷ events
 
 -- the events at the end of all bytes: the last line, and then the packets that wait
 abbrev pub end_events : TraceReading → List Event
-end_events r = then_events (step_at_last_line r).event (unreplied (step_at_last_line r).reading.waiting)
+end_events r = then_events (step_at_last_line r).event (unreplied_packets (step_at_last_line r).reading.waiting)
 
 -- the events of these bytes, and of the end after them
 abbrev pub events_from : TraceReading → List ℕ → List Event

@@ -11,7 +11,7 @@ use Rattle.trace_events.proofs.EventLemmas.{event_given, event_over}
 use Rattle.trace_events.specs.Events.{GivesEvent, Place, events_in_trace, events_left, first_place}
 use Rattle.trace_words.specs.declared.trace.TraceEnd.{TraceEnd}
 use Rattle.trace_words.specs.declared.trace.TraceEnd.TheVariants as ends
-use Rattle.trace_words.specs.Telling.{Telling, Spoken, told_after_text, first_telling, tell, told}
+use Rattle.trace_words.specs.Telling.{Telling, Spoken, told_after_text, first_telling, tell, told_events}
 use Rattle.trace_words.specs.Words.{are_good, words_of_trace}
 
 -- This was put, and with the words of the events that come it is all words.
@@ -19,7 +19,7 @@ pub record Going (first now old new : Option (List ℕ)) (place : Place) (t : Te
   pub so_far : List ℕ
   pub put : Appends old new so_far
   pub ahead : (bytes : List ℕ) → first ≡ Some bytes
-      → (rest : List ℕ) × (now ≡ Some rest) × (told_after_text so_far (told t (events_left place rest)) ≡ told first_telling (events_in_trace bytes))
+      → (rest : List ℕ) × (now ≡ Some rest) × (told_after_text so_far (told_events t (events_left place rest)) ≡ told_events first_telling (events_in_trace bytes))
 
 -- nothing so far
 pub going_none : (a b : Option (List ℕ)) → Going a a b b first_place first_telling
@@ -36,8 +36,8 @@ both_texts a b x = ap (λ (text : List ℕ). record x { text = text }) (sym (app
 
 -- one event more
 one_more : (a : List ℕ) (t : Telling) (es : List Event) (e : Event) (more : List Event) → es ≡ e ∷ more
-    → told_after_text a (told t es) ≡ told_after_text (a ++ (tell t e).text) (told (tell t e).telling more)
-one_more a t es e more is = ap (λ (xs : List Event). told_after_text a (told t xs)) is ∙ both_texts a (tell t e).text (told (tell t e).telling more)
+    → told_after_text a (told_events t es) ≡ told_after_text (a ++ (tell t e).text) (told_events (tell t e).telling more)
+one_more a t es e more is = ap (λ (xs : List Event). told_after_text a (told_events t xs)) is ∙ both_texts a (tell t e).text (told_events (tell t e).telling more)
 
 pub going_on : (first now next old mid new : Option (List ℕ)) (place later : Place) (t u : Telling) (found : Option Event) (e : Event) → Going first now old mid place t
     → GivesEvent place later now next found → found ≡ Some e → Appends mid new (tell t e).text → u ≡ (tell t e).telling → Going first next old new later u
@@ -49,7 +49,7 @@ going_on first now next old mid new place later t u found e h gives found_is put
       let came = event_given place later now next found e gives found_is before.0 before.1 in (
         came.0,
         came.1,
-        ap (λ (s : Telling). told_after_text (h.so_far ++ (tell t e).text) (told s (events_left later came.0))) u_is
+        ap (λ (s : Telling). told_after_text (h.so_far ++ (tell t e).text) (told_events s (events_left later came.0))) u_is
             ∙ sym (one_more h.so_far t (events_left place before.0) e (events_left later came.0) came.2) ∙ before.2,
       );
 }
@@ -64,7 +64,7 @@ pub going_part : (first now old new : Option (List ℕ)) (place : Place) (t : Te
 going_part first now old new place t bytes h is =
     let before = h.ahead bytes is in
     subst (λ (text : List ℕ). AppendsPrefix old new text) (ap (λ (x : Spoken). x.text) before.2)
-    (prefix_first old new h.so_far (told t (events_left place before.0)).text (whole_put old new h.so_far h.put))
+    (prefix_first old new h.so_far (told_events t (events_left place before.0)).text (whole_put old new h.so_far h.put))
 
 abbrev cut : Result (Unit {0}) TraceEnd
 cut = Err ends.OutOfMemory
@@ -77,7 +77,7 @@ going_cut first now next old mid new place later t found e bytes h gives found_i
     let came = event_given place later now next found e gives found_is before.0 before.1 in
     let all = sym (one_more h.so_far t (events_left place before.0) e (events_left later came.0) came.2) ∙ before.2 in
     subst (λ (text : List ℕ). AppendsPrefix old new text) (ap (λ (x : Spoken). x.text) all)
-    (prefix_first old new (h.so_far ++ (tell t e).text) (told (tell t e).telling (events_left later came.0)).text
+    (prefix_first old new (h.so_far ++ (tell t e).text) (told_events (tell t e).telling (events_left later came.0)).text
     (put_after old mid new cut h.so_far (tell t e).text h.put part))
 
 -- the end
@@ -86,7 +86,7 @@ pub going_end : (first now next old new : Option (List ℕ)) (place later : Plac
 going_end first now next old new place later t found good bytes h gives found_is good_is is =
     let before = h.ahead bytes is in
     let came = event_over place later now next found gives found_is before.0 before.1 in
-    let all = ap (λ (xs : List Event). told_after_text h.so_far (told t xs)) (sym came.2) ∙ before.2 in (
+    let all = ap (λ (xs : List Event). told_after_text h.so_far (told_events t xs)) (sym came.2) ∙ before.2 in (
       subst (λ (text : List ℕ). Appends old new text) (sym (append-nil h.so_far) ∙ ap (λ (x : Spoken). x.text) all) h.put,
       good_is ∙ ap (λ (x : Spoken). x.telling.good) all,
     )

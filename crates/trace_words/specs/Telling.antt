@@ -51,6 +51,6 @@ tell t (event.Stray reply) = record { text = stray_line reply; telling = record 
 tell t (event.Other bytes) = record { text = bytes; telling = t }
 
 -- the words of events
-abbrev pub told : Telling → List Event → Spoken
-told t [] = record { text = []; telling = t }
-told t (first ∷ others) = told_after_text (tell t first).text (told (tell t first).telling others)
+abbrev pub told_events : Telling → List Event → Spoken
+told_events t [] = record { text = []; telling = t }
+told_events t (first ∷ others) = told_after_text (tell t first).text (told_events (tell t first).telling others)

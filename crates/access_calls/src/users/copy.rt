@@ -7,7 +7,7 @@ ghost use Rattle.target_calls.specs.NeedPoints.{nothing_asked};
 ghost use Rattle.access_calls.specs.Answers.{StopsCalls};
 ghost use Rattle.access_calls.specs.Asking.{MayAsk};
 ghost use Rattle.access_calls.specs.CallEnds.{EndsAtAsk, InEachWorld};
-ghost use Rattle.access_calls.specs.Copy.{AccessEndsAs, HasSinkCause, IsCopyEnd, copied, read_word, write_word};
+ghost use Rattle.access_calls.specs.Copy.{AccessEndsAs, HasSinkCause, IsCopyEnd, copy_result, read_word, write_word};
 ghost use Rattle.access_calls.specs.Keeps.{KeepsAccess};
 ghost use Rattle.access_calls.specs.Left.{answered_by};
 ghost use Rattle.access_calls.specs.Reported.{world_from};
@@ -86,7 +86,7 @@ pub fn copy_word<A: Access, K: Sink>(from: u32, to: u32, access: &mut A, sink: &
     requires open { (A.reported access.old).end ≡ None }
     requires fresh { (A.reported access.old).asks ≡ nothing_asked }
     ensures answer { (m : BenchState) → A.begun access.old m
-        → IsCopyEnd result (A.reported access.new) (copied (world_from m (answered_by (A.reported access.new))) from to) (K.written sink.old) (K.written sink.new) }
+        → IsCopyEnd result (A.reported access.new) (copy_result (world_from m (answered_by (A.reported access.new))) from to) (K.written sink.old) (K.written sink.new) }
     ensures end { AccessEndsAs result (A.reported access.new).end }
     ensures cause { HasSinkCause result (K.faults sink.old) (K.faults sink.new) }
     ensures keeps { KeepsAccess A.begun A.reported A.identity access.old access.new }

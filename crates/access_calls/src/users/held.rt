@@ -1,6 +1,6 @@
 //! A struct that owns an access, which may be lent.
 ghost use Rattle.std.specs.Prelude.{◌≡◌, OnOk, IfErr, IfSome, Err};
-ghost use Rattle.target_calls.specs.NeedPoints.{needed};
+ghost use Rattle.target_calls.specs.NeedPoints.{asks_at_need};
 ghost use Rattle.access_calls.specs.Answers.{IsEnd, NoMemory};
 ghost use Rattle.access_calls.specs.CallEnds.{EndsAtFlush};
 ghost use Rattle.access_calls.specs.GoesOn.{AccessGoesOn};
@@ -24,7 +24,7 @@ impl<A: Access> AccessOwner<A> {
     /// Makes all that was asked. Takes no memory. At an error the access has ended with it, and an access
     /// that had ended answers its end again.
     pub fn flush(&mut self) -> Result<(), Stop>
-        ensures asks { OnOk result ((A.reported self.new.access).asks ≡ needed (A.reported self.old.access).asks) }
+        ensures asks { OnOk result ((A.reported self.new.access).asks ≡ asks_at_need (A.reported self.old.access).asks) }
         ensures ends { EndsAtFlush A.begun A.reported A.identity result self.old.access self.new.access }
     {
         self.access.flush()
@@ -41,7 +41,7 @@ impl<A: Access> AccessOwner<A> {
 /// Lends an access to an `AccessOwner`, lets that make all that was asked, and takes it back. Takes no memory. At an
 /// error the access has ended with it, and an access that had ended answers its end again.
 pub fn flush_lent<A: Access>(access: &mut A) -> Result<(), Stop>
-    ensures asks { OnOk result ((A.reported access.new).asks ≡ needed (A.reported access.old).asks) }
+    ensures asks { OnOk result ((A.reported access.new).asks ≡ asks_at_need (A.reported access.old).asks) }
     ensures memory { IfErr result NoMemory }
     ensures end { IfErr result (IsEnd (A.reported access.new).end) }
     ensures ended { IfSome (A.reported access.old).end (λ s. result ≡ Err s) }

@@ -3,7 +3,7 @@ ghost use Rattle.std.specs.Prelude.{◌≡◌};
 ghost use Rattle.dap_base.specs.Bits.{has_bit};
 ghost use Rattle.target_machine.specs.Registers.{cfg_la};
 ghost use Rattle.target_machine.specs.Sound.{IsSound};
-ghost use Rattle.access_regs.specs.Plan.{learned, learned_cfg, made, settled};
+ghost use Rattle.access_regs.specs.Plan.{kept_after_csw, learned_cfg, kept_after_plan, kept_after_settling};
 
 use super::Managed;
 use crate::values::{increment_off, planned_csw, predict_tar, select_value};
@@ -18,7 +18,7 @@ impl Managed {
     /// no longer known. Of a write of SELECT the value is noted as it was written.
     pub fn note_made(&mut self, unit: &Unit)
         requires sound { IsSound unit.now }
-        ensures { self.new ≡ made self.old unit.now }
+        ensures { self.new ≡ kept_after_plan self.old unit.now }
     {
         match *unit {
             Unit::Memory {
@@ -59,7 +59,7 @@ impl Managed {
 
     /// The settling was made, where there was one: no access port is unsettled now.
     pub fn note_settled(&mut self)
-        ensures { self.new ≡ settled self.old }
+        ensures { self.new ≡ kept_after_settling self.old }
     {
         if let Some(unsettled) = self.unsettled {
             let known = self.known_port(unsettled.ap);
@@ -76,7 +76,7 @@ impl Managed {
 
     /// The first plan of this access port was made, and read this CSW.
     pub fn learn(&mut self, ap: u8, csw: u32)
-        ensures { self.new ≡ learned self.old ap csw }
+        ensures { self.new ≡ kept_after_csw self.old ap csw }
     {
         let known = self.known_port(ap);
         let after = Known {

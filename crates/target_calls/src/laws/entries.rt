@@ -1,7 +1,7 @@
 //! Entries of a journal.
 ghost use Rattle.std.specs.Prelude.{◌≡◌, ℕ, suc, ◌+◌, ◌*◌, ◌<◌, ◌≤◌, true, List, ◌∷◌, ◌++◌, length, take, Some, None};
 ghost use Rattle.target_calls.specs.Journal.{Entry, Passes, attempted_in, first_fault, is_unforgiven, skipped_in, target_after};
-ghost use Rattle.target_calls.specs.Weights.{AreWeighty, IsWeighty, commands_in, performed, registers_in, weight, weight_in};
+ghost use Rattle.target_calls.specs.Weights.{AreWeighty, IsWeighty, commands_in, entries_performed, registers_in, weight, weight_in};
 ghost use Rattle.target_calls.specs.World.{later_by};
 ghost use Rattle.target_machine.specs.Packets.{delay_commands};
 ghost use Rattle.target_machine.specs.Plain.{Action};
@@ -32,13 +32,13 @@ pub fn passing_entries()
 
 /// The entries that were performed are the most from the front that weigh no more than the work.
 pub fn performed_entries()
-    ensures within { (t : TargetState) (entries : List Entry) (work : ℕ) → performed t entries work ≤ length entries }
-    ensures fits { (t : TargetState) (entries : List Entry) (work : ℕ) → weight_in t (take (performed t entries work) entries) ≤ work }
-    ensures most { (t : TargetState) (entries : List Entry) (work n : ℕ) → n ≤ length entries → weight_in t (take n entries) ≤ work → n ≤ performed t entries work }
+    ensures within { (t : TargetState) (entries : List Entry) (work : ℕ) → entries_performed t entries work ≤ length entries }
+    ensures fits { (t : TargetState) (entries : List Entry) (work : ℕ) → weight_in t (take (entries_performed t entries work) entries) ≤ work }
+    ensures most { (t : TargetState) (entries : List Entry) (work n : ℕ) → n ≤ length entries → weight_in t (take n entries) ≤ work → n ≤ entries_performed t entries work }
     ensures weighs { (t : TargetState) (action : Action) → IsWeighty action → 0 < weight t action }
-    ensures front { (t : TargetState) (xs ys : List Entry) → AreWeighty ys → performed t (xs ++ ys) (weight_in t xs) ≡ length xs }
+    ensures front { (t : TargetState) (xs ys : List Entry) → AreWeighty ys → entries_performed t (xs ++ ys) (weight_in t xs) ≡ length xs }
     ensures part { (t : TargetState) (xs : List Entry) (e : Entry) (ys : List Entry) (more : ℕ) → more < weight (target_after t xs) e.action
-        → performed t (xs ++ e ∷ ys) (weight_in t xs + more) ≡ length xs }
+        → entries_performed t (xs ++ e ∷ ys) (weight_in t xs + more) ≡ length xs }
 {}
 
 /// A delay takes the fewest commands of at most 65,535 microseconds, and at least one.

@@ -1,6 +1,6 @@
 //! Need points.
 ghost use Rattle.std.specs.Prelude.{◌≡◌, ℕ, ◌+◌, ◌^◌, ◌<◌, ◌≤◌, [], ◌∷◌, ◌++◌, length};
-ghost use Rattle.target_calls.specs.NeedPoints.{Asks, Cost, asked, finished, needed, needed_more, used};
+ghost use Rattle.target_calls.specs.NeedPoints.{Asks, Cost, asks_with_call, asks_at_finish, asks_at_need, needed_more, asks_at_use};
 ghost use Rattle.target_calls.specs.declared.calls.Ask.{Ask};
 ghost use Rattle.target_calls.specs.declared.calls.Slot.{Slot};
 
@@ -11,13 +11,13 @@ pub fn need_points_add()
     ensures most { (more : ℕ) (asks : Asks) → (needed_more more asks).needs ≤ asks.needs + more }
     ensures least { (more : ℕ) (asks : Asks) → asks.needs < 2 ^ 64 → asks.needs ≤ (needed_more more asks).needs }
     ensures calls { (more : ℕ) (asks : Asks) → (needed_more more asks).calls ≡ asks.calls }
-    ensures used { (slot : Slot) (asks : Asks) → (used slot asks).calls ≡ asks.calls }
-    ensures asked { (cost : Cost) (ask : Ask) (asks : Asks) → (asked cost ask asks).calls ≡ asks.calls ++ ask ∷ [] }
+    ensures used { (slot : Slot) (asks : Asks) → (asks_at_use slot asks).calls ≡ asks.calls }
+    ensures asked { (cost : Cost) (ask : Ask) (asks : Asks) → (asks_with_call cost ask asks).calls ≡ asks.calls ++ ask ∷ [] }
 {}
 
 /// After a need point the use of a slot that was asked before it makes none.
 pub fn uses_after_a_need_point()
-    ensures needed { (slot : Slot) (asks : Asks) → slot.index < length asks.calls → used slot (needed asks) ≡ needed asks }
-    ensures finished { (slot : Slot) (asks : Asks) → slot.index < length asks.calls → used slot (needed (finished asks)) ≡ needed (finished asks) }
-    ensures used { (slot : Slot) (asks : Asks) → slot.index < length asks.calls → used slot (used slot asks) ≡ used slot asks }
+    ensures needed { (slot : Slot) (asks : Asks) → slot.index < length asks.calls → asks_at_use slot (asks_at_need asks) ≡ asks_at_need asks }
+    ensures finished { (slot : Slot) (asks : Asks) → slot.index < length asks.calls → asks_at_use slot (asks_at_need (asks_at_finish asks)) ≡ asks_at_need (asks_at_finish asks) }
+    ensures used { (slot : Slot) (asks : Asks) → slot.index < length asks.calls → asks_at_use slot (asks_at_use slot asks) ≡ asks_at_use slot asks }
 {}

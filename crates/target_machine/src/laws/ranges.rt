@@ -3,9 +3,9 @@ ghost use Rattle.std.specs.Prelude.{◌≤◌, ℕ, List};
 ghost use Rattle.std.specs.List.{AllByRecursion};
 ghost use Rattle.target_machine.specs.Attempt.{attempt};
 ghost use Rattle.target_machine.specs.InRange.{IsActionInRange, IsAttemptInRange, IsInRange, IsJobInRange, IsWord};
-ghost use Rattle.target_machine.specs.Lines.{clock_set, delayed, line_shifted, pins_set};
+ghost use Rattle.target_machine.specs.Lines.{clock_set, delayed_target, line_shifted, pins_set};
 ghost use Rattle.target_machine.specs.Lists.{after};
-ghost use Rattle.target_machine.specs.Plain.{Action, acted, in_order};
+ghost use Rattle.target_machine.specs.Plain.{Action, action_attempt, in_order};
 ghost use Rattle.target_machine.specs.Ranges.{IsTargetJob};
 ghost use Rattle.target_machine.specs.Start.{start};
 ghost use Rattle.target_machine.specs.State.{TargetState};
@@ -21,7 +21,7 @@ pub fn start_is_in_range()
 /// one after the other.
 pub fn actions_stay_in_range()
     ensures access { (t : TargetState) (a : RegAccess) → IsInRange t → IsWord a.value → IsAttemptInRange (attempt t a) }
-    ensures one { (t : TargetState) (action : Action) → IsInRange t → IsActionInRange action → IsAttemptInRange (acted t action) }
+    ensures one { (t : TargetState) (action : Action) → IsInRange t → IsActionInRange action → IsAttemptInRange (action_attempt t action) }
     ensures in_order { (t : TargetState) (actions : List Action) → IsInRange t → AllByRecursion IsActionInRange actions → IsAttemptInRange (in_order t actions) }
     ensures after { (t : TargetState) (actions : List Action) → IsInRange t → AllByRecursion IsActionInRange actions → IsInRange (after t actions) }
 {}
@@ -31,5 +31,5 @@ pub fn lines_stay_in_range()
     ensures pins { (t : TargetState) (output select : ℕ) → IsInRange t → IsInRange (pins_set t output select) }
     ensures line { (t : TargetState) (count bits : ℕ) → IsInRange t → count ≤ 64 → IsInRange (line_shifted t count bits) }
     ensures clock { (t : TargetState) (hertz : ℕ) → IsInRange t → IsWord hertz → IsInRange (clock_set t hertz) }
-    ensures delay { (t : TargetState) (micros : ℕ) → IsInRange t → IsInRange (delayed t micros) }
+    ensures delay { (t : TargetState) (micros : ℕ) → IsInRange t → IsInRange (delayed_target t micros) }
 {}

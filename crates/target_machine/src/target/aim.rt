@@ -7,7 +7,7 @@ use crate::ap::{self, ApState, plain_csw};
 use crate::registers::{CDBGPWRUPREQ, CSW, TAR};
 
 impl Target {
-    ghost use Rattle.target_machine.specs.Attempt.{done};
+    ghost use Rattle.target_machine.specs.Attempt.{done_attempt};
     ghost use Rattle.target_machine.specs.Plain.{in_order};
     ghost use Rattle.target_machine.specs.Aim.{aim_actions, aimed_target, can_aim};
 
@@ -33,7 +33,7 @@ impl Target {
     /// `false` where STICKYERR is set, the debug power is not acknowledged, or there is no such port. Nothing has changed then.
     pub fn aim(&mut self, ap: u8, size: u8, address: u32) -> bool
         ensures aims { result ≡ can_aim self.old ap }
-        ensures made { result ≡ true → in_order self.old (aim_actions self.old ap size address) ≡ done self.new }
+        ensures made { result ≡ true → in_order self.old (aim_actions self.old ap size address) ≡ done_attempt self.new }
         ensures same { result ≡ false → self.new ≡ self.old }
     {
         if self.sticky || !self.acknowledges(CDBGPWRUPREQ) {

@@ -1,6 +1,6 @@
 //! A command of the probe, done at once.
 ghost use Rattle.std.specs.Prelude.{◌≡◌, false};
-ghost use Rattle.target_machine.specs.Plain.{commanded, given, is_fault};
+ghost use Rattle.target_machine.specs.Plain.{command_attempt, given_number, is_fault};
 ghost use Rattle.target_machine.specs.Sound.{IsSoundProbe};
 
 use super::{Target, attempt};
@@ -13,9 +13,9 @@ impl Target {
     #[tactic(auto, using(crate::proofs::CommandLemmas::command_passes))]
     pub fn command(&mut self, call: ProbeCall) -> u32
         requires { IsSoundProbe call }
-        ensures value { result ≡ given (commanded self.old call).outcome }
-        ensures passes { is_fault (commanded self.old call).outcome ≡ false }
-        ensures next { self.new ≡ (commanded self.old call).next }
+        ensures value { result ≡ given_number (command_attempt self.old call).outcome }
+        ensures passes { is_fault (command_attempt self.old call).outcome ≡ false }
+        ensures next { self.new ≡ (command_attempt self.old call).next }
     {
         match call {
             ProbeCall::Delay(micros) => {

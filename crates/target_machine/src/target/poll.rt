@@ -14,7 +14,7 @@ pub struct PollEnd {
 
 impl Target {
     ghost use Rattle.target_machine.specs.Attempt.{bank};
-    ghost use Rattle.target_machine.specs.Plain.{polled};
+    ghost use Rattle.target_machine.specs.Plain.{poll_result};
     ghost use Rattle.target_machine.specs.PollCounts.{is_match, reads_counted, waits};
 
     // Whether there is a match among so many reads that show what CTRL/STAT shows now.
@@ -43,7 +43,7 @@ impl Target {
     // A poll with another DPBANKSEL: what is read is 0.
     fn poll_elsewhere(&self, mask: u32, requested: u32, turns: u32) -> PollEnd
         requires { bank self.now ≢ 0 }
-        ensures { record { outcome = result.outcome; reads = result.reads; next = self.now } ≡ polled turns mask requested self.now }
+        ensures { record { outcome = result.outcome; reads = result.reads; next = self.now } ≡ poll_result turns mask requested self.now }
     {
         if turns == 0 {
             PollEnd {
@@ -74,7 +74,7 @@ impl Target {
     /// The outcome is `Value(1)` where a read matched, else `Value(0)`. With another DPBANKSEL than 0 each read gives 0, and nothing
     /// changes. There, where STICKYERR is set, the first read is a `Fault`.
     pub fn poll(&mut self, mask: u32, requested: u32, turns: u32) -> PollEnd
-        ensures { record { outcome = result.outcome; reads = result.reads; next = self.new } ≡ polled turns mask requested self.old }
+        ensures { record { outcome = result.outcome; reads = result.reads; next = self.new } ≡ poll_result turns mask requested self.old }
     {
         if self.bank() != 0 {
             return self.poll_elsewhere(mask, requested, turns);

@@ -1,5 +1,5 @@
 use Rattle.std.proofs.Common.{◌≡◌, ◌+◌, length, fold}
-use Rattle.probe_core.specs.Bench.{StepsTo, received}
+use Rattle.probe_core.specs.Bench.{StepsTo, reported_after_reply}
 use Rattle.probe_core.specs.Runs.{KeepsRuns}
 use Rattle.batch_packer.specs.Exchanges.{StaysAt}
 use Rattle.batch_packer.specs.Queues.{HandedSome}
@@ -7,7 +7,7 @@ use Rattle.batch_packer.proofs.queue.receive_all.Given as goal
 
 abbrev pub invariant-loop : goal.invariant-loop
 invariant-loop g l = record {
-  reported : g.B.Bench.reported l.bench ≡ fold received (g.B.Bench.reported l.fn.bench) l.replies.items;
+  reported : g.B.Bench.reported l.bench ≡ fold reported_after_reply (g.B.Bench.reported l.fn.bench) l.replies.items;
   state : StepsTo (HandedSome l.replies.items) (g.B.Bench.state l.fn.bench) (g.B.Bench.state l.bench);
   runs : KeepsRuns (g.B.Bench.state l.fn.bench) (g.B.Bench.state l.bench);
   identity : g.B.Bench.identity l.bench ≡ g.B.Bench.identity l.fn.bench;

@@ -5,7 +5,7 @@ use Rattle.dapseq_tool.specs.Headline.{BenchCall, BenchMoment, bench_moment}
 use Rattle.dapseq_tool.specs.declared.memory.InMemory.{InMemory}
 use Rattle.dapseq_tool.proofs.MemoryLemmas.{done_in_memory, quiet_zero, quiet_sink}
 use Rattle.dapseq_tool.proofs.memory.dapseq_in_memory.Goals as goal
-use Rattle.dapseq_tool.specs.Packed.{packed}
+use Rattle.dapseq_tool.specs.Packed.{packed_kind}
 
 -- what is known of objects in memory
 abbrev at : SourceState → SinkState → MemoryBenchState → BenchMoment
@@ -39,7 +39,7 @@ returns-clause-done c =
       bench = quiet_zero 0 0 refl refl;
       memory = c.if-is_out_of_room.ensures.0;
     }) refl in
-    done_in_memory packed c.args.words.now c.args.bytes.now end call (record {
+    done_in_memory packed_kind c.args.words.now c.args.bytes.now end call (record {
       words_are = refl;
       bytes_are = ap Some c.in_ok-source.ensures;
       empty = ap (λ (k : SinkState). Some k.written) c.in_ok-sink.ensures;

@@ -3,7 +3,7 @@ use Rattle.probe_core.specs.declared.job.Config.{Config}
 use Rattle.probe_core.specs.Bench.{BenchState, fresh}
 use Rattle.access_calls.specs.Opening.{IsNotBegun, MayBegin, opened_bench}
 use Rattle.access_calls.proofs.OpeningLemmas.{loaded_may_begin}
-use Rattle.probe_core.specs.Bench.{seen}
+use Rattle.probe_core.specs.Bench.{seen_bench}
 use Rattle.access_calls.specs.Left.{answered_by}
 use Rattle.access_calls.proofs.KeepLemmas.{left_by}
 use Rattle.control_flow.proofs.EndRules.{no_lines}
@@ -40,10 +40,10 @@ pub returns-in-Err-clause-run : goal.returns-in-Err-clause-run
 returns-in-Err-clause-run g c = λ is.
     let old = g.K.Sink.written c.args.sink.now in
     let may : MayBegin (fresh c.args.run_of.now.job.bench) = loaded_may_begin c.args.run_of.now.job.bench c.requires.may.job c.args.run_of.now.job.in_range in
-    let refused = subst (λ (k : Config). IsNotBegun k (seen g.B.Bench.reported g.B.Bench.state c.args.bench) (seen g.B.Bench.reported g.B.Bench.state c.in-Err.refused.bench) c.in-Err.refused.stop
+    let refused = subst (λ (k : Config). IsNotBegun k (seen_bench g.B.Bench.reported g.B.Bench.state c.args.bench) (seen_bench g.B.Bench.reported g.B.Bench.state c.in-Err.refused.bench) c.in-Err.refused.stop
     (take c.in-Err.refused.sent_length c.in-Err.refused.sent) (take c.in-Err.refused.got_length c.in-Err.refused.got)) c.config_of.ensures c.in-Err.ensures.refused in
     let r = not_begun (access_kind g.A.Access.journal g.A.Access.cost g.A.Access.is_sparing) (config_of c.args.run_of.now.job.settings) c.args.run_of.now.job.bench (task_with c.args.run_of.now c.args.sequence.now (sequel_of c.args.followed.now)) old c.in-Err.refused.stop
-    (seen g.B.Bench.reported g.B.Bench.state c.args.bench) (seen g.B.Bench.reported g.B.Bench.state c.in-Err.refused.bench)
+    (seen_bench g.B.Bench.reported g.B.Bench.state c.args.bench) (seen_bench g.B.Bench.reported g.B.Bench.state c.in-Err.refused.bench)
     (take c.in-Err.refused.sent_length c.in-Err.refused.sent) (take c.in-Err.refused.got_length c.in-Err.refused.got)
     c.end_begin.result.ended (known_after old old) is may refused c.end_begin.ensures.ending (nothing_written old) in
     (r.0, ap g.B.Bench.state c.end_begin.ensures.bench ∙ r.1, r.2)

@@ -2,7 +2,7 @@ use Rattle.std.proofs.Common.{rules, ◌≡◌, ◌∙◌, ◌+◌, [], length, 
 use Rattle.access_calls.specs.Reported.{world_from}
 use Rattle.target_calls.specs.Asks.{unit_ask}
 use Rattle.sequels.proofs.MeetingLemmas.{whole_after}
-use Rattle.rom_scan.specs.Walk.{component, scanned}
+use Rattle.rom_scan.specs.Walk.{component, scanned_port}
 use Rattle.rom_scan.proofs.EndLemmas.{ends_as, ends_asked, ends_on, ends_stop}
 use Rattle.rom_scan.proofs.FullLemmas.{at_full}
 use Rattle.rom_scan.proofs.ScanLemmas.{base_none, base_some, base_stops, lists_on}
@@ -34,8 +34,8 @@ returns-in-Ok-list_from-clause-gives g c = λ m answered b l whole.
     let rest = component 1024 c.args.ap 7 c.page_of.result [] in
     let r = base_some w c.args.ap old before (unit_ask c.base_unit.result true) c.base_unit.ensures.asks mid c.in-Ok.base (c.in-Ok.ensures.gives m answered before b (e.ends.ends.keeps.goes.left answered l) whole) c.page_of.result
     (sym c.is_no_base.ensures ∙ c.if-is_no_base.false) c.page_of.ensures.page in
-    lists_on w a.lines (scanned 1024 c.args.ap) rest (Ok (1 + c.in-Ok-list_from.more)) old mid a.asks.calls before before now whole r
-    (e.gives m answered (c.in-Ok.ensures.ends.keeps.on m b) l (whole_after w (scanned 1024 c.args.ap) rest old mid before before whole r))
+    lists_on w a.lines (scanned_port 1024 c.args.ap) rest (Ok (1 + c.in-Ok-list_from.more)) old mid a.asks.calls before before now whole r
+    (e.gives m answered (c.in-Ok.ensures.ends.keeps.on m b) l (whole_after w (scanned_port 1024 c.args.ap) rest old mid before before whole r))
 
 pub returns-in-Err-list_from-clause-gives : goal.returns-in-Err-list_from-clause-gives
 returns-in-Err-list_from-clause-gives g c = λ m answered b l whole.
@@ -49,8 +49,8 @@ returns-in-Err-list_from-clause-gives g c = λ m answered b l whole.
     let rest = component 1024 c.args.ap 7 c.page_of.result [] in
     let r = base_some w c.args.ap old before (unit_ask c.base_unit.result true) c.base_unit.ensures.asks mid c.in-Ok.base (c.in-Ok.ensures.gives m answered before b (e.ends.ends.keeps.goes.left answered l) whole) c.page_of.result
     (sym c.is_no_base.ensures ∙ c.if-is_no_base.false) c.page_of.ensures.page in
-    lists_on w a.lines (scanned 1024 c.args.ap) rest (Err c.in-Err-list_from.end) old mid a.asks.calls before before now whole r
-    (e.gives m answered (c.in-Ok.ensures.ends.keeps.on m b) l (whole_after w (scanned 1024 c.args.ap) rest old mid before before whole r))
+    lists_on w a.lines (scanned_port 1024 c.args.ap) rest (Err c.in-Err-list_from.end) old mid a.asks.calls before before now whole r
+    (e.gives m answered (c.in-Ok.ensures.ends.keeps.on m b) l (whole_after w (scanned_port 1024 c.args.ap) rest old mid before before whole r))
 
 pub returns-in-Err-list_from-clause-full : goal.returns-in-Err-list_from-clause-full
 returns-in-Err-list_from-clause-full g c =

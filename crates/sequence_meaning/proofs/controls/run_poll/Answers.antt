@@ -1,6 +1,6 @@
 use Rattle.std.proofs.Common.{◌≡◌, arith, nat_eq, refl, true}
 use Rattle.std.proofs.lemmas.Grind.{common_steps}
-use Rattle.sequence_rules.specs.Steps.{dropped, poll_result, poll_result_at}
+use Rattle.sequence_rules.specs.Steps.{dropped_value, poll_result, poll_result_at}
 use Rattle.sequence_meaning.proofs.FrameLemmas.{made_on, stopped_caused, stopped_means}
 use Rattle.sequence_meaning.proofs.StopLemmas.{poll_ask, poll_first}
 use Rattle.sequence_meaning.proofs.controls.run_poll.Goals as goal
@@ -34,7 +34,7 @@ returns-in_err-ask c =
     }
 
 pub returns : goal.returns
-unfolding poll_result poll_result_at dropped
+unfolding poll_result poll_result_at dropped_value
 returns c =
     let counts = c.in_ok-count_step.ensures c.args.target.now in record {
       gives = λ written. grind (arith, common_steps);

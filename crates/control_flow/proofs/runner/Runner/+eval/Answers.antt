@@ -5,12 +5,12 @@ use Rattle.access_calls.proofs.KeepLemmas.{keeps_on}
 use Rattle.seq_check.specs.Answers.{checked_trees}
 use Rattle.sequence_trees.specs.Trees.{NoSteps, step_tree, steps_tree, steps_named}
 use Rattle.sequence_rules.specs.Late.{late}
-use Rattle.sequence_rules.specs.Steps.{after_counted, condition, counted, controlled, declared, dropped, statement, turn}
+use Rattle.sequence_rules.specs.Steps.{after_counted, condition, counted_step, control_result, declared_variable, dropped_value, statement, turn}
 use Rattle.sequence_rules.proofs.LateLemmas.{later_same}
 use Rattle.sequence_rules.proofs.LoopLemmas as loop
 use Rattle.sequence_rules.proofs.Made.{no_cost}
 use Rattle.sequence_rules.specs.Values as v
-use Rattle.sequence_rules.specs.Values.{all_used, appended, assigned, call_of, call_result, choice, conjunction, disjunction, numbers_of, of_unary, operands, strict_binary, truth_of, used_now, value}
+use Rattle.sequence_rules.specs.Values.{all_used, appended_values, assigned_value, call_of, call_result, choice, conjunction, disjunction, numbers_of, of_unary, operands, strict_binary, truth_of, used_now, value}
 use Rattle.sequence_rules.specs.Known.{known_part}
 use Rattle.function_calls.specs.Frame.{IsReadyToCall}
 use Rattle.function_calls.specs.Held.{late_state_of, late_state_seen}
@@ -66,12 +66,12 @@ evaluate_choice-returns-in_err-number g t c =
     writing_end _ (λ cost w x. later_cond w x.1 (nat_eq x.0 0) _ _ (value_later c.args.self.now c.args.depth cost w (tree c.args.second.now) x.1) (value_later c.args.self.now c.args.depth cost w (tree c.args.first.now) x.1)) c.from_residual.ensures.1 c.in_err-number.ensures
 
 pub assign-returns-in_err-value : goal.assign-returns-in_err-value
-unfolding assigned
+unfolding assigned_value
 assign-returns-in_err-value g t c =
     writing_end _ (λ cost w x. later_stored cost w c.args.name.now x.0 x.1) c.from_residual.ensures.1 c.in_err-value.ensures
 
 pub assign-returns : goal.assign-returns
-unfolding assigned
+unfolding assigned_value
 assign-returns g t c =
     writing_on _ c.in_ok-value.ensures (writing_by_call (call_changes (ready_after c.in_ok-value.ensures.ends) c.store.ensures.units (λ w asks written.
     stored_on g.A.Access.cost w c.args.name.now c.in_ok-value.value _ _ (rw c.as_str.ensures at (c.store.ensures.state asks written)))))
@@ -117,19 +117,19 @@ evaluate_or-returns-in_err-number g t c =
     writing_end _ (λ cost w x. later_cond w x.1 (nat_eq x.0 0) _ _ (truth_later c.args.self.now c.args.depth cost w (tree c.args.right.now) x.1) (later_ok w x.1 _)) c.from_residual.ensures.1 c.in_err-number.ensures
 
 pub push_value-returns-in_err-value : goal.push_value-returns-in_err-value
-unfolding appended
+unfolding appended_values
 push_value-returns-in_err-value g t c =
     writing_end _ (λ cost w x. later_ok w x.1 _) (err_by _ _ c.from_residual.result c.from_residual.ensures.1) c.in_err-value.ensures
 
 pub push_value-returns-in-Err : goal.push_value-returns-in-Err
-unfolding appended
+unfolding appended_values
 push_value-returns-in-Err g t c =
     writing_on _ c.in_ok-value.ensures (writing_by_call (call_refused (ready_after c.in_ok-value.ensures.ends) (λ w asks written. later_same no_cost w _)))
 
 pub run_expression-returns-in_err-evaluate : goal.run_expression-returns-in_err-evaluate
-unfolding after_counted dropped
+unfolding after_counted dropped_value
 run_expression-returns-in_err-evaluate g t c =
-    writing_on _ (writing_by_call (call_changes {p = λ m. counted m} c.requires.ready c.count_step.ensures.units (λ w asks written. c.in-Ok.ensures.gives g.A.Access.cost w asks written)))
+    writing_on _ (writing_by_call (call_changes {p = λ m. counted_step m} c.requires.ready c.count_step.ensures.units (λ w asks written. c.in-Ok.ensures.gives g.A.Access.cost w asks written)))
     (writing_end _ (λ cost w x. later_ok w x.1 _) c.from_residual.ensures.1 c.in_err-evaluate.ensures)
 
 pub call_listed-returns-in_err-evaluate_arguments : goal.call_listed-returns-in_err-evaluate_arguments
@@ -286,7 +286,7 @@ run_named-returns-then-depth-eq0 g t c =
 pub run_turn-returns-in_err-number : goal.run_turn-returns-in_err-number
 unfolding turn
 run_turn-returns-in_err-number g t c =
-    writing_on {p = λ m. counted m} _ (writing_by_call (call_changes c.requires.ready c.count_step.ensures.units (λ w asks written. c.in-Ok.ensures.gives g.A.Access.cost w asks written))) (writing_end _ (λ cost w x. turn_later c.args.self.now c.args.depth cost w (steps_tree c.args.steps.now) x.0 x.1) c.from_residual.ensures.1 c.in_err-number.ensures)
+    writing_on {p = λ m. counted_step m} _ (writing_by_call (call_changes c.requires.ready c.count_step.ensures.units (λ w asks written. c.in-Ok.ensures.gives g.A.Access.cost w asks written))) (writing_end _ (λ cost w x. turn_later c.args.self.now c.args.depth cost w (steps_tree c.args.steps.now) x.0 x.1) c.from_residual.ensures.1 c.in_err-number.ensures)
 
 pub declare-returns-in-Ok-declare : goal.declare-returns-in-Ok-declare
 declare-returns-in-Ok-declare g t c = record {
@@ -305,9 +305,9 @@ declare-returns-in-Err-declare g t c = record {
 }
 
 pub declare-returns-in_err-value : goal.declare-returns-in_err-value
-unfolding after_counted declared
+unfolding after_counted declared_variable
 declare-returns-in_err-value g t c =
-    writing_on {p = λ m. counted m} _ (writing_by_call (call_changes c.requires.ready c.count_step.ensures.units (λ w asks written. c.in-Ok.ensures.gives g.A.Access.cost w asks written))) (writing_end _ (λ cost w x. later_variables w x.1 x.1.globals _) c.from_residual.ensures.1 c.in_err-value.ensures)
+    writing_on {p = λ m. counted_step m} _ (writing_by_call (call_changes c.requires.ready c.count_step.ensures.units (λ w asks written. c.in-Ok.ensures.gives g.A.Access.cost w asks written))) (writing_end _ (λ cost w x. later_variables w x.1 x.1.globals _) c.from_residual.ensures.1 c.in_err-value.ensures)
 
 pub call_function-returns-in-None : goal.call_function-returns-in-None
 call_function-returns-in-None g t c =
@@ -315,7 +315,7 @@ call_function-returns-in-None g t c =
     rw c.in-None.is (writing_by_call (call_same ready (λ w s. called_none g.A.Access.cost w (late_calls_of (late g.A.Access.cost w) c.args.self.now c.args.depth) c.args.text.now c.args.numbers.now s)))
 
 pub run_control-returns-in_err-test_condition : goal.run_control-returns-in_err-test_condition
-unfolding controlled
+unfolding control_result
 run_control-returns-in_err-test_condition g t c =
     writing_end _ (λ cost w x. later_cond w x.1 x.0 _ _ (repeat_later c.args.self.now c.args.depth cost w (option_map tree c.args.repeat.now) c.args.timeout (steps_tree c.args.steps.now) x.1) (later_ok w x.1 _)) c.from_residual.ensures.1 c.in_err-test_condition.ensures
 
@@ -429,7 +429,7 @@ pub run_turn-returns-in_err-run_inside : goal.run_turn-returns-in_err-run_inside
 unfolding turn
 run_turn-returns-in_err-run_inside g t c =
     let some : nat_eq c.in_ok-number.number 0 ≡ false = grind arith in
-    writing_on {p = λ m. counted m} _ (writing_by_call (call_changes c.requires.ready c.count_step.ensures.units (λ w asks written. c.in-Ok.ensures.gives g.A.Access.cost w asks written)))
+    writing_on {p = λ m. counted_step m} _ (writing_by_call (call_changes c.requires.ready c.count_step.ensures.units (λ w asks written. c.in-Ok.ensures.gives g.A.Access.cost w asks written)))
     (writing_on _ c.in_ok-number.ensures (writing_as (λ w s. rw some refl) (writing_end (λ m y. Ok (true, y.1)) (λ cost w y. later_ok w y.1 true) c.from_residual-in_err-run_inside.ensures.1 c.in_err-run_inside.ensures)))
 
 pub call_sequence-returns-in_err-run_named : goal.call_sequence-returns-in_err-run_named

@@ -270,7 +270,7 @@ run_statement-returns-clause-gives t c = means_from (λ q. m.statement (direct f
 
 pub run_statement-returns-clause-noted : goal.run_statement-returns-clause-noted
 unfolding os.statement_events
-run_statement-returns-clause-noted t c = event_then c.args.self.now.turns _ _ _ (e.Begins (spot_in_step c.args.sequence.now c.args.path.now part.Block (os.statement_place (stmt_tree c.args.one.now))) (stmt_tree c.args.one.now)) (λ q shows. e.events_after (m.counted (direct false) q) (λ done r. os.done_events shows c.args.self.now.turn_us (calls_in_walk c.args.self.now c.args.depth) (events_in_walk shows c.args.self.now c.args.depth) (stmt_tree c.args.one.now) r)) c.do_statement.new.walked.held.end c.do_statement.result (now c.args.walked.now c.args.target.now) (now c.begin.new.self c.args.target.now)
+run_statement-returns-clause-noted t c = event_then c.args.self.now.turns _ _ _ (e.Begins (spot_in_step c.args.sequence.now c.args.path.now part.Block (os.statement_place (stmt_tree c.args.one.now))) (stmt_tree c.args.one.now)) (λ q shows. e.events_after (m.counted_step (direct false) q) (λ done r. os.done_events shows c.args.self.now.turn_us (calls_in_walk c.args.self.now c.args.depth) (events_in_walk shows c.args.self.now c.args.depth) (stmt_tree c.args.one.now) r)) c.do_statement.new.walked.held.end c.do_statement.result (now c.args.walked.now c.args.target.now) (now c.begin.new.self c.args.target.now)
     (c.in_ok-begin.ensures.state _) (c.in_ok-begin.ensures.noted c.args.self.now.turns) c.do_statement.ensures.noted
 
 pub declare-returns-in_err-count_step-clause-gives : goal.declare-returns-in_err-count_step-clause-gives
@@ -278,21 +278,21 @@ declare-returns-in_err-count_step-clause-gives t c = means_stopped c.count_step.
 
 pub declare-returns-in_err-count_step-clause-noted : goal.declare-returns-in_err-count_step-clause-noted
 declare-returns-in_err-count_step-clause-noted t c = unless_ended _ c.count_step.new.walked.held.end c.in_err-count_step.field-0.0 _ c.from_residual.ensures.0
-    (quiet_stops (Unit {0}) c.args.self.now.turns _ _ _ c.count_step.new.walked.held.end c.in_err-count_step.field-0.0 (m.counted (direct false) (now c.args.walked.now c.args.target.now)) _ (c.in_err-count_step.ensures.gives c.args.target.now) c.count_step.ensures.seen)
+    (quiet_stops (Unit {0}) c.args.self.now.turns _ _ _ c.count_step.new.walked.held.end c.in_err-count_step.field-0.0 (m.counted_step (direct false) (now c.args.walked.now c.args.target.now)) _ (c.in_err-count_step.ensures.gives c.args.target.now) c.count_step.ensures.seen)
 
 pub run_expression-returns-in_err-count_step-clause-gives : goal.run_expression-returns-in_err-count_step-clause-gives
 run_expression-returns-in_err-count_step-clause-gives t c = means_stopped c.count_step.new.walked.held.end _ _ _ c.from_residual.ensures.0 (ends_counted c.count_step.new.walked.held.end _ (now c.args.walked.now c.args.target.now) _ (c.in_err-count_step.ensures.gives c.args.target.now))
 
 pub run_expression-returns-in_err-count_step-clause-noted : goal.run_expression-returns-in_err-count_step-clause-noted
 run_expression-returns-in_err-count_step-clause-noted t c = unless_ended _ c.count_step.new.walked.held.end c.in_err-count_step.field-0.0 _ c.from_residual.ensures.0
-    (quiet_stops (Unit {0}) c.args.self.now.turns _ _ _ c.count_step.new.walked.held.end c.in_err-count_step.field-0.0 (m.counted (direct false) (now c.args.walked.now c.args.target.now)) _ (c.in_err-count_step.ensures.gives c.args.target.now) c.count_step.ensures.seen)
+    (quiet_stops (Unit {0}) c.args.self.now.turns _ _ _ c.count_step.new.walked.held.end c.in_err-count_step.field-0.0 (m.counted_step (direct false) (now c.args.walked.now c.args.target.now)) _ (c.in_err-count_step.ensures.gives c.args.target.now) c.count_step.ensures.seen)
 
 pub declare-returns-in_err-number-clause-gives : goal.declare-returns-in_err-number-clause-gives
 declare-returns-in_err-number-clause-gives t c = means_stopped c.evaluate.new.walked.held.end _ _ _ c.from_residual-in_err-number.ensures.0 (declare_value c.args.self.now c.args.depth (tree c.args.expr.now) c.evaluate.new.walked.held.end _ _ _ c.args.name.now (c.in_ok-count_step.ensures.gives c.args.target.now) c.in_err-number.ensures.gives)
 
 pub declare-returns-in_err-number-clause-noted : goal.declare-returns-in_err-number-clause-noted
 declare-returns-in_err-number-clause-noted t c = unless_ended _ c.evaluate.new.walked.held.end c.in_err-number.field-0.0 _ c.from_residual-in_err-number.ensures.0
-    (quiet_then {A = Unit {0}} {B = Unit {0}} c.args.self.now.turns _ _ _ _ c.evaluate.new.walked.held.end (Err c.in_err-number.field-0.0) (m.counted (direct false) (now c.args.walked.now c.args.target.now)) tt _ (c.in_ok-count_step.ensures.gives c.args.target.now) c.count_step.ensures.seen
+    (quiet_then {A = Unit {0}} {B = Unit {0}} c.args.self.now.turns _ _ _ _ c.evaluate.new.walked.held.end (Err c.in_err-number.field-0.0) (m.counted_step (direct false) (now c.args.walked.now c.args.target.now)) tt _ (c.in_ok-count_step.ensures.gives c.args.target.now) c.count_step.ensures.seen
     (part_stops (Unit {0}) c.args.self.now.turns _ _ _ _ c.evaluate.new.walked.held.end c.in_err-number.field-0.0 c.in_err-number.field-0.0 _ _ c.in_err-number.ensures.gives c.in_err-number.ensures.noted))
 
 pub declare-returns-clause-gives : goal.declare-returns-clause-gives
@@ -300,7 +300,7 @@ declare-returns-clause-gives t c = declared_gives c.args.name.now (λ r. v.value
     (c.in_ok-count_step.ensures.gives c.args.target.now) c.in_ok-number.ensures.gives (c.in-Ok.ensures.state _) (c.assign.ensures.state _) c.assign.ensures.refused
 
 pub declare-returns-clause-noted : goal.declare-returns-clause-noted
-declare-returns-clause-noted t c = quiet_then {A = Unit {0}} {B = Unit {0}} c.args.self.now.turns _ _ _ _ c.assign.new.self.held.end c.assign.result (m.counted (direct false) (now c.args.walked.now c.args.target.now)) tt _ (c.in_ok-count_step.ensures.gives c.args.target.now) c.count_step.ensures.seen
+declare-returns-clause-noted t c = quiet_then {A = Unit {0}} {B = Unit {0}} c.args.self.now.turns _ _ _ _ c.assign.new.self.held.end c.assign.result (m.counted_step (direct false) (now c.args.walked.now c.args.target.now)) tt _ (c.in_ok-count_step.ensures.gives c.args.target.now) c.count_step.ensures.seen
     (value_then {A = ℕ} {B = Unit {0}} c.args.self.now.turns _ _ _ _ _ c.assign.new.self.held.end c.assign.result _ c.in_ok-number.number _ c.in_ok-number.ensures.gives c.in_ok-number.ensures.noted
     (unless_from c.args.self.now.turns _ _ _ _ c.assign.new.self.held.end c.assign.result c.in-Ok.ensures.seen (or_refused _ c.assign.new.self.held.end c.assign.result
     (subst (λ (n : List ℕ). OnOk c.assign.result (NotesByTurns c.args.self.now.turns (seen_so_far c.declare.new.self) (seen_so_far c.assign.new.self) (λ shows. e.Assigns n c.in_ok-number.number ∷ []))) c.as_str.ensures (c.assign.ensures.noted c.args.self.now.turns)) c.assign.ensures.refused)))
@@ -310,11 +310,11 @@ run_expression-returns-in_err-evaluate-clause-gives t c = means_stopped c.evalua
 
 pub run_expression-returns-in_err-evaluate-clause-noted : goal.run_expression-returns-in_err-evaluate-clause-noted
 run_expression-returns-in_err-evaluate-clause-noted t c = unless_ended _ c.evaluate.new.walked.held.end c.in_err-evaluate.field-0.0 _ c.from_residual-in_err-evaluate.ensures.0
-    (quiet_then {A = Unit {0}} {B = Unit {0}} c.args.self.now.turns _ _ _ _ c.evaluate.new.walked.held.end (Err c.in_err-evaluate.field-0.0) (m.counted (direct false) (now c.args.walked.now c.args.target.now)) tt _ (c.in_ok-count_step.ensures.gives c.args.target.now) c.count_step.ensures.seen
+    (quiet_then {A = Unit {0}} {B = Unit {0}} c.args.self.now.turns _ _ _ _ c.evaluate.new.walked.held.end (Err c.in_err-evaluate.field-0.0) (m.counted_step (direct false) (now c.args.walked.now c.args.target.now)) tt _ (c.in_ok-count_step.ensures.gives c.args.target.now) c.count_step.ensures.seen
     (unless_stopped ℕ (Unit {0}) _ _ c.evaluate.new.walked.held.end c.in_err-evaluate.field-0.0 c.in_err-evaluate.field-0.0 (λ h. h) c.in_err-evaluate.ensures.noted))
 
 pub run_expression-returns-clause-noted : goal.run_expression-returns-clause-noted
-run_expression-returns-clause-noted t c = quiet_then {A = Unit {0}} {B = Unit {0}} c.args.self.now.turns _ _ _ _ c.evaluate.new.walked.held.end (Ok tt) (m.counted (direct false) (now c.args.walked.now c.args.target.now)) tt _ (c.in_ok-count_step.ensures.gives c.args.target.now) c.count_step.ensures.seen
+run_expression-returns-clause-noted t c = quiet_then {A = Unit {0}} {B = Unit {0}} c.args.self.now.turns _ _ _ _ c.evaluate.new.walked.held.end (Ok tt) (m.counted_step (direct false) (now c.args.walked.now c.args.target.now)) tt _ (c.in_ok-count_step.ensures.gives c.args.target.now) c.count_step.ensures.seen
     (c.in_ok-evaluate.ensures.noted)
 
 pub run_control-returns-in_err-chosen-clause-noted : goal.run_control-returns-in_err-chosen-clause-noted
@@ -400,16 +400,16 @@ run_turn-returns-in_err-count_step-clause-gives t c = means_stopped c.count_step
 pub run_turn-returns-in_err-count_step-clause-noted : goal.run_turn-returns-in_err-count_step-clause-noted
 unfolding os.turn_events
 run_turn-returns-in_err-count_step-clause-noted t c = unless_ended _ c.count_step.new.walked.held.end c.in_err-count_step.field-0.0 _ c.from_residual-in_err-count_step.ensures.0
-    (event_then {A = Bool} c.args.self.now.turns _ _ _ (e.Turns (condition_spot c.args.sequence.now c.args.path.now part.While) c.args.number) (λ q shows. e.events_after (m.counted (direct false) q) (λ done r. os.tested_events shows (condition_spot c.args.sequence.now c.args.path.now part.While) (λ r. v.value (direct false) (calls_in_walk c.args.self.now c.args.depth) (tree c.args.expr.now) r) (o.value_events (calls_in_walk c.args.self.now c.args.depth) (events_in_walk shows c.args.self.now c.args.depth) (tree c.args.expr.now)) (λ r. m.inside (direct false) (λ q. m.steps_result (direct false) c.args.self.now.turn_us (calls_in_walk c.args.self.now c.args.depth) (steps_tree c.args.steps.now) q) r) (λ q. os.steps_events shows c.args.self.now.turn_us (calls_in_walk c.args.self.now c.args.depth) (events_in_walk shows c.args.self.now c.args.depth) (step_on_path c.args.sequence.now c.args.path.now) 0 (steps_tree c.args.steps.now) q) r)) c.count_step.new.walked.held.end (Err c.in_err-count_step.field-0.0) (now c.args.walked.now c.args.target.now) (now c.turn.new.self c.args.target.now) (c.in_ok-turn.ensures.state _) (c.in_ok-turn.ensures.noted c.args.self.now.turns)
-    (quiet_stops Bool c.args.self.now.turns _ _ _ c.count_step.new.walked.held.end c.in_err-count_step.field-0.0 (m.counted (direct false) (now c.turn.new.self c.args.target.now)) _ (c.in_err-count_step.ensures.gives c.args.target.now) c.count_step.ensures.seen))
+    (event_then {A = Bool} c.args.self.now.turns _ _ _ (e.Turns (condition_spot c.args.sequence.now c.args.path.now part.While) c.args.number) (λ q shows. e.events_after (m.counted_step (direct false) q) (λ done r. os.tested_events shows (condition_spot c.args.sequence.now c.args.path.now part.While) (λ r. v.value (direct false) (calls_in_walk c.args.self.now c.args.depth) (tree c.args.expr.now) r) (o.value_events (calls_in_walk c.args.self.now c.args.depth) (events_in_walk shows c.args.self.now c.args.depth) (tree c.args.expr.now)) (λ r. m.inside (direct false) (λ q. m.steps_result (direct false) c.args.self.now.turn_us (calls_in_walk c.args.self.now c.args.depth) (steps_tree c.args.steps.now) q) r) (λ q. os.steps_events shows c.args.self.now.turn_us (calls_in_walk c.args.self.now c.args.depth) (events_in_walk shows c.args.self.now c.args.depth) (step_on_path c.args.sequence.now c.args.path.now) 0 (steps_tree c.args.steps.now) q) r)) c.count_step.new.walked.held.end (Err c.in_err-count_step.field-0.0) (now c.args.walked.now c.args.target.now) (now c.turn.new.self c.args.target.now) (c.in_ok-turn.ensures.state _) (c.in_ok-turn.ensures.noted c.args.self.now.turns)
+    (quiet_stops Bool c.args.self.now.turns _ _ _ c.count_step.new.walked.held.end c.in_err-count_step.field-0.0 (m.counted_step (direct false) (now c.turn.new.self c.args.target.now)) _ (c.in_err-count_step.ensures.gives c.args.target.now) c.count_step.ensures.seen))
 
 pub run_turn-returns-clause-gives : goal.run_turn-returns-clause-gives
 run_turn-returns-clause-gives t c = turn_gives (λ r. v.value (direct false) (calls_in_walk c.args.self.now c.args.depth) (tree c.args.expr.now) r) (λ r. m.inside (direct false) (λ q. m.steps_result (direct false) c.args.self.now.turn_us (calls_in_walk c.args.self.now c.args.depth) (steps_tree c.args.steps.now) q) r) c.test_turn.new.walked.held.end c.test_turn.result (now c.args.walked.now c.args.target.now) (now c.turn.new.self c.args.target.now) (now c.count_step.new.walked c.args.target.now) _ (c.in_ok-turn.ensures.state _) (c.in_ok-count_step.ensures.gives c.args.target.now) c.test_turn.ensures.gives
 
 pub run_turn-returns-clause-noted : goal.run_turn-returns-clause-noted
 unfolding os.turn_events
-run_turn-returns-clause-noted t c = event_then c.args.self.now.turns _ _ _ (e.Turns (condition_spot c.args.sequence.now c.args.path.now part.While) c.args.number) (λ q shows. e.events_after (m.counted (direct false) q) (λ done r. os.tested_events shows (condition_spot c.args.sequence.now c.args.path.now part.While) (λ r. v.value (direct false) (calls_in_walk c.args.self.now c.args.depth) (tree c.args.expr.now) r) (o.value_events (calls_in_walk c.args.self.now c.args.depth) (events_in_walk shows c.args.self.now c.args.depth) (tree c.args.expr.now)) (λ r. m.inside (direct false) (λ q. m.steps_result (direct false) c.args.self.now.turn_us (calls_in_walk c.args.self.now c.args.depth) (steps_tree c.args.steps.now) q) r) (λ q. os.steps_events shows c.args.self.now.turn_us (calls_in_walk c.args.self.now c.args.depth) (events_in_walk shows c.args.self.now c.args.depth) (step_on_path c.args.sequence.now c.args.path.now) 0 (steps_tree c.args.steps.now) q) r)) c.test_turn.new.walked.held.end c.test_turn.result (now c.args.walked.now c.args.target.now) (now c.turn.new.self c.args.target.now) (c.in_ok-turn.ensures.state _) (c.in_ok-turn.ensures.noted c.args.self.now.turns)
-    (quiet_then {A = Unit {0}} {B = Bool} c.args.self.now.turns _ _ _ _ c.test_turn.new.walked.held.end c.test_turn.result (m.counted (direct false) (now c.turn.new.self c.args.target.now)) tt _ (c.in_ok-count_step.ensures.gives c.args.target.now) c.count_step.ensures.seen c.test_turn.ensures.noted)
+run_turn-returns-clause-noted t c = event_then c.args.self.now.turns _ _ _ (e.Turns (condition_spot c.args.sequence.now c.args.path.now part.While) c.args.number) (λ q shows. e.events_after (m.counted_step (direct false) q) (λ done r. os.tested_events shows (condition_spot c.args.sequence.now c.args.path.now part.While) (λ r. v.value (direct false) (calls_in_walk c.args.self.now c.args.depth) (tree c.args.expr.now) r) (o.value_events (calls_in_walk c.args.self.now c.args.depth) (events_in_walk shows c.args.self.now c.args.depth) (tree c.args.expr.now)) (λ r. m.inside (direct false) (λ q. m.steps_result (direct false) c.args.self.now.turn_us (calls_in_walk c.args.self.now c.args.depth) (steps_tree c.args.steps.now) q) r) (λ q. os.steps_events shows c.args.self.now.turn_us (calls_in_walk c.args.self.now c.args.depth) (events_in_walk shows c.args.self.now c.args.depth) (step_on_path c.args.sequence.now c.args.path.now) 0 (steps_tree c.args.steps.now) q) r)) c.test_turn.new.walked.held.end c.test_turn.result (now c.args.walked.now c.args.target.now) (now c.turn.new.self c.args.target.now) (c.in_ok-turn.ensures.state _) (c.in_ok-turn.ensures.noted c.args.self.now.turns)
+    (quiet_then {A = Unit {0}} {B = Bool} c.args.self.now.turns _ _ _ _ c.test_turn.new.walked.held.end c.test_turn.result (m.counted_step (direct false) (now c.turn.new.self c.args.target.now)) tt _ (c.in_ok-count_step.ensures.gives c.args.target.now) c.count_step.ensures.seen c.test_turn.ensures.noted)
 
 pub test_turn-returns-in_err-number-clause-noted : goal.test_turn-returns-in_err-number-clause-noted
 unfolding os.tested_events

@@ -5,7 +5,7 @@ use Rattle.target_calls.specs.declared.calls.Ask.{Ask}
 use Rattle.access_calls.specs.Answers.{IsSmallWhere}
 use Rattle.access_calls.specs.Reported.{world_from}
 use Rattle.probe_core.specs.Probe.{target_of}
-use Rattle.target_calls.specs.NeedPoints.{asked}
+use Rattle.target_calls.specs.NeedPoints.{asks_with_call}
 use Rattle.access_regs.specs.Costs.{cost_by}
 use Rattle.packed_access.specs.Begun.{StopsAfterLines}
 use Rattle.packed_access.specs.Logs.{LogState, asks_of, log_with_call}
@@ -38,7 +38,7 @@ returns-after-small-clause-needs g c = λ m answered h left.
     let is : c.ask.new.self ≡ log_with_call old.log (unit_ask c.args.unit c.args.forgive) c.ask.new.self.room = search rules in
     let ok : IsAskable (unit_ask c.args.unit c.args.forgive) = record { sound = c.requires.sound; range = c.ask_of-ask.ensures.range } in
     let there = begins_asked g.F.Flights.planner _ _ old.log c.ask.new.self _ _ _ _ (unit_ask c.args.unit c.args.forgive) m h.sparing.begun none ok refl old.sound.results_long old.sound.places_long is in
-    c.in-Ok.ensures.gives.needs m old.log.calls (unit_ask c.args.unit c.args.forgive) (h.set, refl) there ∙ ap (λ (l : LogState). asked (cost_by g.F.Flights.planner (target_of m.probe) old.log.calls (unit_ask c.args.unit c.args.forgive)) (unit_ask c.args.unit c.args.forgive) (record { calls = old.log.calls; needs = l.needs; fence = l.fence })) is
+    c.in-Ok.ensures.gives.needs m old.log.calls (unit_ask c.args.unit c.args.forgive) (h.set, refl) there ∙ ap (λ (l : LogState). asks_with_call (cost_by g.F.Flights.planner (target_of m.probe) old.log.calls (unit_ask c.args.unit c.args.forgive)) (unit_ask c.args.unit c.args.forgive) (record { calls = old.log.calls; needs = l.needs; fence = l.fence })) is
 
 pub returns-after-small-clause-small : goal.returns-after-small-clause-small
 returns-after-small-clause-small g c = λ m answered h left.
@@ -77,7 +77,7 @@ returns-after-small-clause-ends g c = record {
                 (c.in-Ok.ensures.gives.spare m old.log.calls (unit_ask c.args.unit c.args.forgive) (points_left old.log) (h.set, refl) there (paid_asked g.F.Flights.planner _ _ _ old.log c.ask.new.self (unit_ask c.args.unit c.args.forgive) (points_left old.log) m (h.sparing.paid none) is_asked))
                 (λ past. (let p = c.in-Ok.ensures.asks.fenced past in let k = ap (λ (l : LogState). l.known) is_asked in let f = ap (λ (l : LogState). l.fence) is_asked in omega (arith, p, k, f)));
             needed = λ open_. needed_by g.F.Flights.planner (target_of m.probe) (asks_of old.log) (asks_of c.issue_asked.new.self.log) (unit_ask c.args.unit c.args.forgive) (h.sparing.needed none) refl
-                (c.in-Ok.ensures.gives.needs m old.log.calls (unit_ask c.args.unit c.args.forgive) (h.set, refl) there ∙ ap (λ (l : LogState). asked (cost_by g.F.Flights.planner (target_of m.probe) old.log.calls (unit_ask c.args.unit c.args.forgive)) (unit_ask c.args.unit c.args.forgive) (record { calls = old.log.calls; needs = l.needs; fence = l.fence })) is_asked);
+                (c.in-Ok.ensures.gives.needs m old.log.calls (unit_ask c.args.unit c.args.forgive) (h.set, refl) there ∙ ap (λ (l : LogState). asks_with_call (cost_by g.F.Flights.planner (target_of m.probe) old.log.calls (unit_ask c.args.unit c.args.forgive)) (unit_ask c.args.unit c.args.forgive) (record { calls = old.log.calls; needs = l.needs; fence = l.fence })) is_asked);
           };
           set = h.set;
         };

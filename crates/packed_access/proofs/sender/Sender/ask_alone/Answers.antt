@@ -3,13 +3,13 @@ use Rattle.target_machine.specs.Plain.{call_actions}
 use Rattle.target_machine.specs.declared.unit.Call.TheVariants.{Access}
 use Rattle.probe_core.specs.Probe.{target_of}
 use Rattle.target_calls.specs.Asks.{unit_ask}
-use Rattle.target_calls.specs.NeedPoints.{Asks, asked}
+use Rattle.target_calls.specs.NeedPoints.{Asks, asks_with_call}
 use Rattle.target_calls.specs.World.{small_now, start_world}
 use Rattle.target_calls.specs.declared.calls.Ask.{Ask}
 use Rattle.access_regs.specs.Costs.{cost_by}
 use Rattle.access_regs.specs.Journal.{large_of}
 use Rattle.access_regs.specs.Kept.{Kept, forget}
-use Rattle.access_regs.specs.Plan.{settled}
+use Rattle.access_regs.specs.Plan.{kept_after_settling}
 use Rattle.packed_access.specs.Begun.{StopsAfterLines}
 use Rattle.packed_access.specs.Forgiving.{IsDoneBy, LogHasTried}
 use Rattle.packed_access.specs.Logs.{LogState, asks_of}
@@ -63,7 +63,7 @@ returns-in-Err-try_unit-clause-gives g c =
     let old = c.args.self.now in
     let sent = c.send.new.self in
     let may = c.requires.alone.may in
-    let managed3 : sent.managed ≡ settled old.managed = c.send.ensures.exchanges.managed ∙ c.settle.ensures.further.managed in
+    let managed3 : sent.managed ≡ kept_after_settling old.managed = c.send.ensures.exchanges.managed ∙ c.settle.ensures.further.managed in
     let calls_same : sent.log.calls ≡ old.log.calls = ap (λ (l : LogState). l.calls) c.in-Ok-send.ensures.log ∙ c.in-Ok.ensures.further.so.calls in
     record {
       on = λ m0 calls ask this h. tt;
@@ -79,7 +79,7 @@ returns-in-Err-try_unit-clause-gives g c =
           let whole3 : sent.log.whole ≡ length calls = (let w = ap (λ (l : LogState). l.whole) c.in-Ok-send.ensures.log in let f = c.in-Ok.ensures.further.so.whole in let o = c.requires.ready.whole in let l = ap length h.are ∙ length-append calls (ask ∷ []) in omega (arith, w, f, o, l)) in
           let came3 : sent.log.came ≡ length calls = (let w = ap (λ (l : LogState). l.came) c.in-Ok-send.ensures.log in let f = c.in-Ok.ensures.further.so.whole in let o = c.requires.ready.whole in let l = ap length h.are ∙ length-append calls (ask ∷ []) in omega (arith, w, f, o, l)) in
           let b = is_before g.F.Flights.planner _ sent.log calls (unit_ask c.args.unit.now c.args.forgive) _ m0 there3 calls3 came3 in
-          let tried = subst (λ (q : Kept). LogHasTried g.F.Flights.planner c.args.forgive (g.F.Flights.state sent.flights) sent.log c.args.unit.now q (target_settled g.F.Flights.planner (target_of m0.probe) calls old.managed) [] (call_actions (target_settled g.F.Flights.planner (target_of m0.probe) calls old.managed) (large_of (settled old.managed) c.args.unit.now) (Access c.args.unit.now)) m0) (sym managed3)
+          let tried = subst (λ (q : Kept). LogHasTried g.F.Flights.planner c.args.forgive (g.F.Flights.state sent.flights) sent.log c.args.unit.now q (target_settled g.F.Flights.planner (target_of m0.probe) calls old.managed) [] (call_actions (target_settled g.F.Flights.planner (target_of m0.probe) calls old.managed) (large_of (kept_after_settling old.managed) c.args.unit.now) (Access c.args.unit.now)) m0) (sym managed3)
           (begin_trying g.F.Flights.planner c.args.forgive _ sent.log old.managed calls c.args.unit.now m0 h.kept_is c.requires.alone.alone may calls3 there3) in
           let table : length sent.managed.ports ≡ 256 = subst (λ (q : Kept). length q.ports ≡ 256) (sym managed3) (settled_table g.F.Flights.planner (target_of m0.probe) old.managed calls (unit_ask c.args.unit.now c.args.forgive) h.kept_is b) in
           record { so = (c.in-Err-try_unit.ensures.broke m0 _ _ table tried).ended };
@@ -93,7 +93,7 @@ returns-in-Err-try_unit-clause-gives g c =
           let whole3 : sent.log.whole ≡ length calls = (let w = ap (λ (l : LogState). l.whole) c.in-Ok-send.ensures.log in let f = c.in-Ok.ensures.further.so.whole in let o = c.requires.ready.whole in let l = ap length h.are ∙ length-append calls (ask ∷ []) in omega (arith, w, f, o, l)) in
           let came3 : sent.log.came ≡ length calls = (let w = ap (λ (l : LogState). l.came) c.in-Ok-send.ensures.log in let f = c.in-Ok.ensures.further.so.whole in let o = c.requires.ready.whole in let l = ap length h.are ∙ length-append calls (ask ∷ []) in omega (arith, w, f, o, l)) in
           let b = is_before g.F.Flights.planner _ sent.log calls (unit_ask c.args.unit.now c.args.forgive) _ m0 there3 calls3 came3 in
-          let tried = subst (λ (q : Kept). LogHasTried g.F.Flights.planner c.args.forgive (g.F.Flights.state sent.flights) sent.log c.args.unit.now q (target_settled g.F.Flights.planner (target_of m0.probe) calls old.managed) [] (call_actions (target_settled g.F.Flights.planner (target_of m0.probe) calls old.managed) (large_of (settled old.managed) c.args.unit.now) (Access c.args.unit.now)) m0) (sym managed3)
+          let tried = subst (λ (q : Kept). LogHasTried g.F.Flights.planner c.args.forgive (g.F.Flights.state sent.flights) sent.log c.args.unit.now q (target_settled g.F.Flights.planner (target_of m0.probe) calls old.managed) [] (call_actions (target_settled g.F.Flights.planner (target_of m0.probe) calls old.managed) (large_of (kept_after_settling old.managed) c.args.unit.now) (Access c.args.unit.now)) m0) (sym managed3)
           (begin_trying g.F.Flights.planner c.args.forgive _ sent.log old.managed calls c.args.unit.now m0 h.kept_is c.requires.alone.alone may calls3 there3) in
           let table : length sent.managed.ports ≡ 256 = subst (λ (q : Kept). length q.ports ≡ 256) (sym managed3) (settled_table g.F.Flights.planner (target_of m0.probe) old.managed calls (unit_ask c.args.unit.now c.args.forgive) h.kept_is b) in
           subst (λ (l : List Ask). StopsAfterLines m0 answered l c.try_unit.new.self.log.lines c.in-Err-try_unit.stop) calls_same ((c.in-Err-try_unit.ensures.broke m0 _ _ table tried).stops answered left);
@@ -104,7 +104,7 @@ returns-in-Ok-try_unit-clause-gives g c =
     let old = c.args.self.now in
     let sent = c.send.new.self in
     let may = c.requires.alone.may in
-    let managed3 : sent.managed ≡ settled old.managed = c.send.ensures.exchanges.managed ∙ c.settle.ensures.further.managed in
+    let managed3 : sent.managed ≡ kept_after_settling old.managed = c.send.ensures.exchanges.managed ∙ c.settle.ensures.further.managed in
     let unit_done = c.try_unit.new.self in
     let word = c.in-Ok-try_unit.tried.word in
     let new_calls : c.close_call.new.log.calls ≡ unit_done.log.calls = ap (λ (l : LogState). l.calls) c.close_call.ensures.answer ∙ ap (λ (a : Asks). a.calls) (closed_asks c.in-Ok-try_unit.tried.word unit_done.log) in
@@ -124,7 +124,7 @@ returns-in-Ok-try_unit-clause-gives g c =
           let whole3 : sent.log.whole ≡ length calls = (let w = ap (λ (l : LogState). l.whole) c.in-Ok-send.ensures.log in let f = c.in-Ok.ensures.further.so.whole in let o = c.requires.ready.whole in let l = ap length h.are ∙ length-append calls (ask ∷ []) in omega (arith, w, f, o, l)) in
           let came3 : sent.log.came ≡ length calls = (let w = ap (λ (l : LogState). l.came) c.in-Ok-send.ensures.log in let f = c.in-Ok.ensures.further.so.whole in let o = c.requires.ready.whole in let l = ap length h.are ∙ length-append calls (ask ∷ []) in omega (arith, w, f, o, l)) in
           let b = is_before g.F.Flights.planner _ sent.log calls (unit_ask c.args.unit.now c.args.forgive) _ m0 there3 calls3 came3 in
-          let tried = subst (λ (q : Kept). LogHasTried g.F.Flights.planner c.args.forgive (g.F.Flights.state sent.flights) sent.log c.args.unit.now q (target_settled g.F.Flights.planner (target_of m0.probe) calls old.managed) [] (call_actions (target_settled g.F.Flights.planner (target_of m0.probe) calls old.managed) (large_of (settled old.managed) c.args.unit.now) (Access c.args.unit.now)) m0) (sym managed3)
+          let tried = subst (λ (q : Kept). LogHasTried g.F.Flights.planner c.args.forgive (g.F.Flights.state sent.flights) sent.log c.args.unit.now q (target_settled g.F.Flights.planner (target_of m0.probe) calls old.managed) [] (call_actions (target_settled g.F.Flights.planner (target_of m0.probe) calls old.managed) (large_of (kept_after_settling old.managed) c.args.unit.now) (Access c.args.unit.now)) m0) (sym managed3)
           (begin_trying g.F.Flights.planner c.args.forgive _ sent.log old.managed calls c.args.unit.now m0 h.kept_is c.requires.alone.alone may calls3 there3) in
           let table : length sent.managed.ports ≡ 256 = subst (λ (q : Kept). length q.ports ≡ 256) (sym managed3) (settled_table g.F.Flights.planner (target_of m0.probe) old.managed calls (unit_ask c.args.unit.now c.args.forgive) h.kept_is b) in
           let done = subst (λ (q : Kept). IsDoneBy g.F.Flights.planner c.args.forgive c.in-Ok-try_unit.tried.small c.in-Ok-try_unit.tried.word c.in-Ok-try_unit.tried.reads unit_done.managed (g.F.Flights.state unit_done.flights) unit_done.log c.args.unit.now q (target_settled g.F.Flights.planner (target_of m0.probe) calls old.managed) m0) managed3
@@ -155,7 +155,7 @@ returns-in-Ok-try_unit-clause-gives g c =
           let whole3 : sent.log.whole ≡ length calls = (let w = ap (λ (l : LogState). l.whole) c.in-Ok-send.ensures.log in let f = c.in-Ok.ensures.further.so.whole in let o = c.requires.ready.whole in let l = ap length h.are ∙ length-append calls (ask ∷ []) in omega (arith, w, f, o, l)) in
           let came3 : sent.log.came ≡ length calls = (let w = ap (λ (l : LogState). l.came) c.in-Ok-send.ensures.log in let f = c.in-Ok.ensures.further.so.whole in let o = c.requires.ready.whole in let l = ap length h.are ∙ length-append calls (ask ∷ []) in omega (arith, w, f, o, l)) in
           let b = is_before g.F.Flights.planner _ sent.log calls (unit_ask c.args.unit.now c.args.forgive) _ m0 there3 calls3 came3 in
-          let tried = subst (λ (q : Kept). LogHasTried g.F.Flights.planner c.args.forgive (g.F.Flights.state sent.flights) sent.log c.args.unit.now q (target_settled g.F.Flights.planner (target_of m0.probe) calls old.managed) [] (call_actions (target_settled g.F.Flights.planner (target_of m0.probe) calls old.managed) (large_of (settled old.managed) c.args.unit.now) (Access c.args.unit.now)) m0) (sym managed3)
+          let tried = subst (λ (q : Kept). LogHasTried g.F.Flights.planner c.args.forgive (g.F.Flights.state sent.flights) sent.log c.args.unit.now q (target_settled g.F.Flights.planner (target_of m0.probe) calls old.managed) [] (call_actions (target_settled g.F.Flights.planner (target_of m0.probe) calls old.managed) (large_of (kept_after_settling old.managed) c.args.unit.now) (Access c.args.unit.now)) m0) (sym managed3)
           (begin_trying g.F.Flights.planner c.args.forgive _ sent.log old.managed calls c.args.unit.now m0 h.kept_is c.requires.alone.alone may calls3 there3) in
           let table : length sent.managed.ports ≡ 256 = subst (λ (q : Kept). length q.ports ≡ 256) (sym managed3) (settled_table g.F.Flights.planner (target_of m0.probe) old.managed calls (unit_ask c.args.unit.now c.args.forgive) h.kept_is b) in
           let done = subst (λ (q : Kept). IsDoneBy g.F.Flights.planner c.args.forgive c.in-Ok-try_unit.tried.small c.in-Ok-try_unit.tried.word c.in-Ok-try_unit.tried.reads unit_done.managed (g.F.Flights.state unit_done.flights) unit_done.log c.args.unit.now q (target_settled g.F.Flights.planner (target_of m0.probe) calls old.managed) m0) managed3
@@ -165,7 +165,7 @@ returns-in-Ok-try_unit-clause-gives g c =
           ap asks_of c.close_call.ensures.answer ∙ closed_asks c.in-Ok-try_unit.tried.word unit_done.log ∙ c.try_unit.ensures.tries.asks ∙ ap asks_of c.in-Ok-send.ensures.log ∙ c.settle.ensures.further.asks
           ∙ (λ j. record { calls = (h.are ∙ ap (λ (a : Ask). calls ++ a ∷ []) same) j; needs = old.log.needs; fence = old.log.fence }) in
           let count : c.count-count.result ≡ length c.close_call.new.log.calls = c.count-count.ensures ∙ ap length (h.are ∙ ap (λ (a : Ask). calls ++ a ∷ []) same ∙ sym (new_calls ∙ calls4)) in
-          subst (λ (a : Ask). asks_of c.need.new.self ≡ asked (cost_by g.F.Flights.planner (target_of m0.probe) calls a) a (record { calls = calls; needs = old.log.needs; fence = old.log.fence })) (sym same)
+          subst (λ (a : Ask). asks_of c.need.new.self ≡ asks_with_call (cost_by g.F.Flights.planner (target_of m0.probe) calls a) a (record { calls = calls; needs = old.log.needs; fence = old.log.fence })) (sym same)
           (unit_needs g.F.Flights.planner c.args.forgive (target_of m0.probe) old.managed calls c.args.unit.now c.in-Ok-try_unit.tried.reads old.log.needs old.log.fence c.close_call.new.log c.need.new.self _ _ c.requires.alone.alone h.kept_is may done.reads_are c.need.ensures.answer.so c.count_points.ensures count asks);
       broke = λ m0 calls ask this h. tt;
       stops = λ m0 calls ask answered this h left. tt;
@@ -182,11 +182,11 @@ returns-in-Ok-try_unit-clause-small g c = λ m0 calls ask same h.
     let may = c.requires.alone.may in
     let there3 = c.in-Ok-send.ensures.gives.on m0 _ there2 in
     let calls3 : sent.log.calls ≡ calls ++ unit_ask c.args.unit.now c.args.forgive ∷ [] = ap (λ (l : LogState). l.calls) c.in-Ok-send.ensures.log ∙ c.in-Ok.ensures.further.so.calls ∙ h.are ∙ ap (λ (a : Ask). calls ++ a ∷ []) same in
-    let managed3 : sent.managed ≡ settled old.managed = c.send.ensures.exchanges.managed ∙ c.settle.ensures.further.managed in
+    let managed3 : sent.managed ≡ kept_after_settling old.managed = c.send.ensures.exchanges.managed ∙ c.settle.ensures.further.managed in
     let whole3 : sent.log.whole ≡ length calls = (let w = ap (λ (l : LogState). l.whole) c.in-Ok-send.ensures.log in let f = c.in-Ok.ensures.further.so.whole in let o = c.requires.ready.whole in let l = ap length h.are ∙ length-append calls (ask ∷ []) in omega (arith, w, f, o, l)) in
     let came3 : sent.log.came ≡ length calls = (let w = ap (λ (l : LogState). l.came) c.in-Ok-send.ensures.log in let f = c.in-Ok.ensures.further.so.whole in let o = c.requires.ready.whole in let l = ap length h.are ∙ length-append calls (ask ∷ []) in omega (arith, w, f, o, l)) in
     let b = is_before g.F.Flights.planner _ sent.log calls (unit_ask c.args.unit.now c.args.forgive) _ m0 there3 calls3 came3 in
-    let tried = subst (λ (q : Kept). LogHasTried g.F.Flights.planner c.args.forgive (g.F.Flights.state sent.flights) sent.log c.args.unit.now q (target_settled g.F.Flights.planner (target_of m0.probe) calls old.managed) [] (call_actions (target_settled g.F.Flights.planner (target_of m0.probe) calls old.managed) (large_of (settled old.managed) c.args.unit.now) (Access c.args.unit.now)) m0) (sym managed3)
+    let tried = subst (λ (q : Kept). LogHasTried g.F.Flights.planner c.args.forgive (g.F.Flights.state sent.flights) sent.log c.args.unit.now q (target_settled g.F.Flights.planner (target_of m0.probe) calls old.managed) [] (call_actions (target_settled g.F.Flights.planner (target_of m0.probe) calls old.managed) (large_of (kept_after_settling old.managed) c.args.unit.now) (Access c.args.unit.now)) m0) (sym managed3)
     (begin_trying g.F.Flights.planner c.args.forgive _ sent.log old.managed calls c.args.unit.now m0 h.kept_is c.requires.alone.alone may calls3 there3) in
     let table : length sent.managed.ports ≡ 256 = subst (λ (q : Kept). length q.ports ≡ 256) (sym managed3) (settled_table g.F.Flights.planner (target_of m0.probe) old.managed calls (unit_ask c.args.unit.now c.args.forgive) h.kept_is b) in
     let unit_done = c.try_unit.new.self in

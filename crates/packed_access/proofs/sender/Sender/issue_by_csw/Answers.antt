@@ -6,7 +6,7 @@ use Rattle.target_calls.specs.declared.calls.Ask.{Ask}
 use Rattle.target_calls.specs.declared.journal.Part.TheVariants.{Leads}
 use Rattle.access_regs.specs.Journal.{by_csw, gives, port_of}
 use Rattle.access_regs.specs.Kept.{Kept}
-use Rattle.access_regs.specs.Plan.{first_plan, learned, made, needs_csw}
+use Rattle.access_regs.specs.Plan.{first_plan, kept_after_csw, kept_after_plan, needs_csw}
 use Rattle.packed_access.specs.Begun.{HasIssued, StopsAfterLines, strict_entries, target_issued}
 use Rattle.packed_access.proofs.FrameLemmas.{keeps_on}
 use Rattle.packed_access.proofs.PlannedLemmas.{csw_left, csw_steps, plain_left, plan_entries, plan_now}
@@ -53,12 +53,12 @@ returns-clause-gives g c =
     let needs : needs_csw old.managed c.args.unit.now ≡ true = search rules in
     record {
       on = λ m0 h.
-          let k : Kept = learned old.managed (port_of c.args.unit.now) (gives (target_issued g.F.Flights.planner old.log m0) (first_plan old.managed (port_of c.args.unit.now))) in
+          let k : Kept = kept_after_csw old.managed (port_of c.args.unit.now) (gives (target_issued g.F.Flights.planner old.log m0) (first_plan old.managed (port_of c.args.unit.now))) in
           let first : HasIssued g.F.Flights.planner (g.F.Flights.state old.flights) old.log (g.F.Flights.accesses old.flights) (strict_entries (length old.log.calls) Leads (first_plan old.managed (port_of c.args.unit.now)) ++ plan_entries (length old.log.calls) k c.args.unit.now) m0 =
           subst (λ (l : List Entry). HasIssued g.F.Flights.planner (g.F.Flights.state old.flights) old.log (g.F.Flights.accesses old.flights) l m0) (csw_left (length old.log.calls) (target_issued g.F.Flights.planner old.log m0) old.managed c.args.unit.now some c.requires.sound.no_poll needs) h in
           c.issue_unit-2.ensures.gives.on m0 [] (plan_now g.F.Flights.planner _ mid.log _ _ k mid.managed c.args.unit.now (length old.log.calls) m0 (c.in_ok-read_csw.ensures.gives.on m0 _ first) c.in_ok-read_csw.ensures.empty (c.in_ok-read_csw.ensures.gives.kept m0 _ first) (ap length c.read_csw.ensures.issues.step.keeps.calls));
       spare = λ m0 left h s.
-          let k : Kept = learned old.managed (port_of c.args.unit.now) (gives (target_issued g.F.Flights.planner old.log m0) (first_plan old.managed (port_of c.args.unit.now))) in
+          let k : Kept = kept_after_csw old.managed (port_of c.args.unit.now) (gives (target_issued g.F.Flights.planner old.log m0) (first_plan old.managed (port_of c.args.unit.now))) in
           let first : HasIssued g.F.Flights.planner (g.F.Flights.state old.flights) old.log (g.F.Flights.accesses old.flights) (strict_entries (length old.log.calls) Leads (first_plan old.managed (port_of c.args.unit.now)) ++ plan_entries (length old.log.calls) k c.args.unit.now) m0 =
           subst (λ (l : List Entry). HasIssued g.F.Flights.planner (g.F.Flights.state old.flights) old.log (g.F.Flights.accesses old.flights) l m0) (csw_left (length old.log.calls) (target_issued g.F.Flights.planner old.log m0) old.managed c.args.unit.now some c.requires.sound.no_poll needs) h in
           let there = plan_now g.F.Flights.planner _ mid.log _ _ k mid.managed c.args.unit.now (length old.log.calls) m0 (c.in_ok-read_csw.ensures.gives.on m0 _ first) c.in_ok-read_csw.ensures.empty (c.in_ok-read_csw.ensures.gives.kept m0 _ first) (ap length c.read_csw.ensures.issues.step.keeps.calls) in
@@ -66,12 +66,12 @@ returns-clause-gives g c =
           spared_further g.F.Flights.planner _ _ _ mid.log c.issue_unit-2.new.self.log read.paid left c.issue_unit-2.result m0 read.covers c.issue_unit-2.ensures.further.so
           (c.issue_unit-2.ensures.gives.spare m0 [] read.paid there read.spared);
       broke = λ m0 h.
-          let k : Kept = learned old.managed (port_of c.args.unit.now) (gives (target_issued g.F.Flights.planner old.log m0) (first_plan old.managed (port_of c.args.unit.now))) in
+          let k : Kept = kept_after_csw old.managed (port_of c.args.unit.now) (gives (target_issued g.F.Flights.planner old.log m0) (first_plan old.managed (port_of c.args.unit.now))) in
           let first : HasIssued g.F.Flights.planner (g.F.Flights.state old.flights) old.log (g.F.Flights.accesses old.flights) (strict_entries (length old.log.calls) Leads (first_plan old.managed (port_of c.args.unit.now)) ++ plan_entries (length old.log.calls) k c.args.unit.now) m0 =
           subst (λ (l : List Entry). HasIssued g.F.Flights.planner (g.F.Flights.state old.flights) old.log (g.F.Flights.accesses old.flights) l m0) (csw_left (length old.log.calls) (target_issued g.F.Flights.planner old.log m0) old.managed c.args.unit.now some c.requires.sound.no_poll needs) h in
           c.issue_unit-2.ensures.gives.broke m0 [] (plan_now g.F.Flights.planner _ mid.log _ _ k mid.managed c.args.unit.now (length old.log.calls) m0 (c.in_ok-read_csw.ensures.gives.on m0 _ first) c.in_ok-read_csw.ensures.empty (c.in_ok-read_csw.ensures.gives.kept m0 _ first) (ap length c.read_csw.ensures.issues.step.keeps.calls));
       stops = λ m0 answered h left.
-          let k : Kept = learned old.managed (port_of c.args.unit.now) (gives (target_issued g.F.Flights.planner old.log m0) (first_plan old.managed (port_of c.args.unit.now))) in
+          let k : Kept = kept_after_csw old.managed (port_of c.args.unit.now) (gives (target_issued g.F.Flights.planner old.log m0) (first_plan old.managed (port_of c.args.unit.now))) in
           let first : HasIssued g.F.Flights.planner (g.F.Flights.state old.flights) old.log (g.F.Flights.accesses old.flights) (strict_entries (length old.log.calls) Leads (first_plan old.managed (port_of c.args.unit.now)) ++ plan_entries (length old.log.calls) k c.args.unit.now) m0 =
           subst (λ (l : List Entry). HasIssued g.F.Flights.planner (g.F.Flights.state old.flights) old.log (g.F.Flights.accesses old.flights) l m0) (csw_left (length old.log.calls) (target_issued g.F.Flights.planner old.log m0) old.managed c.args.unit.now some c.requires.sound.no_poll needs) h in
           subst (λ (calls : List Ask). IfErr c.issue_unit-2.result (StopsAfterLines m0 answered calls c.issue_unit-2.new.self.log.lines)) c.read_csw.ensures.issues.step.keeps.calls
@@ -84,11 +84,11 @@ returns-clause-kept g c = λ m0 h.
     let mid = c.read_csw.new.self in
     let some : 0 < length old.log.calls = (let w = c.requires.ready.whole in omega (arith, w)) in
     let needs : needs_csw old.managed c.args.unit.now ≡ true = search rules in
-    let k : Kept = learned old.managed (port_of c.args.unit.now) (gives (target_issued g.F.Flights.planner old.log m0) (first_plan old.managed (port_of c.args.unit.now))) in
+    let k : Kept = kept_after_csw old.managed (port_of c.args.unit.now) (gives (target_issued g.F.Flights.planner old.log m0) (first_plan old.managed (port_of c.args.unit.now))) in
     let first : HasIssued g.F.Flights.planner (g.F.Flights.state old.flights) old.log (g.F.Flights.accesses old.flights) (strict_entries (length old.log.calls) Leads (first_plan old.managed (port_of c.args.unit.now)) ++ plan_entries (length old.log.calls) k c.args.unit.now) m0 =
     subst (λ (l : List Entry). HasIssued g.F.Flights.planner (g.F.Flights.state old.flights) old.log (g.F.Flights.accesses old.flights) l m0) (csw_left (length old.log.calls) (target_issued g.F.Flights.planner old.log m0) old.managed c.args.unit.now some c.requires.sound.no_poll needs) h in
     let is : c.issue_unit-2.new.self.managed ≡ (by_csw (target_issued g.F.Flights.planner old.log m0) old.managed c.args.unit.now).kept =
-    c.issue_unit-2.ensures.further.managed ∙ ap (λ (q : Kept). made q c.args.unit.now) (c.in_ok-read_csw.ensures.gives.kept m0 _ first) ∙ sym (csw_steps 0 (target_issued g.F.Flights.planner old.log m0) old.managed c.args.unit.now needs).1 in
+    c.issue_unit-2.ensures.further.managed ∙ ap (λ (q : Kept). kept_after_plan q c.args.unit.now) (c.in_ok-read_csw.ensures.gives.kept m0 _ first) ∙ sym (csw_steps 0 (target_issued g.F.Flights.planner old.log m0) old.managed c.args.unit.now needs).1 in
     elim c.issue_unit-2.result as (λ r. OnOk r (c.issue_unit-2.new.self.managed ≡ (by_csw (target_issued g.F.Flights.planner old.log m0) old.managed c.args.unit.now).kept)) [ Ok done ↦ is | Err s ↦ tt ]
 
 pub returns-clause-issues : goal.returns-clause-issues

@@ -4,7 +4,7 @@ use Rattle.batch_packer.specs.SlotList.{slot_at}
 use Rattle.target_machine.specs.declared.access.RegAccess.{RegAccess}
 use Rattle.probe_core.specs.Probe.{target_of}
 use Rattle.target_calls.specs.declared.journal.Part.TheVariants.{Leads}
-use Rattle.access_regs.specs.Journal.{gives, issued}
+use Rattle.access_regs.specs.Journal.{gives, issued_entries}
 use Rattle.packed_access.specs.Begun.{HasIssued, strict_entries, target_issued}
 use Rattle.packed_access.specs.Logs.{LogState}
 use Rattle.packed_access.proofs.ReadLemmas.{IsReadAt, read_gives}
@@ -29,5 +29,5 @@ returns-clause-value g c = λ m0 lead a rest is h.
     let all : new.log.confirmed ≡ length new.log.entries = confirmed ∙ sym entries in
     let r : IsReadAt g.F.Flights.planner old.log m0 (lead ++ a ∷ []) = read_gives g.F.Flights.planner _ _ old.log new.log _ _ c.args.unit Leads lead a rest m0 h' after calls count all in
     let at : length r.front + 1 ≡ length mid.log.entries = (let x = r.at in omega (arith, x, grown, plan_is)) in
-    let last = c.in_ok-send.ensures.last m0 rest r.front r.entry r.more there (ap (issued g.F.Flights.planner (target_of m0.probe)) mid_calls ∙ r.is) at (c.in_ok-issue_all.ensures.pending c.requires.some) in
+    let last = c.in_ok-send.ensures.last m0 rest r.front r.entry r.more there (ap (issued_entries g.F.Flights.planner (target_of m0.probe)) mid_calls ∙ r.is) at (c.in_ok-issue_all.ensures.pending c.requires.some) in
     c.value.ensures ∙ ap (λ (n : ℕ). unwrap_or (slot_at (g.F.Flights.values new.flights) (n - 1)) 0) c.count_pending-place.ensures ∙ last ∙ r.gives_it ∙ ap (gives (target_issued g.F.Flights.planner old.log m0)) (sym is)

@@ -4,7 +4,7 @@ use Rattle.target_machine.specs.Plain.{after_cfg, ap_access_of, select_of}
 use Rattle.target_machine.specs.Registers.{cfg_la}
 use Rattle.target_machine.specs.declared.access.RegAccess.{RegAccess}
 use Rattle.target_machine.specs.declared.unit.Unit.TheVariants as unit
-use Rattle.access_regs.specs.Kept.{Kept, selected}
+use Rattle.access_regs.specs.Kept.{Kept, kept_with_select}
 use Rattle.access_regs.specs.Plan.{learned_cfg, select_value}
 use Rattle.packed_access.specs.Forgiving.{AreNextAccesses, WentTo}
 use Rattle.packed_access.proofs.TryMemoryLemmas.{broken_calls}
@@ -44,7 +44,7 @@ returns-then-not-learn_cfg-clause-on g c = λ m0 t rest table h.
     let n' = subst (λ (a : RegAccess). AreNextAccesses (unit.Memory c.args.size c.args.read c.args.ap c.args.address c.args.value) t [] (select_of c.args.ap 15 ∷ []) a false rest (after_cfg t c.args.size c.args.read c.args.ap c.args.address c.args.value)) (sym access) n in
     let went = subst (λ (a : RegAccess). WentTo g.F.Flights.planner c.args.forgive c.in-Ok-Some.field-0 (g.F.Flights.state port.flights) port.log (unit.Memory c.args.size c.args.read c.args.ap c.args.address c.args.value) old.managed t [] (select_of c.args.ap 15 ∷ []) a (after_cfg t c.args.size c.args.read c.args.ap c.args.address c.args.value) m0) access (c.in-Ok-Some.ensures.gives.on m0 (unit.Memory c.args.size c.args.read c.args.ap c.args.address c.args.value) old.managed t [] rest (after_cfg t c.args.size c.args.read c.args.ap c.args.address c.args.value) h n') in
     let came : c.in-Ok-Some.field-0 ≡ Some c.in-Ok-Some.cfg = c.in-Ok-Some.field-0-is ∙ ap (λ (v : ℕ). Some v) (sym c.in-Ok-Some.cfg-is) in
-    let learned : c.learn_cfg.new.self ≡ learned_cfg (selected old.managed (select_value c.args.ap 15)) c.args.ap c.in-Ok-Some.cfg = c.learn_cfg.ensures.kept ∙ ap (λ (q : Kept). learned_cfg q c.args.ap c.in-Ok-Some.cfg) c.try_port.ensures.managed in
+    let learned : c.learn_cfg.new.self ≡ learned_cfg (kept_with_select old.managed (select_value c.args.ap 15)) c.args.ap c.in-Ok-Some.cfg = c.learn_cfg.ensures.kept ∙ ap (λ (q : Kept). learned_cfg q c.args.ap c.in-Ok-Some.cfg) c.try_port.ensures.managed in
     cfg_small g.F.Flights.planner c.args.forgive _ old.log old.managed t rest m0 c.args.size c.args.read c.args.ap c.args.address c.args.value h lt c.requires.wide _ port.log c.in-Ok-Some.field-0 c.in-Ok-Some.cfg came went table c.learn_cfg.new.self learned (sym c.learn_cfg.ensures.large ∙ (search rules))
 
 pub returns-in-Ok-clause-on : goal.returns-in-Ok-clause-on
@@ -57,12 +57,12 @@ returns-in-Ok-clause-on g c = λ m0 t rest table h.
     let n' = subst (λ (a : RegAccess). AreNextAccesses (unit.Memory c.args.size c.args.read c.args.ap c.args.address c.args.value) t [] (select_of c.args.ap 15 ∷ []) a false rest (after_cfg t c.args.size c.args.read c.args.ap c.args.address c.args.value)) (sym access) n in
     let went = subst (λ (a : RegAccess). WentTo g.F.Flights.planner c.args.forgive c.in-Ok-Some.field-0 (g.F.Flights.state port.flights) port.log (unit.Memory c.args.size c.args.read c.args.ap c.args.address c.args.value) old.managed t [] (select_of c.args.ap 15 ∷ []) a (after_cfg t c.args.size c.args.read c.args.ap c.args.address c.args.value) m0) access (c.in-Ok-Some.ensures.gives.on m0 (unit.Memory c.args.size c.args.read c.args.ap c.args.address c.args.value) old.managed t [] rest (after_cfg t c.args.size c.args.read c.args.ap c.args.address c.args.value) h n') in
     let came : c.in-Ok-Some.field-0 ≡ Some c.in-Ok-Some.cfg = c.in-Ok-Some.field-0-is ∙ ap (λ (v : ℕ). Some v) (sym c.in-Ok-Some.cfg-is) in
-    let learned : c.learn_cfg.new.self ≡ learned_cfg (selected old.managed (select_value c.args.ap 15)) c.args.ap c.in-Ok-Some.cfg = c.learn_cfg.ensures.kept ∙ ap (λ (q : Kept). learned_cfg q c.args.ap c.in-Ok-Some.cfg) c.try_port.ensures.managed in
+    let learned : c.learn_cfg.new.self ≡ learned_cfg (kept_with_select old.managed (select_value c.args.ap 15)) c.args.ap c.in-Ok-Some.cfg = c.learn_cfg.ensures.kept ∙ ap (λ (q : Kept). learned_cfg q c.args.ap c.in-Ok-Some.cfg) c.try_port.ensures.managed in
     let has : has_bit c.in-Ok-Some.cfg cfg_la ≡ true = sym c.learn_cfg.ensures.large ∙ (search rules) in
     let tried = cfg_tried g.F.Flights.planner c.args.forgive _ old.log old.managed t rest m0 c.args.size c.args.read c.args.ap c.args.address c.args.value h lt c.requires.wide _ port.log c.in-Ok-Some.field-0 c.in-Ok-Some.cfg came went table in
     let shape = cfg_large g.F.Flights.planner c.args.forgive _ old.log old.managed t rest m0 c.args.size c.args.read c.args.ap c.args.address c.args.value h lt c.requires.wide _ port.log c.in-Ok-Some.field-0 c.in-Ok-Some.cfg came went table has in
     done_same g.F.Flights.planner c.args.forgive c.try_memory.new.self.managed _ c.try_memory.new.self.log (unit.Memory c.args.size c.args.read c.args.ap c.args.address c.args.value) old.managed t m0 _ false _ c.in-Ok.word _ 2 c.attempt_of-in-Ok.ensures.small c.attempt_of-in-Ok.ensures.word c.attempt_of-in-Ok.ensures.reads
-    (wide_done g.F.Flights.planner c.args.forgive _ old.log old.managed t rest m0 c.args.size c.args.read c.args.ap c.args.address c.args.value h lt c.requires.wide _ port.log c.in-Ok-Some.field-0 c.in-Ok-Some.cfg came went table c.in-Ok.word _ c.try_memory.new.self.log c.try_memory.new.self.managed (c.try_memory.ensures.managed ∙ ap (λ (q : Kept). selected q (select_value c.args.ap 0)) learned) has
+    (wide_done g.F.Flights.planner c.args.forgive _ old.log old.managed t rest m0 c.args.size c.args.read c.args.ap c.args.address c.args.value h lt c.requires.wide _ port.log c.in-Ok-Some.field-0 c.in-Ok-Some.cfg came went table c.in-Ok.word _ c.try_memory.new.self.log c.try_memory.new.self.managed (c.try_memory.ensures.managed ∙ ap (λ (q : Kept). kept_with_select q (select_value c.args.ap 0)) learned) has
     (c.in-Ok.ensures.on m0 old.managed t (select_of c.args.ap 15 ∷ ap_access_of true 4 0 ∷ []) (after_cfg t c.args.size c.args.read c.args.ap c.args.address c.args.value) tried refl shape))
 
 pub returns-in-Err-try_memory-clause-broke : goal.returns-in-Err-try_memory-clause-broke

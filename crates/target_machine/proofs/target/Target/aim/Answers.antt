@@ -2,7 +2,7 @@ use Rattle.std.proofs.Common.{◌≡◌, ◌∙◌, ℕ, List, true, false, Some
 use Rattle.std.specs.FinMap as map
 use Rattle.std.specs.Ordering.{nat_cmp}
 use Rattle.target_machine.specs.Aim.{aimed_target}
-use Rattle.target_machine.specs.Attempt.{acknowledges, done}
+use Rattle.target_machine.specs.Attempt.{acknowledges, done_attempt}
 use Rattle.target_machine.specs.State.{TargetState}
 use Rattle.target_machine.specs.declared.ap.ApState.{ApState}
 use Rattle.target_machine.proofs.AimLemmas.{aimed}
@@ -18,5 +18,5 @@ returns-clause-made c =
     ∙ ap (λ (ports : List (ℕ × ApState)). map.get (map.from_entries {R = nat_cmp} ports) c.from-number.result) (sym c.deref.ensures.value)
     ∙ sym c.ap_at.ensures ∙ c.in-Some.is in
     λ yes. aimed c.args.ap c.ranges.ap.fits c.args.self.now c.in-Some.port c.args.size c.args.address clear power (ap (map.get c.args.self.now.aps) (sym number) ∙ there)
-    ∙ ap (λ (n : ℕ). done (aimed_target c.args.self.now n c.in-Some.port c.args.size c.args.address)) (sym number)
-    ∙ ap done (sym c.aim_port.ensures)
+    ∙ ap (λ (n : ℕ). done_attempt (aimed_target c.args.self.now n c.in-Some.port c.args.size c.args.address)) (sym number)
+    ∙ ap done_attempt (sym c.aim_port.ensures)

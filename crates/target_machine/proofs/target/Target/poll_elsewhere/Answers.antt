@@ -1,12 +1,12 @@
 use Rattle.std.proofs.Common.{ap, sym, ◌∙◌, ℕ, ◌<◌, arith}
-use Rattle.target_machine.specs.Plain.{polled}
+use Rattle.target_machine.specs.Plain.{poll_result}
 use Rattle.target_machine.specs.State.{TargetState}
 use Rattle.target_machine.proofs.PollLemmas.{elsewhere_all, elsewhere_fault, elsewhere_match, polled_none}
 use Rattle.target_machine.proofs.target.Target.poll_elsewhere.Goals as goal
 
 pub returns-then-turns-eq0 : goal.returns-then-turns-eq0
 returns-then-turns-eq0 c =
-    sym (ap (λ (n : ℕ). polled n c.args.mask c.args.requested c.args.self.now) c.if-turns-eq0.true ∙ polled_none c.args.mask c.args.requested c.args.self.now)
+    sym (ap (λ (n : ℕ). poll_result n c.args.mask c.args.requested c.args.self.now) c.if-turns-eq0.true ∙ polled_none c.args.mask c.args.requested c.args.self.now)
 
 pub returns-then-self : goal.returns-then-self
 returns-then-self c =
