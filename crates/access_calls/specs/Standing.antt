@@ -5,7 +5,7 @@ use Rattle.target_machine.specs.Plain.{Action, Makes, Polls, Commands, command_a
 use Rattle.target_machine.specs.State.{TargetState, Agree}
 use Rattle.target_machine.specs.declared.unit.ProbeCall.TheVariants as probe
 use Rattle.dap_transfer.specs.State.{Setting}
-use Rattle.dap_transfer.specs.WireTransfer.{next_number}
+use Rattle.dap_transfer.specs.WireTransfer.{next_number, RetryIsOver}
 use Rattle.probe_core.specs.Bench.{BenchState}
 use Rattle.probe_core.specs.Probe.{ended_retries_of, target_of, work_of}
 use Rattle.probe_core.specs.declared.job.Limits.{Limits}
@@ -36,10 +36,6 @@ pending_of m = m.probe.executor.transfers.pending
 -- what the transfers of the probe are set to: the retry number, match retry, and how many WAITs each transfer meets
 abbrev pub transfer_setting_of : BenchState → Setting
 transfer_setting_of m = m.probe.executor.transfers.setting
-
--- The last transfer that may wait met more WAITs than the retry number allows: this is the number of the next one.
-abbrev pub RetryIsOver : Setting → ℕ → Type 0
-RetryIsOver s number = (place : ℕ) × (number ≡ next_number place) × (s.retry < slice_index s.stalls place)
 
 -- the idle cycles after each transfer, as the last DAP_TransferConfigure set them
 abbrev pub idle_cycles_of : BenchState → ℕ

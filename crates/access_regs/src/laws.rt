@@ -2,7 +2,9 @@
 ghost use Rattle.access_regs.specs.Closed.{MemoryAtEntry, MemoryFollowsCalls};
 ghost use Rattle.access_regs.specs.Costs.{AloneReads, PlannedReads, PortReads};
 ghost use Rattle.access_regs.specs.Entries.{CallAnswers, JournalGrows, JournalMarks, JournalWeighs, LeadsAreGood, SelectIsGood, UnitsInRange};
-ghost use Rattle.access_regs.specs.Laws.{AloneKept, CallGoes, CallLeaves, FreshFollows, JournalAgrees, JournalAnswers, JournalFollows, JournalJoins, JournalPasses, JournalStops, KeptAfterCfg, KeptByCfg, KeptBySelect, KeptJoins, LaterEntries, PlainIsAlone, PortKept, SettlingEnds, UnitKeepsMemory};
+ghost use Rattle.access_regs.specs.Laws.{AloneKept, CallGoes, CallLeaves, FreshFollows, JournalAgrees, JournalAnswers, JournalFollows, JournalJoins};
+ghost use Rattle.access_regs.specs.Laws.{JournalPasses, JournalStops, KeptAfterCfg, KeptByCfg, KeptBySelect, KeptJoins, LaterEntries, PlainIsAlone};
+ghost use Rattle.access_regs.specs.Laws.{PortKept, SettlingEnds, UnitKeepsMemory};
 ghost use Rattle.access_regs.specs.Light.{JournalIsLight};
 ghost use Rattle.access_regs.specs.Skips.{FaultSkips, PassingIsMade};
 ghost use Rattle.access_regs.specs.Stops.{FaultStops, PassingStops, WaitStops};

@@ -8,7 +8,7 @@ use Rattle.dap_messages.specs.declared.command.PacketKind.TheVariants.{Execute, 
 use Rattle.dap_messages.specs.declared.request.Response.{Response}
 use Rattle.dap_messages.specs.declared.request.Response.TheVariants.{Good, Wait, Fault, Mismatch}
 use Rattle.dap_messages.specs.Commands.{bytes_of_kind, command_bytes}
-use Rattle.dap_transfer.specs.State.{TransferState, is_good}
+use Rattle.dap_transfer.specs.State.{TransferState}
 use Rattle.probe_core.specs.Bench.{BenchState, Exchange, Reported, StepsTo, counted_up, bench_after_reply, reported_after_reply, reported_after_packet, bench_after_packet}
 use Rattle.probe_core.specs.Commands.{with_transfers}
 use Rattle.probe_core.specs.Probe.{ExecutorState, ProbeState, is_queued}
@@ -30,6 +30,7 @@ use Rattle.batch_packer.specs.Flying.{HasFlown, HasFlownBy, IsReady, MayHaveFlow
 use Rattle.batch_packer.specs.Queues.{HandedSome, IsQueue, ServedSome}
 use Rattle.batch_packer.specs.Readings.{IsSeen}
 use Rattle.batch_packer.specs.declared.part.FlightProgress.{FlightProgress}
+use Rattle.dap_messages.specs.Responses.{is_good}
 
 -- ---- the packets
 

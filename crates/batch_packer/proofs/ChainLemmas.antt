@@ -11,7 +11,7 @@ use Rattle.dap_messages.specs.Commands.{IsCommand, bytes_of_kind}
 use Rattle.dap_messages.specs.Replies.{Answers, reply_bytes}
 use Rattle.dap_replies.specs.ReplyViews.{reply_shown}
 use Rattle.dap_replies.proofs.ReplyLaws.{response-code}
-use Rattle.dap_transfer.specs.State.{TransferState, Transferred, is_good}
+use Rattle.dap_transfer.specs.State.{TransferState, Transferred}
 use Rattle.dap_transfer.specs.Transfer.{transfer_result}
 use Rattle.probe_core.specs.Bench.{BenchState, counted_up, bench_after_reply, bench_after_packet}
 use Rattle.probe_core.specs.Commands.{with_transfers}
@@ -25,6 +25,7 @@ use Rattle.batch_packer.proofs.PacketLemmas.{answered_one}
 use Rattle.batch_packer.specs.ChainReadings.{guarded_reading, is_mismatch, joined_if, readings_after, then_reading}
 use Rattle.batch_packer.specs.Queues.{HandedSome}
 use Rattle.batch_packer.specs.Readings.{part_as, part_in, shown_in}
+use Rattle.dap_messages.specs.Responses.{is_good}
 
 -- the reply to a packet of a chain
 abbrev pub guarded_reply : Transferred → List ℕ

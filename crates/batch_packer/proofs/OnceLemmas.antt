@@ -6,7 +6,7 @@ use Rattle.target_machine.specs.Plain.{dp_read_of}
 use Rattle.target_machine.specs.declared.access.RegAccess.{RegAccess}
 use Rattle.dap_messages.specs.declared.request.Response.{Response}
 use Rattle.dap_messages.specs.declared.request.Response.TheVariants.{Good, Wait, Fault, Mismatch}
-use Rattle.dap_transfer.specs.State.{Setting, TransferState, Transferred, WireState, is_good}
+use Rattle.dap_transfer.specs.State.{Setting, TransferState, Transferred, WireState}
 use Rattle.dap_transfer.specs.Transfer.{transfer_result}
 use Rattle.dap_messages.specs.Requests.{read_request}
 use Rattle.dap_transfer.specs.WireTransfer.{ends, wire_ending_as}
@@ -15,6 +15,7 @@ use Rattle.dap_transfer.proofs.Polls.{first_good}
 use Rattle.flight_forms.specs.Flights.{part_of}
 use Rattle.flight_forms.specs.Packing.{requests_for}
 use Rattle.batch_packer.specs.Flying.{ReadsOnce}
+use Rattle.dap_messages.specs.Responses.{is_good}
 
 abbrev one : List RegAccess
 one = dp_read_of 0x4 ∷ []

@@ -9,7 +9,6 @@ use Rattle.dap_messages.specs.Commands.{bytes_of_kind}
 use Rattle.dap_messages.specs.Requests.{mask_request, match_request}
 use Rattle.dap_transfer.specs.Laws.{AreNormal}
 use Rattle.flight_forms.proofs.AskedRequests.{payload_normal}
-use Rattle.dap_transfer.specs.State.{is_good}
 use Rattle.flight_forms.specs.Flights.{Part}
 use Rattle.flight_forms.specs.Forms.{filled_parts, parts_of}
 use Rattle.flight_forms.specs.Packets.{FitChain, FitsPacket, chain_kind, chain_packets, guarded_command}
@@ -21,6 +20,7 @@ use Rattle.batch_packer.specs.Queues.{IsPartPacket}
 use Rattle.batch_packer.specs.Readings.{IsPacketOf, IsSeen, IsShown, part_with, reading}
 use Rattle.batch_packer.specs.declared.part.FlightProgress.{FlightProgress}
 use Rattle.dap_base.proofs.Basics.{first_is}
+use Rattle.dap_messages.specs.Responses.{is_good}
 
 -- ---- the payload between the guard and its end
 

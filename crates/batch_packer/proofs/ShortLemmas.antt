@@ -10,8 +10,7 @@ use Rattle.dap_messages.specs.Replies.{Answers, ReplyValue}
 use Rattle.dap_replies.specs.ReplyViews.{IsReplyTo, Shown, reply_shown}
 use Rattle.dap_messages.specs.Replies as reply
 use Rattle.dap_replies.specs.ReplyReading.{reply_read}
-use Rattle.dap_messages.specs.Responses.{code_of, response_of}
-use Rattle.dap_transfer.specs.State.{is_good}
+use Rattle.dap_messages.specs.Responses.{code_of, response_of, is_good}
 use Rattle.flight_forms.proofs.GuardedShortness.{guarded_shows, parts_joined}
 use Rattle.flight_forms.proofs.Shortness.{block_shows, transfer_shows}
 use Rattle.flight_forms.specs.Chains.{AllTaken, joined_as}

@@ -3,13 +3,13 @@ use Rattle.std.specs.Prelude.{ℕ, ◌+◌, Bool, true, false, ◌&&◌, ◌||�
 use Rattle.target_machine.specs.declared.access.RegAccess.{RegAccess}
 use Rattle.dap_messages.specs.declared.request.Response.{Response}
 use Rattle.dap_messages.specs.declared.request.Response.TheVariants.{Good, Mismatch}
-use Rattle.dap_transfer.specs.State.{is_good}
 use Rattle.flight_forms.specs.Chains.{joined_as, nothing_yet}
 use Rattle.flight_forms.specs.Flights.{Part}
 use Rattle.flight_forms.specs.Forms.{parts_of}
 use Rattle.flight_forms.specs.Packets.{guarded_command}
 use Rattle.flight_forms.specs.Packing.{payload}
 use Rattle.batch_packer.specs.Readings.{reading}
+use Rattle.dap_messages.specs.Responses.{is_good}
 
 -- whether a reply begins with DAP_ExecuteCommands, or DAP_QueueCommands, and the number 1
 abbrev pub is_of_one : ℕ → ℕ → Bool

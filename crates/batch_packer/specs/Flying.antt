@@ -5,7 +5,7 @@ use Rattle.target_machine.specs.InRange.{IsInRange}
 use Rattle.target_machine.specs.Plain.{dp_read_of}
 use Rattle.target_machine.specs.declared.access.RegAccess.{RegAccess}
 use Rattle.dap_messages.specs.declared.request.Response.TheVariants.{Good}
-use Rattle.dap_transfer.specs.State.{TransferState, is_good}
+use Rattle.dap_transfer.specs.State.{TransferState}
 use Rattle.probe_core.specs.Bench.{BenchState, Reported, counted_up}
 use Rattle.probe_core.specs.Commands.{with_transfers}
 use Rattle.probe_core.specs.Probe.{target_of}
@@ -18,6 +18,7 @@ use Rattle.flight_forms.specs.declared.form.Form.TheVariants.{Chain, Transfer}
 use Rattle.batch_packer.specs.Exchanges.{IsIdle, StepsWhere, TakesPackets}
 use Rattle.batch_packer.specs.Readings.{part_with}
 use Rattle.batch_packer.specs.declared.part.FlightProgress.{FlightProgress}
+use Rattle.dap_messages.specs.Responses.{is_good}
 
 -- what makes the transfers of a bench
 abbrev pub transfers_of : BenchState → TransferState

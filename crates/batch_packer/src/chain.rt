@@ -1,6 +1,5 @@
 //! A guarded chain over a bench: its packets, its replies, and what they show.
 ghost use Rattle.std.specs.Prelude.{◌≡◌, ◌+◌, ◌*◌, ◌^◌, ◌≤◌, ◌<◌, ◌++◌, ℕ, List, [], Option, if◌then◌else◌, length, IfSome, IfOk, OnOk, OnErr};
-ghost use Rattle.dap_transfer.specs.State.{is_good};
 ghost use Rattle.flight_forms.specs.Chains.{AllTaken};
 ghost use Rattle.flight_forms.specs.Flights.{IsPartOf};
 ghost use Rattle.flight_forms.specs.Forms.{parts_of};
@@ -15,6 +14,7 @@ ghost use Rattle.batch_packer.specs.Flying.{HasFlownBy, MayHaveFlown, StepsReady
 ghost use Rattle.batch_packer.specs.Queues.{IsChain, IsSentPart};
 ghost use Rattle.batch_packer.specs.Readings.{IsNear, IsSeen, IsShown, ReadsFew, part_with};
 ghost use Rattle.batch_packer.specs.Rooms.{IsFreshRoom, KeepsRoom, most_requests};
+ghost use Rattle.dap_messages.specs.Responses.{is_good};
 
 use crate::packing::put_packets;
 use crate::part::FlightProgress;

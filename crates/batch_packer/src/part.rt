@@ -4,11 +4,11 @@ ghost use Rattle.dap_messages.specs.Requests.{kind_of, reads_in, write_after, wr
 ghost use Rattle.target_machine.specs.Counts.{one_if};
 ghost use Rattle.dap_transfer.specs.Laws.{AreNormal};
 ghost use Rattle.dap_transfer.specs.Private.{word_of};
-ghost use Rattle.dap_transfer.specs.State.{is_good};
 ghost use Rattle.dap_transfer.specs.Wires.{access_of};
 ghost use Rattle.flight_forms.specs.Flights.{is_own, part_of, seen_one, seen_values};
 ghost use Rattle.batch_packer.specs.Readings.{IsFew};
 ghost use Rattle.batch_packer.specs.SlotList.{SlotList};
+ghost use Rattle.dap_messages.specs.Responses.{is_good};
 
 use crate::slots::Slots;
 use dap_messages::{ADDRESS_BITS, APNDP, RNW, Request, RequestKind, Response};

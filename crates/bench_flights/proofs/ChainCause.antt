@@ -10,7 +10,7 @@ use Rattle.dap_messages.specs.Replies.{kind_at, may_end, may_end_block, passes, 
 use Rattle.dap_replies.specs.ReplyViews.{Shown}
 use Rattle.dap_replies.specs.ReplyReading.{is_missing, reply_read}
 use Rattle.dap_messages.specs.Requests.{is_match, kind}
-use Rattle.dap_messages.specs.Responses.{code_of, response_of}
+use Rattle.dap_messages.specs.Responses.{code_of, response_of, is_good}
 use Rattle.dap_messages.specs.declared.command.PacketKind.{PacketKind}
 use Rattle.dap_messages.specs.declared.command.PacketKind.TheVariants.{Plain, Execute, Queue}
 use Rattle.dap_messages.specs.declared.command_value.CommandValue.{CommandValue}
@@ -18,7 +18,6 @@ use Rattle.dap_messages.specs.declared.error.MessageError.{MessageError}
 use Rattle.dap_messages.specs.declared.request.Response.{Response}
 use Rattle.dap_messages.specs.declared.request.Response.TheVariants.{Good, Wait, Fault, Mismatch}
 use Rattle.dap_replies.proofs.ReplyLaws.{response-code, response_is}
-use Rattle.dap_transfer.specs.State.{is_good}
 use Rattle.flight_forms.specs.Chains.{joined_as, nothing_yet}
 use Rattle.flight_forms.specs.Flights.{Part}
 use Rattle.flight_forms.specs.Packets.{FitChain, block_command, chain_kind, chain_packets, guarded_command, transfer_command}

@@ -12,7 +12,7 @@ use Rattle.target_calls.proofs.EntryLemmas.{weight_some}
 use Rattle.dap_transfer.specs.State.{Setting, grown_work}
 use Rattle.probe_core.specs.Bench.{BenchState, StepsTo}
 use Rattle.probe_core.specs.Probe.{target_of, work_of}
-use Rattle.access_calls.specs.Standing.{RetryIsOver, transfer_number_of}
+use Rattle.access_calls.specs.Standing.{transfer_number_of}
 use Rattle.batch_packer.specs.Flying.{CanFly}
 use Rattle.batch_packer.specs.declared.ends.FlightEnd.{FlightEnd}
 use Rattle.batch_packer.specs.declared.ends.FlightEnd.TheVariants as ends
@@ -20,6 +20,7 @@ use Rattle.bench_flights.specs.Flown.{DidLess, HasDoneWhole, LeftActionOff, WasU
 use Rattle.bench_flights.specs.Wires.{HasLooked, HasRead, HasWaited, IsUnread, ReadOrNot}
 use Rattle.bench_flights.proofs.LookLemmas.{first_turn, looked_done, looked_more, looked_none, looked_stops, more_reads, polled_more, polled_select, polled_stops, unmet_of, unmet_reads}
 use Rattle.bench_flights.proofs.WireLemmas.{steps_join, steps_map}
+use Rattle.dap_transfer.specs.WireTransfer.{RetryIsOver}
 
 -- ---- one read is a poll of one turn
 

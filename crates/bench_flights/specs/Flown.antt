@@ -20,13 +20,14 @@ use Rattle.probe_core.specs.Runs.{KeepsRuns}
 use Rattle.probe_core.specs.declared.job.Limits.{Limits}
 use Rattle.target_calls.specs.Weights.{weight}
 use Rattle.access_calls.specs.Causes.{HasResponse, IsBadReply}
-use Rattle.access_calls.specs.Standing.{IsPartOfAction, RetryIsOver, idle_cycles_of, pending_of, transfer_number_of, transfer_setting_of}
+use Rattle.access_calls.specs.Standing.{IsPartOfAction, idle_cycles_of, pending_of, transfer_number_of, transfer_setting_of}
 use Rattle.batch_packer.specs.Flying.{CanFly}
 use Rattle.batch_packer.specs.declared.ends.Cut.{Cut}
 use Rattle.batch_packer.specs.declared.ends.FlightEnd.{FlightEnd}
 use Rattle.batch_packer.specs.declared.ends.FlightEnd.TheVariants as ends
 use Rattle.batch_packer.specs.Actions.{DoesAction}
 use Rattle.batch_packer.specs.Flying.{Flies, transfers_of}
+use Rattle.dap_transfer.specs.WireTransfer.{RetryIsOver}
 
 -- the numbers of the target fit their registers and words
 abbrev pub IsTargetInRange : BenchState → Type 0

@@ -12,7 +12,7 @@ use Rattle.dap_transfer.specs.State.{grown_work}
 use Rattle.probe_core.specs.Bench.{BenchState, Reported}
 use Rattle.probe_core.specs.Probe.{ended_retries_of, target_of, work_of}
 use Rattle.probe_core.specs.declared.job.Limits.{Limits}
-use Rattle.access_calls.specs.Standing.{RetryIsOver, idle_cycles_of, pending_of, transfer_number_of, transfer_setting_of}
+use Rattle.access_calls.specs.Standing.{idle_cycles_of, pending_of, transfer_number_of, transfer_setting_of}
 use Rattle.flight_forms.specs.Forms.{form_of}
 use Rattle.batch_packer.specs.Actions.{Acts, is_one}
 use Rattle.batch_packer.specs.FlightStates.{FlightState, item_at}
@@ -21,6 +21,7 @@ use Rattle.batch_packer.specs.Polling.{AreTurns}
 use Rattle.batch_packer.specs.declared.ends.FlightEnd.{FlightEnd}
 use Rattle.batch_packer.specs.declared.ends.FlightEnd.TheVariants as ends
 use Rattle.bench_flights.specs.Flown.{BenchGoesOn, FlightHasCause}
+use Rattle.dap_transfer.specs.WireTransfer.{RetryIsOver}
 
 -- A flight that can be used, and of which nothing was pushed.
 pub record IsFree (flight : FlightState) : Type 0 where

@@ -1,15 +1,15 @@
 -- The lines of the texts. Each ends with a line feed.
 use Rattle.std.specs.Prelude.{ℕ, List, ◌∷◌, ◌++◌, length, map, codes, decimal, Option, Some, None}
 use Rattle.std.specs.List.{flat_map}
-use Rattle.dap_base.specs.declared.text.Place.{Place}
 use Rattle.device_tree.specs.StepTree.{StepTree}
 use Rattle.code_check.specs.declared.fault.FaultKind.{FaultKind}
 use Rattle.sequence_trees.specs.declared.spot.Part.{Part}
 use Rattle.sequence_trees.specs.declared.spot.Spot.{Spot}
+use Rattle.sequence_trees.specs.Parts.{part_word}
 use Rattle.sequence_resolve.specs.declared.entry.SeqEntry.{SeqEntry}
 use Rattle.sequence_resolve.specs.declared.entry.SeqSet.{SeqSet}
-use Rattle.text_lines.specs.Shown.{shown_text, dotted_numbers}
-use Rattle.check_lines.specs.Words.{level_word, part_word, kind_word, disabled_word}
+use Rattle.text_lines.specs.Shown.{shown_text, dotted_numbers, place_words}
+use Rattle.check_lines.specs.Words.{level_word, kind_word, disabled_word}
 use Rattle.check_lines.specs.Counts.{block_count, control_count, atomic_count}
 
 -- ---- a valid set
@@ -37,10 +37,6 @@ abbrev pub check_text : SeqSet → List ℕ
 check_text set = flat_map (λ line. line) (check_lines set)
 
 -- ---- a fault
-
--- a line and a column of a text
-abbrev pub place_words : Place → List ℕ
-place_words place = codes " " ++ decimal place.line ++ codes ":" ++ decimal place.column
 
 -- the name of a sequence, the numbers of a step in it, and a part of the step
 abbrev pub step_words : List ℕ → List ℕ → Part → List ℕ

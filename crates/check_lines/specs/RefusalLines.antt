@@ -5,13 +5,13 @@ use Rattle.json_form.specs.declared.path.PathStep.{PathStep}
 use Rattle.json_form.specs.declared.fault.JobFault.{JobFault}
 use Rattle.json_form.specs.Faults.{fault_name, fault_path}
 use Rattle.hex_image.specs.declared.fault.ImageKind.{ImageKind}
-use Rattle.text_lines.specs.Shown.{shown_text}
+use Rattle.text_lines.specs.Shown.{shown_text, place_words}
 use Rattle.job_check.specs.declared.answer.DbgconfKind.{DbgconfKind}
 use Rattle.job_check.specs.declared.answer.Refusal.{Refusal}
 use Rattle.job_check.specs.declared.answer.Refusal.TheVariants as refusals
 use Rattle.check_lines.specs.PathText.{path_text}
 use Rattle.check_lines.specs.Words.{dbgconf_word, image_word}
-use Rattle.check_lines.specs.CheckLines.{fault_line, place_words}
+use Rattle.check_lines.specs.CheckLines.{fault_line}
 
 -- the name of a job's fault and its path, each byte of which is shown
 abbrev pub path_line : List ℕ → List PathStep → List ℕ

@@ -2,8 +2,6 @@
 use Rattle.std.specs.Prelude.{ℕ, Bool, true, false, List, [], codes}
 use Rattle.code_check.specs.declared.fault.FaultKind.{FaultKind}
 use Rattle.code_check.specs.declared.fault.FaultKind.TheVariants as kinds
-use Rattle.sequence_trees.specs.declared.spot.Part.{Part}
-use Rattle.sequence_trees.specs.declared.spot.Part.TheVariants as parts
 use Rattle.sequence_resolve.specs.declared.entry.LevelKind.{LevelKind}
 use Rattle.sequence_resolve.specs.declared.entry.LevelKind.TheVariants as levels
 use Rattle.hex_image.specs.declared.fault.ImageKind.{ImageKind}
@@ -18,14 +16,6 @@ level_word levels.Family = codes "family"
 level_word levels.SubFamily = codes "subFamily"
 level_word levels.Device = codes "device"
 level_word levels.Variant = codes "variant"
-
--- the name of a part of a step, or of the debug variables: their key in the job
-abbrev pub part_word : Part → List ℕ
-part_word parts.Debugvars = codes "debugvars"
-part_word parts.Control = codes "control"
-part_word parts.Block = codes "block"
-part_word parts.If = codes "if"
-part_word parts.While = codes "while"
 
 -- the name of a kind of fault of a set
 abbrev pub kind_word : FaultKind → List ℕ

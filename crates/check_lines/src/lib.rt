@@ -8,7 +8,7 @@ mod refusals;
 mod words;
 mod writing;
 
-pub use lines::with_fault;
+pub use lines::{with_fault, with_where};
 pub use refusals::{write_no_sequence, write_refusal, write_too_long, write_usage};
-pub use words::{kind_text, part_text};
+pub use words::kind_text;
 pub use writing::{write_check, write_check_fault};

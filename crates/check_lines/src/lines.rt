@@ -2,15 +2,15 @@
 ghost use Rattle.std.specs.Prelude.{◌≡◌, ◌++◌, codes, IfOk};
 ghost use Rattle.text_lines.specs.Shown.{shown_text};
 ghost use Rattle.check_lines.specs.Words.{level_word, kind_word};
-ghost use Rattle.check_lines.specs.CheckLines.{head_line, counts_words, sequence_line, place_words, step_words, where_words, fault_words, fault_line};
+ghost use Rattle.check_lines.specs.CheckLines.{head_line, counts_words, sequence_line, step_words, where_words, fault_words, fault_line};
 
 use crate::counts::counts_of;
-use crate::words::{disabled_text, kind_text, level_text, part_text};
+use crate::words::{disabled_text, kind_text, level_text};
 use code_check::FaultKind;
-use dap_base::{OutOfMemory, Place};
+use dap_base::OutOfMemory;
 use device_tree::Steps;
 use sequence_resolve::SeqEntry;
-use sequence_trees::Spot;
+use sequence_trees::{Spot, part_text};
 use std::alloc::Global;
 use text_lines::Line;
 
@@ -56,7 +56,9 @@ fn with_step(line: Line, name: &str, spot: &Spot) -> Result<Line, OutOfMemory>
     line.text(" ")?.text(part_text(spot.part))
 }
 
-fn with_where(line: Line, spot: &Spot) -> Result<Line, OutOfMemory>
+/// The line with a space, and the sequence of a place, the numbers of the steps that lead to its step, and the part. In the debug variables
+/// ` debugvars` is added. `OutOfMemory` where memory is refused; the line is then dropped.
+pub fn with_where(line: Line, spot: &Spot) -> Result<Line, OutOfMemory>
     ensures { IfOk result (λ l. l ≡ line ++ where_words spot.now.sequence spot.now.path spot.now.part) }
 {
     match &spot.sequence {
@@ -65,22 +67,13 @@ fn with_where(line: Line, spot: &Spot) -> Result<Line, OutOfMemory>
     }
 }
 
-/// The line with a space and the place after it.
-pub fn with_place(line: Line, place: Place) -> Result<Line, OutOfMemory>
-    ensures { IfOk result (λ l. l ≡ line ++ place_words place) }
-{
-    line.add_labelled(" ", place.line)?
-        .add_labelled(":", place.column)
-}
-
 /// The line, with what is wrong and where added. That is the kind, the sequence, the numbers of the steps that lead to the step with dots
 /// between them, its part, and line and column there. In the code of the debug variables `debugvars` is in place of sequence, steps and
 /// part. `OutOfMemory` where memory is refused; the line is then dropped.
 pub fn with_fault(line: Line, kind: FaultKind, spot: &Spot) -> Result<Line, OutOfMemory>
     ensures { IfOk result (λ l. l ≡ line ++ fault_words kind spot.now) }
 {
-    let line = with_where(line.text(kind_text(kind))?, spot)?;
-    with_place(line, spot.place)
+    with_where(line.text(kind_text(kind))?, spot)?.add_place(spot.place)
 }
 
 pub fn fault_text(alloc: Global, kind: FaultKind, spot: &Spot) -> Result<Line, OutOfMemory>

@@ -3,7 +3,6 @@ ghost use Rattle.std.specs.Prelude.{◌≡◌, IfOk};
 ghost use Rattle.text_lines.specs.Puts.{PutsText};
 ghost use Rattle.check_lines.specs.RefusalLines.{path_line, job_fault_line, image_line, dbgconf_line, refusal_line, too_long_line, no_sequence_line, usage_line};
 
-use crate::lines::with_place;
 use crate::path::with_path;
 use crate::words::{dbgconf_kind_text, image_kind_text};
 use crate::writing::write_check_fault;
@@ -43,7 +42,7 @@ fn dbgconf_fault_text(alloc: Global, kind: DbgconfKind, at: Place) -> Result<Lin
     ensures { IfOk result (λ line. line ≡ dbgconf_line kind at) }
 {
     let line = Line::begin(alloc, "refused dbgconf ")?.text(dbgconf_kind_text(kind))?;
-    with_place(line, at)?.text("\n")
+    line.add_place(at)?.text("\n")
 }
 
 /// Puts the line of a refusal by one `put`. That is `refused`, and then one of these:

@@ -1,12 +1,11 @@
 //! The words of the texts.
 ghost use Rattle.std.specs.Prelude.{◌≡◌};
-ghost use Rattle.check_lines.specs.Words.{level_word, part_word, kind_word, dbgconf_word, image_word, disabled_word};
+ghost use Rattle.check_lines.specs.Words.{level_word, kind_word, dbgconf_word, image_word, disabled_word};
 
 use code_check::FaultKind;
 use hex_image::ImageKind;
 use job_check::DbgconfKind;
 use sequence_resolve::LevelKind;
-use sequence_trees::Part;
 
 pub fn level_text(level: LevelKind) -> &'static str
     ensures { result.now ≡ level_word level }
@@ -17,19 +16,6 @@ pub fn level_text(level: LevelKind) -> &'static str
         LevelKind::SubFamily => "subFamily",
         LevelKind::Device => "device",
         LevelKind::Variant => "variant",
-    }
-}
-
-/// The word of a part of a step, as `block`.
-pub fn part_text(part: Part) -> &'static str
-    ensures { result.now ≡ part_word part }
-{
-    match part {
-        Part::Debugvars => "debugvars",
-        Part::Control => "control",
-        Part::Block => "block",
-        Part::If => "if",
-        Part::While => "while",
     }
 }
 

@@ -3,14 +3,14 @@ use Rattle.std.proofs.Common.{◌≡◌, ◌∙◌, sym, ap, subst, ℕ, zero, s
 use Rattle.std.proofs.lemmas.List.{take_more, map-append, length-map, length-take-le}
 use Rattle.expr_grammar.specs.declared.code.Arg.{Arg}
 use Rattle.expr_grammar.specs.declared.code.TextArg as string
-use Rattle.expr_grammar.specs.Tree.{ArgTree, args_of, arg_tree, arg_trees}
+use Rattle.expr_grammar.specs.Tree.{ArgTree, args_of, arg_tree, arg_trees, arg_count}
 use Rattle.std.specs.Option.{option_and_then}
 use Rattle.function_table.specs.declared.function.Function.{Function}
 use Rattle.function_table.specs.Functions.{kind_at}
 use Rattle.code_check.specs.declared.fault.CodeFault.{CodeFault}
 use Rattle.code_check.specs.Order.{is_before, earlier}
 use Rattle.code_check.specs.First.{IsFirst, InEither, here, there}
-use Rattle.code_check.specs.ExprFaults.{Scope, ArgFault, ArgsFault, KindFault, KindsFault, arg_count, text_of, text_at}
+use Rattle.code_check.specs.ExprFaults.{Scope, ArgFault, ArgsFault, KindFault, KindsFault, text_of, text_at}
 use Rattle.code_check.proofs.OrderLemmas.{first_of_two, first_of_same}
 
 pub arg_trees-take : (xs : List Arg) (i : ℕ) (x : Arg) → i < length xs → arg_trees (take (i + 1) xs) ≡ args_of (map arg_tree (take i xs) ++ arg_tree (get_or xs i x) ∷ [])

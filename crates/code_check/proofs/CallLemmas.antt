@@ -2,7 +2,7 @@
 use Rattle.std.proofs.Common.{◌≡◌, ◌↔◌, sym, subst, ℕ, ◌-◌, Bool, true, false, IsTrue, Option, Some, None, refl, true≢false}
 use Rattle.expr_grammar.specs.declared.code.Name.{Name}
 use Rattle.expr_grammar.specs.declared.code.TextArg as string
-use Rattle.expr_grammar.specs.Tree.{ArgTrees}
+use Rattle.expr_grammar.specs.Tree.{ArgTrees, arg_count}
 use Rattle.function_table.specs.declared.function.Function.{Function}
 use Rattle.function_table.specs.declared.function.Function.TheVariants as functions
 use Rattle.function_table.specs.Functions.{name_of, Takes}
@@ -10,7 +10,7 @@ use Rattle.code_check.specs.declared.fault.FaultKind.TheVariants as k
 use Rattle.code_check.specs.declared.fault.CodeFault.{CodeFault}
 use Rattle.code_check.specs.Order.{is_before, earlier}
 use Rattle.code_check.specs.First.{IsFirst}
-use Rattle.code_check.specs.ExprFaults.{Scope, arg_count, text_at, OfText, SequenceFault, FormatFault, TextsFault, KindsFault, KnownFault, NamesNone, FunctionFault}
+use Rattle.code_check.specs.ExprFaults.{Scope, text_at, OfText, SequenceFault, FormatFault, TextsFault, KindsFault, KnownFault, NamesNone, FunctionFault}
 use Rattle.code_check.proofs.OrderLemmas.{first_of_two, first_of_here, first_of_there, first_of_none, first_where, first_where_not, first_of_where, first_of_where_not, first_of_same}
 
 first_at_text : (P : string.TextArg → CodeFault → Type 0) (r : Option CodeFault) (o : Option string.TextArg) (t : string.TextArg) → o ≡ Some t → IsFirst is_before (P t) r → IsFirst is_before (OfText P o) r

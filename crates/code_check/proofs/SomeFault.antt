@@ -6,7 +6,7 @@ use Rattle.dap_base.specs.declared.text.Place.{Place}
 use Rattle.expr_grammar.specs.declared.code.Name.{Name}
 use Rattle.expr_grammar.specs.declared.code.TextArg as string
 use Rattle.expr_grammar.specs.Tree as t
-use Rattle.expr_grammar.specs.Tree.{Tree, ArgTree, ExprArg, TextArg, ArgTrees, NoArgs, MoreArgs, StmtTree}
+use Rattle.expr_grammar.specs.Tree.{Tree, ArgTree, ExprArg, TextArg, ArgTrees, NoArgs, MoreArgs, StmtTree, arg_count}
 use Rattle.function_table.specs.declared.function.Function.{Function}
 use Rattle.function_table.specs.declared.function.Function.TheVariants as functions
 use Rattle.function_table.specs.declared.function.ParameterKind.{ParameterKind}
@@ -19,10 +19,10 @@ use Rattle.function_table.proofs.Lookup.{its_own, exactly}
 use Rattle.code_check.specs.declared.fault.FaultKind.{FaultKind}
 use Rattle.code_check.specs.declared.fault.FaultKind.TheVariants as k
 use Rattle.code_check.specs.declared.fault.CodeFault.{CodeFault}
-use Rattle.code_check.specs.Names.{has_name}
+use Rattle.expr_grammar.specs.Names.{has_name}
 use Rattle.code_check.specs.Order.{is_before, earlier}
 use Rattle.code_check.specs.First.{IsFirst, Nowhere, InEither, FaultWhere, Where}
-use Rattle.code_check.specs.ExprFaults.{Scope, NameFault, arg_count, KindFault, KindsFault, text_at, OfText, SequenceFault, IsFormatOf, FormatFault, TextsFault, ArgumentsFault, KnownFault, FunctionFault, CallFault, ExprFault, ArgFault, ArgsFault}
+use Rattle.code_check.specs.ExprFaults.{Scope, NameFault, KindFault, KindsFault, text_at, OfText, SequenceFault, IsFormatOf, FormatFault, TextsFault, ArgumentsFault, KnownFault, FunctionFault, CallFault, ExprFault, ArgFault, ArgsFault}
 use Rattle.code_check.specs.BlockFaults.{names_after, seeing, StmtFault, BlockFault}
 use Rattle.code_check.proofs.OrderLemmas.{first_of_two, first_of_none, first_where, first_where_not, first_of_where, first_of_where_not}
 use Rattle.code_check.proofs.CallLemmas.{at_function, at_no_function}

@@ -4,7 +4,7 @@ use Rattle.std.proofs.lemmas.Slice.Eq.{bytes_eq-Decides}
 use Rattle.std.proofs.lemmas.List.Folds.{list_any-append}
 use Rattle.std.proofs.Math.Bool.{or-false}
 use Rattle.expr_grammar.specs.Tree.{StmtTree, Empty, Declare, Plain}
-use Rattle.code_check.specs.Names.{has_name, with_name}
+use Rattle.expr_grammar.specs.Names.{has_name, with_name}
 use Rattle.code_check.specs.BlockFaults.{names_after_all, declares}
 
 pub or_assoc : (a b c : Bool) → ((a || b) || c) ≡ (a || (b || c))
@@ -20,7 +20,7 @@ with_at : (names : List (List ℕ)) (name x : List ℕ) (b : Bool) → has_name 
 with_at names name x true e = absorbed (has_name names x) (bytes_eq x name) (λ same. subst (λ n. has_name names n ≡ true) (sym ((bytes_eq-Decides x name).0 same)) e)
 with_at names name x false e = list_any-append (bytes_eq x) names (name ∷ []) ∙ ap (λ b. has_name names x || b) (or-false (bytes_eq x name))
 
-has_name-with : (names : List (List ℕ)) (name x : List ℕ) → has_name (with_name names name) x ≡ (has_name names x || bytes_eq x name)
+pub has_name-with : (names : List (List ℕ)) (name x : List ℕ) → has_name (with_name names name) x ≡ (has_name names x || bytes_eq x name)
 has_name-with names name x = with_at names name x (has_name names name) refl
 
 pub has_name_after : (names : List (List ℕ)) (code : List StmtTree) (name : List ℕ) → has_name (names_after_all names code) name ≡ (has_name names name || declares code name)

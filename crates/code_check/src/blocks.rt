@@ -4,7 +4,7 @@ ghost use Rattle.expr_grammar.specs.Tree.{stmt_tree, code_trees};
 ghost use Rattle.code_check.specs.Order.{is_before};
 ghost use Rattle.code_check.specs.First.{IsFirst, FaultWhere};
 ghost use Rattle.code_check.specs.Notes.{Notes};
-ghost use Rattle.code_check.specs.Names.{has_name};
+ghost use Rattle.expr_grammar.specs.Names.{has_name};
 ghost use Rattle.code_check.specs.BlockFaults.{names_after, names_after_all, StmtFault, BlockFault};
 ghost use Rattle.code_check.specs.Views.{scope_view};
 

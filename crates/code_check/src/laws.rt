@@ -5,7 +5,7 @@ ghost use Rattle.expr_grammar.specs.Tree.{Tree, StmtTree};
 ghost use Rattle.code_check.specs.declared.fault.CodeFault.{CodeFault};
 ghost use Rattle.code_check.specs.Order.{is_before};
 ghost use Rattle.code_check.specs.First.{IsFirst};
-ghost use Rattle.code_check.specs.Names.{has_name};
+ghost use Rattle.expr_grammar.specs.Names.{has_name};
 ghost use Rattle.code_check.specs.ExprFaults.{Scope, ExprFault};
 ghost use Rattle.code_check.specs.BlockFaults.{names_after_all, declares, BlockFault};
 

@@ -2,7 +2,7 @@
 ghost use Rattle.std.specs.Prelude.{◌≡◌, ◌<◌, [], IfOk, OnOk, OnErr, IfSome, is_some, position, length, map, string_bytes, take};
 ghost use Rattle.std.specs.Str.{bytes_eq};
 ghost use Rattle.function_table.specs.Variables.{names_of_predefined};
-ghost use Rattle.code_check.specs.Names.{has_name, with_name};
+ghost use Rattle.expr_grammar.specs.Names.{has_name, with_name};
 
 use dap_base::OutOfMemory;
 use function_table::PREDEFINED;

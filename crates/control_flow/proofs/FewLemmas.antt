@@ -3,7 +3,7 @@ use Rattle.std.proofs.Common.{◌≡◌, ◌∙◌, ℕ, List, [], ◌∷◌, �
 use Rattle.dap_base.specs.Outcome.{◌>>=◌}
 use Rattle.dap_base.specs.declared.text.Place.{Place}
 use Rattle.expr_grammar.specs.declared.code.Name.{Name}
-use Rattle.expr_grammar.specs.Tree.{Tree, ArgTrees}
+use Rattle.expr_grammar.specs.Tree.{Tree, ArgTrees, one_number, two_numbers}
 use Rattle.function_table.specs.declared.function.Function.{Function}
 use Rattle.function_table.specs.Lookup.{function_named}
 use Rattle.target_calls.specs.declared.calls.Value.{Value}
@@ -17,7 +17,6 @@ use Rattle.sequence_rules.specs.Values.{all_used, appended_values, argument, arg
 use Rattle.function_calls.specs.declared.end.End.{End}
 use Rattle.function_calls.specs.Ends.{EndsLate, MeansLate}
 use Rattle.function_calls.proofs.Leaves.{After, ends_on, later_ok}
-use Rattle.control_flow.specs.Calls.{one_number, two_numbers}
 use Rattle.control_flow.proofs.Exits.{CallsLater, later_called}
 
 abbrev S : Type 0

@@ -4,7 +4,7 @@ use Rattle.dap_base.specs.Outcome.{◌>>=◌}
 use Rattle.dap_base.specs.declared.text.Place.{Place}
 use Rattle.expr_grammar.specs.declared.code.Name.{Name}
 use Rattle.expr_grammar.specs.Tree as t
-use Rattle.expr_grammar.specs.Tree.{Tree, ArgTree, ArgTrees, StmtTree}
+use Rattle.expr_grammar.specs.Tree.{Tree, ArgTree, ArgTrees, StmtTree, one_number, two_numbers}
 use Rattle.target_calls.specs.declared.calls.Value.{Value}
 use Rattle.seq_check.specs.Answers.{checked_trees}
 use Rattle.sequence_trees.specs.Trees.{SetTrees}
@@ -17,14 +17,6 @@ use Rattle.control_flow.specs.declared.runner.Runner.{Runner}
 -- the sequences of the runner's set, from which calls lead at most so deep
 abbrev pub late_calls_of : Machine Value Late → Runner → ℕ → List ℕ → State Value Late → Out Value Late (Unit {0})
 late_calls_of m runner depth name s = sequence_at m runner.turn_us (checked_trees runner.set.now) depth name s
-
--- one argument, a number at this place
-abbrev pub one_number : Place → Tree → ArgTrees
-one_number at a = t.MoreArgs (t.ExprArg at a) t.NoArgs
-
--- two arguments, both numbers
-abbrev pub two_numbers : Place → Tree → Place → Tree → ArgTrees
-two_numbers at a later b = t.MoreArgs (t.ExprArg at a) (t.MoreArgs (t.ExprArg later b) t.NoArgs)
 
 -- an argument is an expression
 pub record IsExpressionArgument (arg : ArgTree) (a : Tree) : Type 0 where

@@ -1,13 +1,12 @@
 //! Calls of functions and of sequences.
 ghost use Rattle.std.specs.Prelude.{◌≡◌, [], Option, None, unwrap_or};
 ghost use Rattle.dap_base.specs.declared.text.Place.{Place};
-ghost use Rattle.expr_grammar.specs.Tree.{arg_tree, arg_trees, tree};
+ghost use Rattle.expr_grammar.specs.Tree.{arg_tree, arg_trees, tree, one_number, two_numbers};
 ghost use Rattle.function_table.specs.declared.function.Function.{Function};
 ghost use Rattle.seq_check.specs.Answers.{checked_trees};
 ghost use Rattle.sequence_trees.specs.Trees.{NoSteps, steps_named, steps_tree};
 ghost use Rattle.function_calls.specs.Ends.{answer_by};
 ghost use Rattle.function_calls.specs.Frame.{IsReadyToCall, RunsWriting};
-ghost use Rattle.control_flow.specs.Calls.{one_number, two_numbers};
 ghost use Rattle.control_flow.specs.Parts.{late_argument_of, late_arguments_of, late_call_of, late_function_of, late_named_of, late_sequence_of, late_value_after};
 
 use crate::arguments::{both_numbers, only_number};

@@ -55,7 +55,8 @@ pub fn run<A: Access, K: Sink>(
         (ran result (A.reported access.new).asks (known_part known (K.written sink.new))) }
     // Where it is neither done nor halted, what is written comes first in the lines of each world that is left. All calls before a line
     // had come when it was written.
-    ensures part { (m : BenchState) (answered : Option ℕ) (known : Bool) → A.begun access.old m → IsLeft (A.reported access.new) answered → Knows known (K.written sink.old)
+    ensures part { (m : BenchState) (answered : Option ℕ) (known : Bool) → A.begun access.old m → IsLeft (A.reported access.new) answered
+        → Knows known (K.written sink.old)
         → (ComesToEnd result.ending → ⊥)
         → IsPartOfOutcome
         (outcome_of (meaning (world_from m answered) (program_of (checked_trees checked.now) start.now settings.now) (known_part known (K.written sink.old))))

@@ -10,8 +10,8 @@ use Rattle.target_machine.specs.declared.access.Outcome.TheVariants.{Value, Done
 use Rattle.target_machine.specs.declared.access.RegAccess.{RegAccess}
 use Rattle.target_machine.proofs.ActionRanges.{acted_in_range}
 use Rattle.dap_messages.specs.declared.request.Request.{Request}
-use Rattle.dap_messages.specs.Requests.{kind}
-use Rattle.dap_transfer.specs.Laws.{AreNormal, read_values, reads_value, value_now}
+use Rattle.dap_messages.specs.Requests.{kind, gives_word}
+use Rattle.dap_transfer.specs.Laws.{AreNormal, read_values, value_now}
 use Rattle.dap_transfer.specs.State.{TransferState}
 use Rattle.dap_transfer.specs.Transfer.{transfer_result}
 use Rattle.dap_transfer.specs.WireTransfer.{value_of}
@@ -37,7 +37,7 @@ values_in_range : (t : TargetState) (rs : List Request) → IsInRange t → Word
 values_in_range t [] h v = tt
 values_in_range t (r ∷ rs) h v =
     let x = one_in_range t (access_of r) h v.0 in
-    by_read (reads_value (kind r)) (value_in_range t (access_of r) h v.0) (values_in_range (attempt t (access_of r)).next rs x.next v.1)
+    by_read (gives_word (kind r)) (value_in_range t (access_of r) h v.0) (values_in_range (attempt t (access_of r)).next rs x.next v.1)
   where
     by_read : (b : Bool) → IsWord (value_now t (access_of r)) → AllByRecursion IsWord (read_values (attempt t (access_of r)).next rs) →
         AllByRecursion IsWord (cond b (value_now t (access_of r) ∷ []) [] ++ read_values (attempt t (access_of r)).next rs)

@@ -49,11 +49,6 @@ fresh_transfers target stalls = record {
 abbrev pub grown_work : ℕ → ℕ → ℕ
 grown_work work n = max work (min (work + n) (2 ^ 64 - 1))
 
--- whether a wire transfer or a command ended well
-abbrev pub is_good : Response → Bool
-is_good Good = true
-is_good _ = false
-
 -- whether it met more WAITs than the retry number allows
 abbrev pub is_wait : Response → Bool
 is_wait Wait = true

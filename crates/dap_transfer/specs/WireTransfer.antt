@@ -1,5 +1,5 @@
 -- One wire transfer: how it ends, and what it does to the target.
-use Rattle.std.specs.Prelude.{ℕ, ◌+◌, ◌-◌, ◌^◌, Bool, not, ◌&&◌, ◌==◌, nat_lt, if◌then◌else◌, min, slice_index}
+use Rattle.std.specs.Prelude.{◌≡◌, ◌<◌, ℕ, ◌+◌, ◌-◌, ◌^◌, Bool, not, ◌&&◌, ◌==◌, nat_lt, if◌then◌else◌, min, slice_index}
 use Rattle.target_machine.specs.Attempt.{attempt, is_free}
 use Rattle.target_machine.specs.Registers.{dpidr_address, rdbuff_address}
 use Rattle.target_machine.specs.declared.access.RegAccess.{RegAccess}
@@ -12,6 +12,10 @@ use Rattle.dap_transfer.specs.State.{Setting, WireState}
 -- the number after this one; it stays at its last value
 abbrev pub next_number : ℕ → ℕ
 next_number n = min (n + 1) (2 ^ 64 - 1)
+
+-- The last transfer that was numbered met more WAITs than the retry number allows: this is the number of the next.
+abbrev pub RetryIsOver : Setting → ℕ → Type 0
+RetryIsOver s number = (place : ℕ) × (number ≡ next_number place) × (s.retry < slice_index s.stalls place)
 
 -- Transfers that may wait are numbered; one that is free at the target never waits.
 abbrev pub number_after : WireState → RegAccess → ℕ

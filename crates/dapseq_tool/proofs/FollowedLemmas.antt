@@ -21,17 +21,17 @@ use Rattle.dapseq_tool.specs.FollowedRuns.{IsDoneAlone, IsLaid, IsListed, RunsLa
 use Rattle.dapseq_tool.specs.Headline.{After, IsRunTo, RunEnd}
 use Rattle.dapseq_tool.specs.Purpose.{sequel_by, task_by}
 use Rattle.dapseq_tool.specs.Success.{left_by_run, run_from}
-use Rattle.dapseq_tool.specs.TwoRuns.{RanToEnd}
 use Rattle.dapseq_tool.specs.declared.asking.Purpose.{Purpose}
 use Rattle.dapseq_tool.specs.declared.asking.Purpose.TheVariants as purposes
 use Rattle.dapseq_tool.specs.declared.asking.Run.{Run}
 use Rattle.dapseq_tool.proofs.TwoLemmas.{came_whole}
 use Rattle.flight_laws.proofs.MadeLemmas.{agree_words}
+use Rattle.control_flow.specs.Closing.{ComesToEnd}
 
 module _ (access : AccessKind) (run : Run) (before : Option (List ℕ)) (r : RunEnd) (a : After) (n : BenchState)
     (to : IsRunTo access run before r a n) (done : r.ended.ending ≡ e.Done) (k : Task) (is : task_by run ≡ k) where
   so : RunIsWhole (run_from access run before) (left_by_run before r n)
-  so = (came_whole access run before r a n to (subst RanToEnd (sym done) tt)).1
+  so = (came_whole access run before r a n to (subst ComesToEnd (sym done) tt)).1
 
   outcome_is : outcome_in (run_from access run before) ≡ task_outcome k (start run.valid.job.bench.target) before
   outcome_is = ap (λ (x : Task). task_outcome x (start run.valid.job.bench.target) before) is

@@ -21,8 +21,9 @@ use Rattle.job_runs.specs.Runs as job
 use Rattle.dapseq_tool.specs.Headline.{After, IsRunTo, RunEnd}
 use Rattle.dapseq_tool.specs.Purpose.{sequel_by, task_by}
 use Rattle.dapseq_tool.specs.Success.{left_by_run, run_from}
-use Rattle.dapseq_tool.specs.TwoRuns.{IsSameTask, LeavesSame, RanToEnd}
+use Rattle.dapseq_tool.specs.TwoRuns.{IsSameTask, LeavesSame}
 use Rattle.dapseq_tool.specs.declared.asking.Run.{Run}
+use Rattle.control_flow.specs.Closing.{ComesToEnd}
 
 -- ---- what both mean
 
@@ -41,7 +42,7 @@ same_outcome access other x y before same =
 
 -- ---- how each ended
 
-whole : (ending : Ending) (run : job.Run) (l : Left) → RanToEnd ending → LeavesAs ending run l → IsSameEnd (outcome_in run).ending ending × RunIsWhole run l
+whole : (ending : Ending) (run : job.Run) (l : Left) → ComesToEnd ending → LeavesAs ending run l → IsSameEnd (outcome_in run).ending ending × RunIsWhole run l
 whole e.Done run l end leaves = (subst (λ (o : runs.Ending). IsSameEnd o e.Done) (sym leaves.0) refl, leaves.1)
 whole (e.Halted cause) run l end leaves = (subst (λ (o : runs.Ending). IsSameEnd o (e.Halted cause)) (sym leaves.0) refl, leaves.1)
 whole (e.Cut report) run l end leaves = absurd end
@@ -50,7 +51,7 @@ whole e.ReplyBad run l end leaves = absurd end
 whole e.WriteFault run l end leaves = absurd end
 whole e.OutOfMemory run l end leaves = absurd end
 
-not_unopened : (ending : Ending) → RanToEnd ending → IsUnopened ending → ⊥
+not_unopened : (ending : Ending) → ComesToEnd ending → IsUnopened ending → ⊥
 not_unopened e.Done end un = un
 not_unopened (e.Halted cause) end un = un
 not_unopened (e.Cut report) end un = end
@@ -59,7 +60,7 @@ not_unopened e.ReplyBad end un = end
 not_unopened e.WriteFault end un = end
 not_unopened e.OutOfMemory end un = end
 
-pub came_whole : (access : AccessKind) (x : Run) (before : Option (List ℕ)) (r : RunEnd) (a : After) (n : BenchState) → IsRunTo access x before r a n → RanToEnd r.ended.ending
+pub came_whole : (access : AccessKind) (x : Run) (before : Option (List ℕ)) (r : RunEnd) (a : After) (n : BenchState) → IsRunTo access x before r a n → ComesToEnd r.ended.ending
     → IsSameEnd (outcome_in (run_from access x before)).ending r.ended.ending × RunIsWhole (run_from access x before) (left_by_run before r n)
 came_whole access x before r a n to end = elim to.comes [
   | not_opened o ↦ absurd (not_unopened r.ended.ending end o.ending)
@@ -79,7 +80,7 @@ both_agree : (t u v : TargetState) → Agree t v → Agree u v → Agree t u
 both_agree t u v here there = record { same = here.same ∙ sym there.same }
 
 pub same_left : (access other : AccessKind) (x y : Run) (before : Option (List ℕ)) (p q : RunEnd) (a b : After) (m n : BenchState) → IsSameTask x y
-    → IsRunTo access x before p a m → IsRunTo other y before q b n → RanToEnd p.ended.ending → RanToEnd q.ended.ending → LeavesSame before p q m n
+    → IsRunTo access x before p a m → IsRunTo other y before q b n → ComesToEnd p.ended.ending → ComesToEnd q.ended.ending → LeavesSame before p q m n
 same_left access other x y before p q a b m n same here there end end_too =
     let o = same_outcome access other x y before same in
     let first = came_whole access x before p a m here end in

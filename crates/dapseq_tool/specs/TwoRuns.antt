@@ -21,12 +21,6 @@ pub record IsSameTask (x y : Run) : Type 0 where
   pub settings : x.valid.job.settings ≡ y.valid.job.settings
   pub target : x.valid.job.bench.target ≡ y.valid.job.bench.target
 
--- a run that came to its end, or was halted by a rule of the sequences
-abbrev pub RanToEnd : Ending → Type 0
-RanToEnd e.Done = ⊤
-RanToEnd (e.Halted cause) = ⊤
-RanToEnd other = ⊥
-
 -- Two runs ended in the same way, with the same variables, units and skipped units. The same lines were written by then, and the
 -- targets agree in all but RDBUFF.
 pub record LeavesSame (before : Option (List ℕ)) (p q : RunEnd) (m n : BenchState) : Type 0 where

@@ -21,9 +21,10 @@ ghost use Rattle.dapseq_tool.specs.declared.asking.Run.{Run};
 ghost use Rattle.dapseq_tool.specs.declared.asking.What.TheVariants as What;
 ghost use Rattle.dapseq_tool.specs.declared.status.Status.TheVariants as Status;
 ghost use Rattle.dapseq_tool.specs.Success.{HasCauses, HasGotBadReply, Success};
-ghost use Rattle.dapseq_tool.specs.TwoRuns.{IsSameTask, LeavesSame, RanToEnd};
+ghost use Rattle.dapseq_tool.specs.TwoRuns.{IsSameTask, LeavesSame};
 ghost use Rattle.job_runs.specs.Runs.{AccessKind};
 ghost use Rattle.dapseq_tool.specs.FollowedRuns.{RunsLay, RunsList};
+ghost use Rattle.control_flow.specs.Closing.{ComesToEnd};
 
 /// A call that nothing outside disturbed did what was asked for.
 pub fn quiet_calls_succeed()
@@ -69,7 +70,7 @@ pub fn a_kept_trace_is_accepted()
 /// access each has.
 pub fn packet_limits_do_not_matter()
     ensures { (access other : AccessKind) (x y : Run) (before : Option (List ℕ)) (p q : RunEnd) (a b : After) (m n : BenchState)
-        → IsSameTask x y → IsRunTo access x before p a m → IsRunTo other y before q b n → RanToEnd p.ended.ending → RanToEnd q.ended.ending
+        → IsSameTask x y → IsRunTo access x before p a m → IsRunTo other y before q b n → ComesToEnd p.ended.ending → ComesToEnd q.ended.ending
         → LeavesSame before p q m n }
 {}
 

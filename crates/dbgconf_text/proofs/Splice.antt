@@ -11,7 +11,7 @@ use Rattle.expr_grammar.specs.declared.token.TokenKind.{TokenKind}
 use Rattle.expr_grammar.specs.declared.token.TokenKind.TheVariants as kinds
 use Rattle.expr_grammar.specs.Lexeme.{Lexeme}
 use Rattle.expr_grammar.specs.Grammar.{IsMark}
-use Rattle.expr_grammar.specs.Spelling.{is_letter, is_word, is_decimal, is_pair, IsMarkText, single, pair, var, IsTokenText}
+use Rattle.expr_grammar.specs.Spelling.{is_letter, is_word, is_pair, IsMarkText, single, pair, var, IsTokenText}
 use Rattle.expr_grammar.specs.Lexing.{is_blank, place_at, IsGapFront, blank, IsTokenFront, Gap, nothing, IsTokenOf, Divides}
 use Rattle.expr_grammar.specs.Lexing as lexing
 use Rattle.expr_grammar.proofs.Fronts.{first, number_taken, number_text, list_all_get}
@@ -20,6 +20,7 @@ use Rattle.dbgconf_text.specs.Cuts.{Cut, spliced_text}
 use Rattle.dbgconf_text.proofs.Numbers.{hex_number}
 use Rattle.expr_grammar.proofs.Local.{size_of_mark, mark_by_first}
 use Rattle.expr_grammar.proofs.Moves.{MovedTo, divides_moves, divides_order}
+use Rattle.function_table.specs.Format.{is_decimal}
 
 -- ---- the token `=` before a space
 

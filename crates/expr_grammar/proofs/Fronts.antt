@@ -15,9 +15,10 @@ use Rattle.std.proofs.lemmas.List.Sums.{prefix_len-le-length, prefix_len_passes,
 use Rattle.dap_base.specs.Number.{number_value, digits_number, after_zero, marks_hexadecimal}
 use Rattle.expr_grammar.specs.declared.token.TokenKind.{TokenKind}
 use Rattle.expr_grammar.specs.declared.token.TokenKind.TheVariants as kinds
-use Rattle.expr_grammar.specs.Spelling.{is_letter, is_word, is_decimal, is_single, is_pair, keyword, IsMarkText, single, pair, var, IsTokenText}
+use Rattle.expr_grammar.specs.Spelling.{is_letter, is_word, is_single, is_pair, keyword, IsMarkText, single, pair, var, IsTokenText}
 use Rattle.expr_grammar.specs.Lexing.{is_blank, begins_line_comment, begins_block_comment, IsGapFront, blank, line, block, IsTokenFront, IsStuck}
 use Rattle.expr_grammar.specs.Front.{IsCut}
+use Rattle.function_table.specs.Format.{is_decimal}
 
 abbrev pub first : List ℕ → ℕ
 first bs = get_or bs 0 0

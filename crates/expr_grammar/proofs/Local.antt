@@ -8,11 +8,12 @@ use Rattle.std.proofs.lemmas.List.{length-take, length-take-le, get_or-take, tak
 use Rattle.std.proofs.lemmas.Option.{same_Some}
 use Rattle.expr_grammar.specs.declared.token.TokenKind.{TokenKind}
 use Rattle.expr_grammar.specs.declared.token.TokenKind.TheVariants as kinds
-use Rattle.expr_grammar.specs.Spelling.{is_letter, is_word, is_decimal, keyword, IsMarkText, single, pair, var, IsTokenText}
+use Rattle.expr_grammar.specs.Spelling.{is_letter, is_word, keyword, IsMarkText, single, pair, var, IsTokenText}
 use Rattle.expr_grammar.specs.Lexing.{is_blank, is_in_line, begins_line_comment, begins_block_comment, closes, IsLineComment, IsBlockComment, IsGapFront, blank, line, block, IsTokenFront}
 use Rattle.expr_grammar.specs.Moved.{SameFront}
 use Rattle.expr_grammar.proofs.Fronts.{first, kind_is, token_some, words_of, list_all_get, decimal_is_word, letter_is_word, number_text, word_parts, single_no_quote, pair_no_quote, single_no_word, pair_no_word}
 use Rattle.expr_grammar.proofs.Pieces.{string_found, text_kind, keyword_text, within_by}
+use Rattle.function_table.specs.Format.{is_decimal}
 
 pub same_get : (n k : ℕ) (bs cs : List ℕ) → SameFront n bs cs → k < n → get_or bs k 0 ≡ get_or cs k 0
 same_get n k bs cs s lt = sym (get_or-take n bs k 0 lt) ∙ ap (λ (l : List ℕ). get_or l k 0) s ∙ get_or-take n cs k 0 lt

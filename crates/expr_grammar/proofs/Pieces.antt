@@ -8,12 +8,13 @@ use Rattle.std.proofs.lemmas.List.{length-take-le, get_or-take, append_assoc, ta
 use Rattle.std.proofs.lemmas.List.Sums.{prefix_len-le-length, prefix_len_passes, prefix_len_stops}
 use Rattle.expr_grammar.specs.declared.token.TokenKind.{TokenKind}
 use Rattle.expr_grammar.specs.declared.token.TokenKind.TheVariants as kinds
-use Rattle.expr_grammar.specs.Spelling.{is_letter, is_word, is_decimal, is_single, is_pair, keyword, IsMarkText, single, pair, var, IsStringText, IsTokenText}
+use Rattle.expr_grammar.specs.Spelling.{is_letter, is_word, is_single, is_pair, keyword, IsMarkText, single, pair, var, IsStringText, IsTokenText}
 use Rattle.expr_grammar.specs.Lexing.{is_blank, is_in_line, begins_line_comment, begins_block_comment, closes, IsGapFront, blank, line, block, IsTokenFront, IsStuck}
 use Rattle.expr_grammar.specs.Front.{IsGapPiece, blanks, comment, IsCut, ClosesFirst, string_end, mark_len}
 use Rattle.expr_grammar.proofs.Strings.{ends_from, ends_at}
 use Rattle.expr_grammar.proofs.Fronts.{first, kind_is, token_some, no_gap_by, word_token, run_cut, run_pos, letter_is_word, list_all_run, first_taken, single_ascii, pair_ascii, blank_ascii}
 use Rattle.expr_grammar.proofs.OneDivision.{slash_no_blank}
+use Rattle.function_table.specs.Format.{is_decimal}
 
 -- ---- names and the keyword
 

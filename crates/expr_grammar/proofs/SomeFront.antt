@@ -9,12 +9,13 @@ use Rattle.dap_base.specs.Number.{number_value}
 use Rattle.expr_grammar.specs.declared.token.TokenKind.TheVariants as kinds
 use Rattle.expr_grammar.specs.declared.front.Piece.{Piece}
 use Rattle.expr_grammar.specs.declared.front.Piece.TheVariants.{Gap, Token}
-use Rattle.expr_grammar.specs.Spelling.{is_letter, is_word, is_decimal, keyword}
+use Rattle.expr_grammar.specs.Spelling.{is_letter, is_word, keyword}
 use Rattle.expr_grammar.specs.Lexing.{is_blank, is_in_line, begins_line_comment, begins_block_comment, closes}
 use Rattle.expr_grammar.specs.Front.{FrontIs, ClosesFirst, string_end, mark_len}
 use Rattle.expr_grammar.proofs.Fronts.{first, number_taken, number_stuck}
 use Rattle.expr_grammar.proofs.Pieces.{word_taken, keyword_text, name_text, string_taken, string_stuck, block_taken, block_stuck, line_taken, blank_taken, mark_taken, mark_stuck}
 use Rattle.dap_base.proofs.Least.{Decided, least}
+use Rattle.function_table.specs.Format.{is_decimal}
 
 -- ---- where a comment is closed
 

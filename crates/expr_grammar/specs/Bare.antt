@@ -5,7 +5,7 @@ use Rattle.expr_grammar.specs.declared.code.Name.{Name}
 use Rattle.expr_grammar.specs.Tree.{Tree, Number, Named, Group, Unary, Binary, Cond, Assign, Call, ArgTree, ExprArg}
 use Rattle.expr_grammar.specs.Tree.{TextArg, ArgTrees, NoArgs, MoreArgs, StmtTree, Empty, Declare, Plain}
 
--- the one place that everything has in a tree without places
+-- line 0, column 0: the place of what has none
 abbrev pub nowhere : Place
 nowhere = record { line = 0; column = 0 }
 

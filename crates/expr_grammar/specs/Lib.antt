@@ -1,4 +1,5 @@
 pub mod Tree
+pub mod Names
 pub mod Lexeme
 pub mod Spelling
 pub mod Lexing

@@ -14,10 +14,6 @@ is_letter b = is_ascii_alphabetic b || b == 95
 abbrev pub is_word : ℕ → Bool
 is_word b = is_ascii_alphanumeric b || b == 95
 
--- a decimal digit
-abbrev pub is_decimal : ℕ → Bool
-is_decimal b = nat_le 48 b && nat_le b 57
-
 -- one of these bytes
 abbrev pub is_among : List ℕ → ℕ → Bool
 is_among [] b = false

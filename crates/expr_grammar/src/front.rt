@@ -6,6 +6,7 @@ ghost use Rattle.expr_grammar.specs.Spelling as spelling;
 ghost use Rattle.expr_grammar.specs.Lexing as lexing;
 ghost use Rattle.expr_grammar.specs.Front as front;
 ghost use Rattle.expr_grammar.specs.Front.{FrontIs, ClosesFirst};
+ghost use Rattle.function_table.specs.Format.{is_decimal};
 
 use crate::token::TokenKind;
 use dap_base::number;
@@ -50,7 +51,7 @@ fn is_word(b: u8) -> bool
 }
 
 fn is_decimal(b: u8) -> bool
-    ensures { result ≡ spelling.is_decimal b }
+    ensures { result ≡ is_decimal b }
 {
     b >= b'0' && b <= b'9'
 }
@@ -158,7 +159,7 @@ fn opens_comment(bytes: &[u8], second: u8) -> bool
 
 // A number: from its first digit to the last letter, digit or `_`.
 fn number_front(text: &str) -> Option<Piece>
-    requires { spelling.is_decimal (slice_index text.now 0) ≡ true }
+    requires { is_decimal (slice_index text.now 0) ≡ true }
     ensures { FrontIs text.now result }
 {
     let len = word_len(text.as_bytes());
@@ -199,7 +200,7 @@ fn mark_front(bytes: &[u8]) -> Option<Piece>
     requires blank { lexing.is_blank (slice_index bytes.now 0) ≡ false }
     requires line { lexing.begins_line_comment bytes.now ≡ false }
     requires block { lexing.begins_block_comment bytes.now ≡ false }
-    requires digit { spelling.is_decimal (slice_index bytes.now 0) ≡ false }
+    requires digit { is_decimal (slice_index bytes.now 0) ≡ false }
     requires letter { spelling.is_letter (slice_index bytes.now 0) ≡ false }
     requires quote { (slice_index bytes.now 0 == 34) ≡ false }
     ensures { FrontIs bytes.now result }

@@ -132,7 +132,8 @@ pub fn between_quotes(text: &str) -> Option<&str>
 
 /// The string that the token is, if it has both quotes.
 pub fn string_of(alloc: Global, token: &Token<'_>) -> Result<Option<Box<TextArg>>, OutOfMemory>
-    ensures { IfOk result (λ s. MatchOption s (reading.between_quotes token.now.text.now ≡ None) (λ t. (reading.between_quotes token.now.text.now ≡ Some t.value.text) × (t.value.at ≡ token.now.at))) }
+    ensures { IfOk result (λ s. MatchOption s (reading.between_quotes token.now.text.now ≡ None)
+        (λ t. (reading.between_quotes token.now.text.now ≡ Some t.value.text) × (t.value.at ≡ token.now.at))) }
 {
     match between_quotes(token.text) {
         Some(text) => {

@@ -8,7 +8,8 @@ use Rattle.std.specs.Cmp.Lexicographic.{slice_cmp}
 use Rattle.serde_json.specs.Data.{Data, string, Members, no_members, member, put}
 use Rattle.serde_json.specs.View.{items_of}
 use Rattle.serde_json.specs.Written.{has_float, items_have_float, members_have_float, compact_text}
-use Rattle.check_lines.specs.Words.{kind_word, part_word}
+use Rattle.check_lines.specs.Words.{kind_word}
+use Rattle.sequence_trees.specs.Parts.{part_word}
 use Rattle.pack_faults.specs.declared.request.SetName.{SetName}
 use Rattle.pack_faults.specs.declared.answer.Found.{Found}
 use Rattle.pack_faults.specs.declared.answer.PackFault.{PackFault}

@@ -3,7 +3,8 @@ use Rattle.std.specs.Prelude.{ℕ, List, ◌++◌, length, map, slice_get, codes
 use Rattle.serde_json.specs.Data.{Data, null, string, object, Members, no_members, put}
 use Rattle.serde_json.specs.Written.{compact_text}
 use Rattle.sequence_trees.specs.declared.spot.Spot.{Spot}
-use Rattle.check_lines.specs.Words.{kind_word, part_word}
+use Rattle.check_lines.specs.Words.{kind_word}
+use Rattle.sequence_trees.specs.Parts.{part_word}
 use Rattle.pack_faults.specs.declared.request.SetName.{SetName}
 use Rattle.pack_faults.specs.declared.answer.Found.{Found}
 use Rattle.pack_faults.specs.declared.answer.PackFault.{PackFault}

@@ -9,7 +9,8 @@ use Rattle.code_check.specs.declared.fault.FaultKind.TheVariants as k
 use Rattle.sequence_trees.specs.declared.spot.Part.{Part}
 use Rattle.sequence_trees.specs.declared.spot.Spot.{Spot}
 use Rattle.text_lines.specs.Shown.{shown_text, dotted_numbers}
-use Rattle.check_lines.specs.Words.{kind_word, part_word}
+use Rattle.check_lines.specs.Words.{kind_word}
+use Rattle.sequence_trees.specs.Parts.{part_word}
 use Rattle.pack_faults.specs.declared.request.SetName.{SetName}
 use Rattle.pack_faults.specs.declared.answer.Found.{Found}
 use Rattle.pack_faults.specs.declared.answer.PackFault.{PackFault}

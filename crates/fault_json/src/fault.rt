@@ -6,10 +6,10 @@ ghost use Rattle.fault_json.specs.FaultsJson as json;
 ghost use Rattle.fault_json.specs.FaultsJson.{set_data, data_if, for_data, with_what, with_step, with_place};
 
 use crate::parts::{bytes_or_null, counts, text_or_null};
-use check_lines::{kind_text, part_text};
+use check_lines::kind_text;
 use fault_lines::name_of;
 use pack_faults::{Found, PackFault, SetName};
-use sequence_trees::Spot;
+use sequence_trees::{Spot, part_text};
 use serde_json::{Map, Value, put};
 use std::alloc::{AllocError, Global};
 

@@ -9,12 +9,12 @@ ghost use Rattle.fault_json.specs.SarifLog.{physical_data, with_physical, locati
 
 use crate::columns::character_column;
 use crate::writing::{line_of, put_made};
-use check_lines::{kind_text, part_text};
+use check_lines::kind_text;
 use code_check::FaultKind;
 use dap_base::{NameText, OutOfMemory, Place, Sink};
 use fault_lines::message_line;
 use pack_faults::{Found, PackFault, PackFaults, SetName};
-use sequence_trees::Spot;
+use sequence_trees::{Spot, part_text};
 use serde_json::{Map, Value, put};
 use std::alloc::{AllocError, Global};
 use text_lines::{Line, TextError};

@@ -2,8 +2,7 @@
 use Rattle.std.specs.Prelude.{ℕ, List, [], ◌∷◌, ◌++◌, length, codes, Option, None, Some}
 use Rattle.std.specs.List.{flat_map}
 use Rattle.sequence_trees.specs.declared.spot.Spot.{Spot}
-use Rattle.text_lines.specs.Shown.{shown_text}
-use Rattle.check_lines.specs.CheckLines as check
+use Rattle.text_lines.specs.Shown.{shown_text, place_words}
 use Rattle.check_lines.specs.CheckLines.{where_words}
 use Rattle.set_warnings.specs.declared.warning.WarningKind.{WarningKind}
 use Rattle.set_warnings.specs.declared.warning.WarningKind.TheVariants as k
@@ -23,15 +22,10 @@ warning_kind_word k.LongWait = codes "LongWait"
 
 -- ---- where it stands
 
--- a sequence itself
-abbrev pub sequence_words : Option (List ℕ) → List ℕ
-sequence_words None = []
-sequence_words (Some name) = codes " " ++ shown_text name
-
 -- the sequence, the step, its part and the place in it; of a sequence itself, which no path leads into, its name alone
 abbrev pub words_along : List ℕ → Spot → List ℕ
-words_along [] spot = sequence_words spot.sequence
-words_along (n ∷ path) spot = where_words spot.sequence spot.path spot.part ++ check.place_words spot.place
+words_along [] spot = after_blank spot.sequence
+words_along (n ∷ path) spot = where_words spot.sequence spot.path spot.part ++ place_words spot.place
 
 -- where a warning is, by the numbers of its step, if it has one
 abbrev pub warning_spot_words : Spot → List ℕ

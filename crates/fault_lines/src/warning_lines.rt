@@ -1,13 +1,12 @@
 //! The lines of a warning.
 ghost use Rattle.std.specs.Prelude.{◌≡◌, ◌++◌, IfOk};
-ghost use Rattle.check_lines.specs.CheckLines.{where_words};
-ghost use Rattle.check_lines.specs.CheckLines as check;
 ghost use Rattle.fault_lines.specs.WarningText as text;
-ghost use Rattle.fault_lines.specs.WarningText.{sequence_words, warning_kind_word, warning_spot_words, warning_words};
+ghost use Rattle.fault_lines.specs.WarningText.{warning_kind_word, warning_spot_words, warning_words};
+ghost use Rattle.fault_lines.specs.FaultText.{after_blank};
 
 use crate::lines::{with_sets, with_text};
-use check_lines::part_text;
-use dap_base::{NameText, OutOfMemory, Place};
+use check_lines::with_where;
+use dap_base::{NameText, OutOfMemory};
 use pack_faults::SetName;
 use pack_warnings::{FoundWarning, PackWarning};
 use sequence_trees::Spot;
@@ -29,35 +28,12 @@ pub fn warning_kind_text(kind: WarningKind) -> &'static str
 
 // A sequence itself.
 fn with_sequence(line: Line, sequence: &Option<NameText>) -> Result<Line, OutOfMemory>
-    ensures { IfOk result (λ l. l ≡ line ++ sequence_words sequence.now) }
+    ensures { IfOk result (λ l. l ≡ line ++ after_blank sequence.now) }
 {
     match sequence {
         Some(name) => line.text(" ")?.add_shown(name.as_str().as_bytes()),
         None => Ok(line),
     }
-}
-
-// The sequence, the step and its part.
-fn with_step(line: Line, spot: &Spot) -> Result<Line, OutOfMemory>
-    ensures { IfOk result (λ l. l ≡ line ++ where_words spot.now.sequence spot.now.path spot.now.part) }
-{
-    match &spot.sequence {
-        None => line.text(" debugvars"),
-        Some(name) => line
-            .text(" ")?
-            .add_shown(name.as_str().as_bytes())?
-            .text(" ")?
-            .add_dotted(spot.path.as_slice())?
-            .text(" ")?
-            .text(part_text(spot.part)),
-    }
-}
-
-fn with_place(line: Line, place: Place) -> Result<Line, OutOfMemory>
-    ensures { IfOk result (λ l. l ≡ line ++ check.place_words place) }
-{
-    line.add_labelled(" ", place.line)?
-        .add_labelled(":", place.column)
 }
 
 // Where it stands.
@@ -66,7 +42,7 @@ fn with_spot(line: Line, spot: &Spot) -> Result<Line, OutOfMemory>
 {
     match spot.path.as_slice() {
         [] => with_sequence(line, &spot.sequence),
-        _ => with_place(with_step(line, spot)?, spot.place),
+        _ => with_where(line, spot)?.add_place(spot.place),
     }
 }
 

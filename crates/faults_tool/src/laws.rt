@@ -23,7 +23,8 @@ pub fn done_where_valid()
 
 /// The status is by the sets that are requested. Neither the format nor the warnings change it.
 pub fn status_by_request()
-    ensures { (bytes : List ℕ) (a b : FaultsCommand) (x y : FaultsAnswer) → request_of_words a ≡ request_of_words b → AsksOfPackBytes bytes a x → AsksOfPackBytes bytes b y
+    ensures { (bytes : List ℕ) (a b : FaultsCommand) (x y : FaultsAnswer) → request_of_words a ≡ request_of_words b → AsksOfPackBytes bytes a x
+        → AsksOfPackBytes bytes b y
         → faults_answer_status x ≡ faults_answer_status y }
 {}
 

@@ -7,9 +7,9 @@ use Rattle.dap_messages.specs.declared.request.Request.{Request}
 use Rattle.dap_messages.specs.declared.request.Response.{Response}
 use Rattle.dap_messages.specs.declared.request.Response.TheVariants.{Good, Wait, Fault, Mismatch}
 use Rattle.dap_messages.specs.Replies.{Answers, may_end_block}
-use Rattle.dap_messages.specs.Requests.{reads_in}
+use Rattle.dap_messages.specs.Requests.{reads_in, block_requests}
 use Rattle.dap_messages.specs.Responses.{code_of, response_of}
-use Rattle.dap_transfer.specs.Block.{block_result, writes_of}
+use Rattle.dap_transfer.specs.Block.{block_result}
 use Rattle.dap_transfer.specs.CommandEnds.{Ends, EndsAt, in_doubt, may_be_free, writes_ap}
 use Rattle.dap_transfer.specs.State.{TransferState, Transferred}
 use Rattle.dap_transfer.specs.Transfer.{transfer_result}
@@ -43,7 +43,7 @@ no_check w a rs e = ap (λ b. check_when (w && (not b && cond a.read (eqb a.addr
     by_write true = refl
     by_write false = refl
 
-pub drw_requests : (w : Bool) (accesses : List RegAccess) → all_write_drw accesses ≡ true → requests_for w accesses ≡ writes_of 0x0D (words_of accesses)
+pub drw_requests : (w : Bool) (accesses : List RegAccess) → all_write_drw accesses ≡ true → requests_for w accesses ≡ block_requests 0x0D (words_of accesses)
 drw_requests w [] e = refl
 drw_requests w (a ∷ rest) e =
     let two = and_parts (writes_drw a) (all_write_drw rest) e in
@@ -60,12 +60,12 @@ drw_taken (a ∷ rest) e =
 
 -- ---- no word comes
 
-pub no_reads : (n : ℕ) (words : List ℕ) → reads_in (take n (writes_of 0x0D words)) ≡ 0
+pub no_reads : (n : ℕ) (words : List ℕ) → reads_in (take n (block_requests 0x0D words)) ≡ 0
 no_reads zero words = refl
 no_reads (suc n) [] = refl
 no_reads (suc n) (w ∷ words) =
     let r : Request = record { byte = 0x0D; word = w } in
-    reads_first (r ∷ take n (writes_of 0x0D words)) (take n (writes_of 0x0D words)) r refl ∙ ap (λ k. 0 + k) (no_reads n words)
+    reads_first (r ∷ take n (block_requests 0x0D words)) (take n (block_requests 0x0D words)) r refl ∙ ap (λ k. 0 + k) (no_reads n words)
 
 -- ---- a block
 
@@ -99,7 +99,7 @@ does_block p size (a ∷ rest) e clear =
 
 -- ---- its reply is one that it may get
 
-pub length_writes : (words : List ℕ) → length (writes_of 0x0D words) ≡ length words
+pub length_writes : (words : List ℕ) → length (block_requests 0x0D words) ≡ length words
 length_writes [] = refl
 length_writes (w ∷ words) = ap suc (length_writes words)
 

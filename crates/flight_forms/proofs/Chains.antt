@@ -14,10 +14,11 @@ use Rattle.dap_transfer.specs.Transfer.{transfer_result}
 use Rattle.dap_transfer.proofs.Guards.{match_shuts}
 use Rattle.dap_transfer.proofs.Prefix.{good_or_not}
 use Rattle.flight_forms.specs.Packing.{guarded_requests, payload}
-use Rattle.flight_forms.specs.Flights.{AreClear, DoesPart, IsOver, Part, slot_values}
+use Rattle.flight_forms.specs.Flights.{AreClear, DoesPart, Part, slot_values}
 use Rattle.flight_forms.specs.Chains.{AllTaken, CutAs, DoesChain, IsCutOnce, IsGuardOpen, IsGuardShut, IsShut, LeavesGuard, all_of, chain_after, chain_part, chain_replies, guarded_part, joined_as, nothing_yet}
 use Rattle.flight_forms.proofs.Guarded.{DoesGuarded, does_guarded, leaves_by}
 use Rattle.flight_forms.proofs.Rows.{clear-append, good_whole, one-append, slots-append, take_after, take_all, take_front}
+use Rattle.dap_transfer.specs.WireTransfer.{RetryIsOver}
 
 grown_twice : (w v a b : ℕ) → v ≡ grown_work w a → grown_work v b ≡ grown_work w (a + b)
 grown_twice w v a b e = omega arith
@@ -60,7 +61,7 @@ part_joined p q r xs ys a b e first last =
       retries = last.retries ∙ ap (λ n. cond (is_wait b.response) (min (n + 1) (2 ^ 32 - 1)) n) (first.retries ∙ no_wait a.response (min (p.ended_retries + 1) (2 ^ 32 - 1)) p.ended_retries e);
       pending = λ f. (let z = good.0 in let y = good.1 in let x = last.pending f in omega arith);
       number = (let y = first.number in let x = last.number in let w = no_wait_one a.response e in omega arith);
-      over = λ f. subst (λ (s : Setting). IsOver s r.line.number) first.setting (last.over f);
+      over = λ f. subst (λ (s : Setting). RetryIsOver s r.line.number) first.setting (last.over f);
     }
 
 -- a part after which nothing was done

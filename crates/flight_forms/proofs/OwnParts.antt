@@ -10,12 +10,12 @@ use Rattle.dap_messages.specs.declared.request.RequestKind.{RequestKind}
 use Rattle.dap_messages.specs.declared.request.RequestKind.TheVariants.{Posted, Read, Match, Mask, Write}
 use Rattle.dap_messages.specs.declared.request.Response.{Response}
 use Rattle.dap_messages.specs.declared.request.Response.TheVariants.{Good, Wait, Fault, Mismatch}
-use Rattle.dap_messages.specs.Requests.{kind, reads_in, write_after}
+use Rattle.dap_messages.specs.Requests.{kind, reads_in, write_after, gives_word}
 use Rattle.dap_transfer.specs.Wires.{access_of}
 use Rattle.dap_transfer.specs.State.{TransferState, Transferred}
 use Rattle.dap_transfer.specs.Transfer.{transfer_result}
 use Rattle.dap_transfer.specs.Private.{word_of}
-use Rattle.dap_transfer.specs.Laws.{accesses_in, value_now, read_values, reads_value, AreNormal}
+use Rattle.dap_transfer.specs.Laws.{accesses_in, value_now, read_values, AreNormal}
 use Rattle.dap_transfer.proofs.Prefix.{makes_prefix}
 use Rattle.dap_transfer.proofs.ReadWords.{has_words}
 use Rattle.dap_transfer.proofs.Words.{reads_first}
@@ -64,7 +64,7 @@ take_twice (suc c) zero accesses h = absurd (omega arith)
 take_twice (suc c) (suc k) [] h = refl
 take_twice (suc c) (suc k) (a ∷ rest) h = ap (λ xs. a ∷ xs) (take_twice c k rest (omega arith))
 
-word_count : (k : RequestKind) (v : ℕ) (vs : List ℕ) → length (cond (reads_value k) (v ∷ []) [] ++ vs) ≡ word_of k + length vs
+word_count : (k : RequestKind) (v : ℕ) (vs : List ℕ) → length (cond (gives_word k) (v ∷ []) [] ++ vs) ≡ word_of k + length vs
 word_count Posted v vs = omega arith
 word_count Read v vs = omega arith
 word_count Match v vs = omega arith

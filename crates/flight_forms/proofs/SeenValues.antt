@@ -8,9 +8,9 @@ use Rattle.target_machine.specs.declared.access.RegAccess.{RegAccess}
 use Rattle.dap_messages.specs.declared.request.Request.{Request}
 use Rattle.dap_messages.specs.declared.request.RequestKind.{RequestKind}
 use Rattle.dap_messages.specs.declared.request.RequestKind.TheVariants.{Posted, Read, Match, Mask, Write}
-use Rattle.dap_messages.specs.Requests.{is_posted, kind}
+use Rattle.dap_messages.specs.Requests.{is_posted, kind, gives_word}
 use Rattle.dap_transfer.specs.Wires.{access_of}
-use Rattle.dap_transfer.specs.Laws.{accesses_in, value_now, read_values, reads_value, IsNormalKind, AreNormal}
+use Rattle.dap_transfer.specs.Laws.{accesses_in, value_now, read_values, IsNormalKind, AreNormal}
 use Rattle.dap_transfer.specs.CommandEnds.{posted_last}
 use Rattle.flight_forms.specs.Flights.{is_own, slot_values, seen_one, seen_values, next_word}
 use Rattle.dap_transfer.proofs.CommandEnds.{write_bits, read_is}
@@ -54,10 +54,10 @@ all_seen t (r ∷ rs) words normal e =
     a : RegAccess
     a = access_of r
 
-    reads : (k : RequestKind) → kind r ≡ k → reads_value k ≡ true → a.read ≡ true → ((ws : List ℕ) → ws ≡ read_values (attempt t a).next rs → seen_values rs ws ≡ slot_values (attempt t a).next (accesses_in rs)) →
+    reads : (k : RequestKind) → kind r ≡ k → gives_word k ≡ true → a.read ≡ true → ((ws : List ℕ) → ws ≡ read_values (attempt t a).next rs → seen_values rs ws ≡ slot_values (attempt t a).next (accesses_in rs)) →
         seen_values (r ∷ rs) words ≡ slot_values t (accesses_in (r ∷ rs))
     reads k f b read ih =
-        let is_read : reads_value (kind r) ≡ true = ap reads_value f ∙ b in
+        let is_read : gives_word (kind r) ≡ true = ap gives_word f ∙ b in
         let came : words ≡ value_now t a ∷ read_values (attempt t a).next rs = e ∙ ap (λ c. cond c (value_now t a ∷ []) [] ++ read_values (attempt t a).next rs) is_read in
         let one = first_of_words words (read_values (attempt t a).next rs) (value_now t a) came in
         ap (λ c. cond c (cond (is_own a) (next_word words ∷ seen_values rs (drop 1 words)) (seen_values rs (drop 1 words))) (None ∷ seen_values rs words)) is_read
@@ -68,7 +68,7 @@ all_seen t (r ∷ rs) words normal e =
     by_kind Posted f h ih = let bits = posted_bits r f in reads Posted f refl bits.1 ih
     by_kind Read f h ih = reads Read f refl (read_is r f) ih
     by_kind Write f h ih =
-        let is_read : reads_value (kind r) ≡ false = ap reads_value f in
+        let is_read : gives_word (kind r) ≡ false = ap gives_word f in
         let came : words ≡ read_values (attempt t a).next rs = e ∙ ap (λ c. cond c (value_now t a ∷ []) [] ++ read_values (attempt t a).next rs) is_read in
         ap (λ c. cond c (cond (is_own a) (next_word words ∷ seen_values rs (drop 1 words)) (seen_values rs (drop 1 words))) (None ∷ seen_values rs words)) is_read
         ∙ write_step (is_own a) t a (accesses_in rs) (seen_values rs words) refl (own_write r f) (write_bits r f) (ih words came)
@@ -88,13 +88,13 @@ tail_of x y xs ys e = (ap (get_first x) e, ap (drop 1) e)
 posted_value : (o : Bool) (t : TargetState) (r : Request) (rs : List Request) → posted_last o (r ∷ rs) ≡ true → read_values t (r ∷ rs) ≡ [] → ⊥
 posted_value o t r [] e none = no_value (kind r) e none
   where
-    no_value : (k : RequestKind) → is_posted k ≡ true → cond (reads_value k) (value_now t (access_of r) ∷ []) [] ++ [] ≡ [] → ⊥
+    no_value : (k : RequestKind) → is_posted k ≡ true → cond (gives_word k) (value_now t (access_of r) ∷ []) [] ++ [] ≡ [] → ⊥
     no_value Posted f g = (let n = ap length g in absurd (cc))
     no_value Read f g = absurd (cc)
     no_value Match f g = absurd (cc)
     no_value Mask f g = absurd (cc)
     no_value Write f g = absurd (cc)
-posted_value o t r (q ∷ rs) e none = posted_value (is_posted (kind r)) (attempt t (access_of r)).next q rs e (no_front (reads_value (kind r)) none)
+posted_value o t r (q ∷ rs) e none = posted_value (is_posted (kind r)) (attempt t (access_of r)).next q rs e (no_front (gives_word (kind r)) none)
   where
     no_front : (b : Bool) → cond b (value_now t (access_of r) ∷ []) [] ++ read_values (attempt t (access_of r)).next (q ∷ rs) ≡ [] → read_values (attempt t (access_of r)).next (q ∷ rs) ≡ []
     no_front true g = absurd (let n = ap length g in cc)
@@ -151,10 +151,10 @@ less_seen o t r (q ∷ rs) v normal last ws e c h =
     a : RegAccess
     a = access_of r
 
-    reads : (k : RequestKind) → kind r ≡ k → reads_value k ≡ true → a.read ≡ true → Less (attempt t a).next q rs v →
+    reads : (k : RequestKind) → kind r ≡ k → gives_word k ≡ true → a.read ≡ true → Less (attempt t a).next q rs v →
         take c (seen_values (r ∷ q ∷ rs) ws) ≡ slot_values t (take c (accesses_in (r ∷ q ∷ rs)))
     reads k f b read ih =
-        let is_read : reads_value (kind r) ≡ true = ap reads_value f ∙ b in
+        let is_read : gives_word (kind r) ≡ true = ap gives_word f ∙ b in
         let came : ws ++ v ∷ [] ≡ value_now t a ∷ read_values (attempt t a).next (q ∷ rs) = e ∙ ap (λ x. cond x (value_now t a ∷ []) [] ++ read_values (attempt t a).next (q ∷ rs)) is_read in
         ap (λ x. take c (cond x (cond (is_own a) (next_word ws ∷ seen_values (q ∷ rs) (drop 1 ws)) (seen_values (q ∷ rs) (drop 1 ws))) (None ∷ seen_values (q ∷ rs) ws))) is_read
         ∙ read_front (is_own a) t a v q rs ws c refl read (posted_value (is_posted (kind r)) (attempt t a).next q rs last) ih came h
@@ -163,7 +163,7 @@ less_seen o t r (q ∷ rs) v normal last ws e c h =
     by_kind Posted f g ih = let bits = posted_bits r f in reads Posted f refl bits.1 ih
     by_kind Read f g ih = reads Read f refl (read_is r f) ih
     by_kind Write f g ih =
-        let is_read : reads_value (kind r) ≡ false = ap reads_value f in
+        let is_read : gives_word (kind r) ≡ false = ap gives_word f in
         let came : ws ++ v ∷ [] ≡ read_values (attempt t a).next (q ∷ rs) = e ∙ ap (λ x. cond x (value_now t a ∷ []) [] ++ read_values (attempt t a).next (q ∷ rs)) is_read in
         ap (λ x. take c (cond x (cond (is_own a) (next_word ws ∷ seen_values (q ∷ rs) (drop 1 ws)) (seen_values (q ∷ rs) (drop 1 ws))) (None ∷ seen_values (q ∷ rs) ws))) is_read
         ∙ write_front (is_own a) t a v q rs ws c (own_write r f) (write_bits r f) ih came h
@@ -185,8 +185,8 @@ drop_next (suc n) [] = refl
 drop_next (suc n) (w ∷ words) = drop_next n words
 
 by_word : (k : RequestKind) (own : Bool) (found : Option ℕ) (words : List ℕ) (after : List ℕ → List (Option ℕ)) (n : ℕ) → found ≡ slice_get words n → (IsNormalKind k) →
-    cond (reads_value k) (cond own (slice_get words n ∷ after (drop (suc n) words)) (after (drop (suc n) words))) (None ∷ after (drop n words))
-    ≡ cond (reads_value k) (cond own (found ∷ []) []) (None ∷ []) ++ after (drop (n + word_of k) words)
+    cond (gives_word k) (cond own (slice_get words n ∷ after (drop (suc n) words)) (after (drop (suc n) words))) (None ∷ after (drop n words))
+    ≡ cond (gives_word k) (cond own (found ∷ []) []) (None ∷ []) ++ after (drop (n + word_of k) words)
 by_word Posted true found words after n e h = let s : suc n ≡ n + 1 = omega arith in λ i. sym e i ∷ after (drop (s i) words)
 by_word Posted false found words after n e h = let s : suc n ≡ n + 1 = omega arith in λ i. after (drop (s i) words)
 by_word Read true found words after n e h = let s : suc n ≡ n + 1 = omega arith in λ i. sym e i ∷ after (drop (s i) words)
@@ -201,7 +201,7 @@ seen_by reads own found after none = cond reads (cond own (found ∷ after) afte
 pub sees_one : (r : Request) (rest : List Request) (words : List ℕ) (n m : ℕ) → m ≡ n + word_of (kind r) → IsNormalKind (kind r) →
     seen_values (r ∷ rest) (drop n words) ≡ seen_one r (slice_get words n) ++ seen_values rest (drop m words)
 sees_one r rest words n m e h =
-    (λ i. seen_by (reads_value (kind r)) (is_own (access_of r)) (next_found n words i) (seen_values rest (drop_next n words i)) (seen_values rest (drop n words)))
+    (λ i. seen_by (gives_word (kind r)) (is_own (access_of r)) (next_found n words i) (seen_values rest (drop_next n words i)) (seen_values rest (drop n words)))
     ∙ by_word (kind r) (is_own (access_of r)) (slice_get words n) words (seen_values rest) n refl h
     ∙ ap (λ k. seen_one r (slice_get words n) ++ seen_values rest (drop k words)) (sym e)
 
@@ -234,7 +234,7 @@ one_short false own found = omega arith
 
 pub few_seen : (r : Request) (found : Option ℕ) (before now : List (Option ℕ)) (most : ℕ) → now ≡ before ++ seen_one r found → length before ≤ most → length now ≤ most + 1
 few_seen r found before now most e h =
-    let short : length (seen_one r found) ≤ 1 = one_short (reads_value (kind r)) (is_own (access_of r)) found in
+    let short : length (seen_one r found) ≤ 1 = one_short (gives_word (kind r)) (is_own (access_of r)) found in
     let size : length now ≡ length before + length (seen_one r found) = ap length e ∙ length-append before (seen_one r found) in
     omega arith
 
@@ -242,7 +242,7 @@ few_seen r found before now most e h =
 
 length_step : (k : RequestKind) (own : Bool) (found : Option ℕ) (a : RegAccess) (after : List (Option ℕ)) (none : List (Option ℕ)) (rest : List RegAccess) → IsNormalKind k → (k ≡ Write → own ≡ true) →
     length after ≡ length rest → length none ≡ length rest →
-    length (cond (reads_value k) (cond own (found ∷ after) after) (None ∷ none)) ≡ length (cond own (a ∷ rest) rest)
+    length (cond (gives_word k) (cond own (found ∷ after) after) (None ∷ none)) ≡ length (cond own (a ∷ rest) rest)
 length_step Posted true found a after none rest h o e f = ap suc e
 length_step Posted false found a after none rest h o e f = e
 length_step Read true found a after none rest h o e f = ap suc e

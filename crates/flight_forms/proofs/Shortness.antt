@@ -10,15 +10,13 @@ use Rattle.dap_messages.specs.declared.request.Response.{Response}
 use Rattle.dap_messages.specs.declared.request.Response.TheVariants.{Good, Wait, Fault, Mismatch}
 use Rattle.dap_messages.specs.Replies.{Answers, AnswersTransfer, kind_at, last_is_posted, may_end_block, may_end_by, may_stop, passes, progress_at}
 use Rattle.dap_messages.specs.Replies as reply
-use Rattle.dap_messages.specs.Requests.{ends_in_write, is_mask, is_match, kind, reads_in, write_after}
-use Rattle.dap_messages.specs.Responses.{code_of, response_of}
+use Rattle.dap_messages.specs.Requests.{ends_in_write, is_mask, is_match, kind, reads_in, write_after, block_requests}
+use Rattle.dap_messages.specs.Responses.{code_of, response_of, is_good}
 use Rattle.target_machine.specs.Counts.{one_if}
 use Rattle.target_machine.proofs.CountLemmas.{one_most}
 use Rattle.dap_transfer.specs.CommandEnds.{posted_last}
 use Rattle.dap_transfer.specs.Laws.{AreNormal, IsNormalKind, accesses_in}
-use Rattle.dap_transfer.specs.State.{is_good}
 use Rattle.flight_forms.specs.Flights.{IsPartOf, doubts, part_of, seen_values}
-use Rattle.dap_transfer.specs.Block.{writes_of}
 use Rattle.flight_forms.specs.Flights.{words_of}
 use Rattle.flight_forms.specs.Forms.{all_write_drw, fits_block}
 use Rattle.flight_forms.specs.Packets.{block_command, transfer_command}
@@ -194,7 +192,7 @@ transfer_shows accesses n x words taken may =
 
 -- ---- a block
 
-writes_last : (b : Bool) (words : List ℕ) → 1 ≤ length words → write_after b (writes_of 0x0D words) ≡ true
+writes_last : (b : Bool) (words : List ℕ) → 1 ≤ length words → write_after b (block_requests 0x0D words) ≡ true
 writes_last b [] some = absurd (omega arith)
 writes_last b (w ∷ []) some = refl
 writes_last b (w ∷ v ∷ words) some = writes_last true (v ∷ words) (omega arith)

@@ -7,15 +7,16 @@ use Rattle.target_machine.specs.declared.access.RegAccess.{RegAccess}
 use Rattle.dap_messages.specs.declared.request.Request.{Request}
 use Rattle.dap_messages.specs.declared.request.Response.{Response}
 use Rattle.dap_messages.specs.declared.request.Response.TheVariants.{Good, Wait, Fault, Mismatch}
-use Rattle.dap_messages.specs.Requests.{kind, reads_in, write_after}
+use Rattle.dap_messages.specs.Requests.{kind, reads_in, write_after, gives_word}
 use Rattle.dap_transfer.specs.Block.{block_result}
 use Rattle.target_machine.specs.Counts.{one_if}
-use Rattle.dap_transfer.specs.Laws.{accesses_in, one_at_a_time, reads_value, value_now}
-use Rattle.dap_transfer.specs.State.{Setting, TransferState, grown_work, is_good, is_wait}
+use Rattle.dap_transfer.specs.Laws.{accesses_in, one_at_a_time, value_now}
+use Rattle.dap_transfer.specs.State.{Setting, TransferState, grown_work, is_wait}
 use Rattle.dap_transfer.specs.Transfer.{transfer_result}
-use Rattle.dap_transfer.specs.WireTransfer.{next_number, reads_rdbuff_itself}
+use Rattle.dap_transfer.specs.WireTransfer.{next_number, reads_rdbuff_itself, RetryIsOver}
 use Rattle.dap_transfer.specs.Wires.{access_of}
 use Rattle.flight_forms.specs.Packing.{requests_for}
+use Rattle.dap_messages.specs.Responses.{is_good}
 
 -- STICKYERR is clear before each of these accesses and after the last, where they are made one at a time
 abbrev pub AreClear : TargetState → List RegAccess → Type 0
@@ -50,10 +51,6 @@ pub record Part : Type 0 where
   -- what each confirmed access gave: a read its value, a write none
   pub values : List (Option ℕ)
 
--- The last transfer that was numbered met more WAITs than the retry number allows: this is the number of the next.
-abbrev pub IsOver : Setting → ℕ → Type 0
-IsOver s number = (place : ℕ) × (number ≡ next_number place) × (s.retry < slice_index s.stalls place)
-
 -- Accesses did this part of themselves, from one state of the probe to another.
 pub record DoesPart (p q : TransferState) (accesses : List RegAccess) (part : Part) : Type 0 where
   pub made : Performs p.line.target q.line.target accesses part.performed part.confirmed part.response
@@ -66,7 +63,7 @@ pub record DoesPart (p q : TransferState) (accesses : List RegAccess) (part : Pa
   -- how far the list of stalls went on
   pub number : q.line.number ≤ p.line.number + 2 * part.performed + one_if (is_wait part.response)
   -- where a retry ended
-  pub over : part.response ≡ Wait → IsOver p.setting q.line.number
+  pub over : part.response ≡ Wait → RetryIsOver p.setting q.line.number
 
 -- ---- what a reply shows
 
@@ -84,13 +81,13 @@ is_own a = not (reads_rdbuff_itself a)
 abbrev pub seen_values : List Request → List ℕ → List (Option ℕ)
 seen_values [] words = []
 seen_values (r ∷ rs) words =
-    if reads_value (kind r)
+    if gives_word (kind r)
     then (if is_own (access_of r) then next_word words ∷ seen_values rs (drop 1 words) else seen_values rs (drop 1 words))
     else None ∷ seen_values rs words
 
 -- what one of these requests adds, where the next word is found or not
 abbrev pub seen_one : Request → Option ℕ → List (Option ℕ)
-seen_one r found = if reads_value (kind r) then (if is_own (access_of r) then found ∷ [] else []) else None ∷ []
+seen_one r found = if gives_word (kind r) then (if is_own (access_of r) then found ∷ [] else []) else None ∷ []
 
 -- Whether it is not known of the last executed request that it was good. The command did not end well, and the request is a write or its word is
 -- missing.

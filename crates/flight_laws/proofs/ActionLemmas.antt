@@ -9,7 +9,7 @@ use Rattle.std.specs.Prelude.{slice_get}
 use Rattle.target_calls.proofs.EntryLemmas.{commands_append, performed_part, registers_append, weight_append}
 use Rattle.access_calls.specs.Numbers.{HasNumbers}
 use Rattle.access_calls.specs.Reported.{AccessView, began}
-use Rattle.access_calls.specs.Standing.{AreTogether, HasBroken, IsPartOfAction, IsPartOfEntry, IsUnanswered, RetryIsOver, idle_cycles_of, pending_of, transfer_number_of, transfer_setting_of}
+use Rattle.access_calls.specs.Standing.{AreTogether, HasBroken, IsPartOfAction, IsPartOfEntry, IsUnanswered, idle_cycles_of, pending_of, transfer_number_of, transfer_setting_of}
 use Rattle.access_regs.proofs.Seams.{after_split, passes_both}
 use Rattle.access_regs.specs.Entries.{NoneFault}
 use Rattle.access_regs.specs.Journal.{making}
@@ -35,6 +35,7 @@ use Rattle.target_machine.specs.declared.access.RegAccess.{RegAccess}
 use Rattle.dap_messages.specs.declared.request.Response.{Response}
 use Rattle.dap_messages.specs.declared.request.Response.TheVariants.{Good, Fault}
 use Rattle.access_calls.specs.declared.stop.Report.{Report}
+use Rattle.dap_transfer.specs.WireTransfer.{RetryIsOver}
 
 -- ---- one entry more
 

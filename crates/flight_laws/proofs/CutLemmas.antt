@@ -6,7 +6,7 @@ use Rattle.std.specs.List.{AllByRecursion}
 use Rattle.target_calls.proofs.EntryLemmas.{fault_first, pass_front}
 use Rattle.target_machine.proofs.FreshLemmas.{attempt_sets}
 use Rattle.access_calls.specs.Reported.{began}
-use Rattle.access_calls.specs.Standing.{AreTogether, HasPerformed, IsMade, RetryIsOver, flight_accesses, pending_of, transfer_number_of, transfer_setting_of}
+use Rattle.access_calls.specs.Standing.{AreTogether, HasPerformed, IsMade, flight_accesses, pending_of, transfer_number_of, transfer_setting_of}
 use Rattle.access_regs.proofs.Seams.{after_split, passes_both}
 use Rattle.access_regs.specs.Journal.{making}
 use Rattle.target_calls.specs.Journal.{Entry, Passes, actions_in, first_fault}
@@ -31,6 +31,7 @@ use Rattle.target_machine.specs.declared.access.RegAccess.{RegAccess}
 use Rattle.target_machine.proofs.CountLemmas.{one_most}
 use Rattle.dap_messages.specs.declared.request.Response.{Response}
 use Rattle.dap_messages.specs.declared.request.Response.TheVariants.{Good, Wait, Fault}
+use Rattle.dap_transfer.specs.WireTransfer.{RetryIsOver}
 
 -- a list cut at a place within
 pub record Cutting {A : Type 0} (k : ℕ) (xs : List A) : Type 0 where

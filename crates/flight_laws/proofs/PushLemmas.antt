@@ -20,8 +20,8 @@ use Rattle.access_regs.specs.Journal.{making}
 use Rattle.access_regs.proofs.EntryLemmas.{weighty_both}
 use Rattle.access_regs.proofs.Lists.{actions_in_append}
 use Rattle.access_regs.proofs.Seams.{after_split}
-use Rattle.batch_packer.specs.SlotList.{value_in}
-use Rattle.flight_laws.specs.Pushing.{EntryPushed, JournalGrew, PlanGives, ValueGiven, value_at}
+use Rattle.batch_packer.specs.SlotList.{value_in, slot_at}
+use Rattle.flight_laws.specs.Pushing.{EntryPushed, JournalGrew, PlanGives, ValueGiven}
 use Rattle.flight_laws.proofs.CutLemmas.{Cutting, cut_list}
 use Rattle.flight_laws.proofs.FlightLemmas.{head_makes, values_came}
 
@@ -69,7 +69,7 @@ value_given outcome.Done = refl
 value_given outcome.Fault = refl
 
 value_there : (t : TargetState) (front : List Entry) (e : Entry) (back : List Entry) (accesses : List RegAccess) (a : RegAccess) → actions_in (front ++ e ∷ back) ≡ making accesses → e.action ≡ Makes a → a.read ≡ true →
-    value_at (slot_values t accesses) (length front) ≡ Some (given_number (action_attempt (after t (actions_in front)) e.action).outcome)
+    slot_at (slot_values t accesses) (length front) ≡ Some (given_number (action_attempt (after t (actions_in front)) e.action).outcome)
 value_there t [] e back [] a h is read = absurd (cc)
 value_there t [] e back (b ∷ accesses) a h is read =
     let p = head_makes e.action (Makes b) (actions_in back) (making accesses) h in
@@ -81,7 +81,7 @@ value_there t [] e back (b ∷ accesses) a h is read =
 value_there t (x ∷ front) e back [] a h is read = absurd (cc)
 value_there t (x ∷ front) e back (b ∷ accesses) a h is read =
     let p = head_makes x.action (Makes b) (actions_in (front ++ e ∷ back)) (making accesses) h in
-    ap (λ (y : Action). value_at (slot_values (action_attempt t y).next accesses) (length front)) (sym p.0)
+    ap (λ (y : Action). slot_at (slot_values (action_attempt t y).next accesses) (length front)) (sym p.0)
     ∙ value_there (action_attempt t x.action).next front e back accesses a p.1 is read
 
 pub same_cut : (xs xs' : List Entry) (e e' : Entry) (ys ys' : List Entry) → xs ++ e ∷ ys ≡ xs' ++ e' ∷ ys' → length xs ≡ length xs' → (xs ≡ xs') × (e ≡ e')
@@ -102,7 +102,7 @@ value_is_given entries made flying rest accesses m0 m o part front e more a plac
     append_assoc made c.front (c.entry ∷ (c.back ++ rest)) ∙ ap (λ (l : List Entry). made ++ l) (sym (append_assoc c.front (c.entry ∷ c.back) rest)) ∙ ap (λ (l : List Entry). made ++ (l ++ rest)) (sym c.is) ∙ sym on.are ∙ is in
     let same = same_cut (made ++ c.front) front c.entry e (c.back ++ rest) more here (length-append made c.front ∙ ap (λ (k : ℕ). length made + k) c.at ∙ sym at) in
     let values : part.values ≡ slot_values (after t0 (actions_in made)) accesses = values_came entries made flying rest accesses m0 m o part on flies good in
-    (λ j. value_at (values j) (sym c.at j))
+    (λ j. slot_at (values j) (sym c.at j))
     ∙ value_there (after t0 (actions_in made)) c.front c.entry c.back accesses a (ap actions_in (sym c.is) ∙ on.flight) (ap (λ (x : Entry). x.action) same.1 ∙ action) read
     ∙ ap (λ (s : TargetState). Some (given_number (action_attempt s c.entry.action).outcome)) (sym (after_split t0 made c.front))
     ∙ (λ j. Some (given_number (action_attempt (after t0 (actions_in (same.0 j))) (same.1 j).action).outcome))

@@ -14,11 +14,12 @@ use Rattle.target_calls.specs.Weights.{weight}
 use Rattle.access_regs.specs.Entries.{NoneFault}
 use Rattle.access_calls.specs.Numbers.{HasNumbers}
 use Rattle.access_calls.specs.Reported.{AccessView, began}
-use Rattle.access_calls.specs.Standing.{HasBroken, IsPartOfAction, IsUnanswered, RetryIsOver, idle_cycles_of, pending_of, transfer_number_of, transfer_setting_of}
+use Rattle.access_calls.specs.Standing.{HasBroken, IsPartOfAction, IsUnanswered, idle_cycles_of, pending_of, transfer_number_of, transfer_setting_of}
 use Rattle.access_calls.specs.declared.stop.Report.{Report}
 use Rattle.batch_packer.specs.Actions.{DoesAction}
 use Rattle.batch_packer.specs.Flying.{Flies}
 use Rattle.flight_laws.specs.UnderWay.{IsUnderWay}
+use Rattle.dap_transfer.specs.WireTransfer.{RetryIsOver}
 
 -- Where nothing lies in the flight and the next entry is such an action, it is made by that.
 abbrev pub ActionDone : Type 0

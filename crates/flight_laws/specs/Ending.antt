@@ -18,18 +18,8 @@ use Rattle.access_regs.specs.declared.planner.Planner.{Planner}
 use Rattle.access_calls.specs.Left.{IsLeft}
 use Rattle.access_calls.specs.Numbers.{HasNumbers}
 use Rattle.access_calls.specs.Reported.{AccessView, began, world_from}
-use Rattle.access_calls.specs.Standing.{
-  AccessStands,
-  IsPartOfAction,
-  RetryIsOver,
-  StandsAt,
-  WhereObservable,
-  flight_accesses,
-  idle_cycles_of,
-  pending_of,
-  transfer_number_of,
-  transfer_setting_of,
-}
+use Rattle.access_calls.specs.Standing.{AccessStands, IsPartOfAction, StandsAt, WhereObservable}
+use Rattle.access_calls.specs.Standing.{flight_accesses, idle_cycles_of, pending_of, transfer_number_of, transfer_setting_of}
 use Rattle.access_calls.specs.declared.stop.Report.{Report}
 use Rattle.access_calls.specs.declared.stop.Stop.{Stop}
 use Rattle.access_calls.specs.declared.stop.Stop.TheVariants.{BenchFault, Cut}
@@ -39,6 +29,7 @@ use Rattle.batch_packer.specs.Flying.{Flies, transfers_of}
 use Rattle.flight_laws.specs.Flights.{AreStrict}
 use Rattle.flight_laws.specs.Flying.{IsFlying}
 use Rattle.flight_laws.specs.Sending.{IsSending}
+use Rattle.dap_transfer.specs.WireTransfer.{RetryIsOver}
 
 -- It has ended so: what the contract of accesses says of the end is so, and the results that came stay, in each world that is left.
 pub record IsEnded (p : Planner) (s : Stop) (a : AccessView) (came : List ℕ) (m0 m : BenchState) : Type 0 where

@@ -6,7 +6,6 @@ use Rattle.target_machine.specs.declared.access.RegAccess.{RegAccess}
 use Rattle.probe_core.specs.Bench.{BenchState}
 use Rattle.target_machine.specs.Counts.{one_if}
 use Rattle.target_calls.specs.Journal.{Entry, actions_in}
-use Rattle.target_calls.specs.NeedPoints.{capped_sum}
 use Rattle.target_calls.specs.Weights.{registers_in}
 use Rattle.target_calls.specs.declared.calls.Ask.{Ask}
 use Rattle.target_machine.specs.State.{TargetState}
@@ -18,6 +17,7 @@ use Rattle.access_calls.specs.Bounds.{starting_since}
 use Rattle.access_calls.specs.Bounds as bounds
 use Rattle.probe_core.specs.Ranges.{AreLimits}
 use Rattle.access_calls.specs.Reported.{AccessView, Beginning}
+use Rattle.target_machine.specs.Lines.{grown_counter}
 
 -- Each starting packet is one of the three of the opening, one at a need point, or one of so many flights that were sent because there was no
 -- room. These had at least the capacity of accesses each.
@@ -40,7 +40,7 @@ FullFlight = (full capacity needs : ℕ) (made flying : List Entry) (accesses : 
 -- Need points came, and no more starting packets than these. Both counts stop at 2^64 - 1.
 abbrev pub NeedPoint : Type 0
 NeedPoint = (full capacity needs more : ℕ) (made flying : List Entry) (b : Beginning) (m o : BenchState) → IsSparing full capacity needs made b m →
-    starting_since b o ≤ starting_since b m + more → o.starting < 2 ^ 64 → IsSparing full capacity (capped_sum needs more) (made ++ flying) b o
+    starting_since b o ≤ starting_since b m + more → o.starting < 2 ^ 64 → IsSparing full capacity (grown_counter needs more) (made ++ flying) b o
 
 -- ---- blocks of writes
 
@@ -88,7 +88,7 @@ NextBlock = (full block needs : ℕ) (first split : Bool) (made flying : List En
 abbrev pub NeedBlock : Type 0
 NeedBlock = (full block needs more : ℕ) (first split : Bool) (made flying : List Entry) (b : Beginning) (m o : BenchState) →
     IsBlockwise full block needs first split made b m →
-    starting_since b o ≤ starting_since b m + more → o.starting < 2 ^ 64 → IsBlockwise full block (capped_sum needs more) first split (made ++ flying) b o
+    starting_since b o ≤ starting_since b m + more → o.starting < 2 ^ 64 → IsBlockwise full block (grown_counter needs more) first split (made ++ flying) b o
 
 -- No call issues more than one write of DRW.
 abbrev pub WritesAreFew : Type 0

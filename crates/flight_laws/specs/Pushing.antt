@@ -13,7 +13,7 @@ use Rattle.target_calls.specs.Weights.{AreWeighty}
 use Rattle.access_regs.specs.Entries.{NoneFault}
 use Rattle.access_regs.specs.Journal.{gives, making}
 use Rattle.batch_packer.specs.Flying.{Flies}
-use Rattle.batch_packer.specs.SlotList.{value_in}
+use Rattle.batch_packer.specs.SlotList.{value_in, slot_at}
 use Rattle.flight_laws.specs.UnderWay.{IsUnderWay}
 
 -- Where the journal grew, what it gained is still to be pushed.
@@ -28,17 +28,13 @@ EntryPushed = (entries made flying : List Entry) (e : Entry) (rest : List Entry)
     IsUnderWay entries made flying (e ∷ rest) accesses m0 m → e.action ≡ Makes a → work_of m.probe + length flying + 1 < 2 ^ 64 →
     IsUnderWay entries made (flying ++ e ∷ []) rest (accesses ++ a ∷ []) m0 m
 
--- the value at a place of a flight
-abbrev pub value_at : List (Option ℕ) → ℕ → Option ℕ
-value_at values place = value_in (slice_get values place)
-
 -- In a flight that came whole, the value of a read is what its entry gives.
 abbrev pub ValueGiven : Type 0
 ValueGiven = (entries made flying rest : List Entry) (accesses : List RegAccess) (m0 m o : BenchState) (part : Part) (front : List Entry) (e : Entry)
     (more : List Entry) (a : RegAccess) (place : ℕ) →
     IsUnderWay entries made flying rest accesses m0 m → Flies accesses part m o → part.response ≡ Good →
     entries ≡ front ++ e ∷ more → length front ≡ length made + place → place < length flying → e.action ≡ Makes a → a.read ≡ true →
-    value_at part.values place ≡ Some (given_number (action_attempt (target_after (target_of m0.probe) front) e.action).outcome)
+    slot_at part.values place ≡ Some (given_number (action_attempt (target_after (target_of m0.probe) front) e.action).outcome)
 
 -- Where the accesses before the last of a plan do not fault, what the plan gives is what the last one gives.
 abbrev pub PlanGives : Type 0

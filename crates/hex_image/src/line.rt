@@ -14,7 +14,8 @@ fn is_decoded(digits: &[u8], room: &mut [u8]) -> bool
 // Decodes the digits after the colon of a record into the first bytes of a room; how many bytes they are. `None` where they are no record.
 // No record has fewer than 10 digits or more than 520, so a long line is refused before it is decoded.
 fn decode_digits(digits: &[u8], room: &mut [u8; 260]) -> Option<usize>
-    ensures { MatchOption result (decoded_record (decode_of digits.now) ≡ None) (λ n. (n ≤ 260) × (5 ≤ n) × (decoded_record (decode_of digits.now) ≡ Some (take n room.new))) }
+    ensures { MatchOption result (decoded_record (decode_of digits.now) ≡ None)
+        (λ n. (n ≤ 260) × (5 ≤ n) × (decoded_record (decode_of digits.now) ≡ Some (take n room.new))) }
 {
     if digits.len() < 10 || digits.len() > 520 {
         return None;

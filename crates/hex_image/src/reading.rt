@@ -1,6 +1,7 @@
 //! A text of Intel HEX records, read line by line.
 ghost use Rattle.std.specs.Prelude.{◌≡◌, ◌+◌, ◌*◌, ◌^◌, ◌≤◌, true, Ok, Some, length, sum, OnOk, IfErr};
-ghost use Rattle.hex_image.specs.Image.{at_end, at_start, by_type, image, image_with_bytes, where_length, with_base, with_data, with_end, with_line, with_record, with_content};
+ghost use Rattle.hex_image.specs.Image.{at_end, at_start, by_type, image, image_with_bytes, where_length, with_base, with_data, with_end, with_line};
+ghost use Rattle.hex_image.specs.Image.{with_record, with_content};
 ghost use Rattle.hex_image.specs.Reads.{IsFault, IsImage, IsRead};
 ghost use Rattle.hex_image.specs.Records.{count_of, type_of, front_word};
 

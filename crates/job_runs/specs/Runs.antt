@@ -21,17 +21,7 @@ use Rattle.access_calls.specs.Growing.{IsAfter}
 use Rattle.access_calls.specs.Made.{units_made}
 use Rattle.access_calls.specs.Numbers.{HasNumbers}
 use Rattle.access_calls.specs.Reported.{Beginning, began, start_of}
-use Rattle.access_calls.specs.Standing.{
-  AreTogether,
-  IsAfterPart,
-  RetryIsOver,
-  flight_accesses,
-  grown_since,
-  idle_cycles_of,
-  pending_of,
-  transfer_number_of,
-  transfer_setting_of,
-}
+use Rattle.access_calls.specs.Standing.{AreTogether, IsAfterPart, flight_accesses, grown_since, idle_cycles_of, pending_of, transfer_number_of, transfer_setting_of}
 use Rattle.access_calls.specs.declared.ended.Ended.{Ended}
 use Rattle.access_calls.specs.declared.ended.Ending.{Ending}
 use Rattle.access_calls.specs.declared.ended.Ending.TheVariants as e
@@ -49,6 +39,7 @@ use Rattle.sequence_rules.specs.Runs.{Outcome, Program, needs, program_of, units
 use Rattle.followed_runs.specs.Followed.{Task, task_alone, task_close, task_outcome, task_within}
 use Rattle.sequels.specs.declared.close.Close.{Close}
 use Rattle.sequels.specs.Sequel.{Sequel}
+use Rattle.dap_transfer.specs.WireTransfer.{RetryIsOver}
 
 -- ---- what is run, and what it leaves
 

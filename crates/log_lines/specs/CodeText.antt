@@ -8,13 +8,7 @@ use Rattle.expr_grammar.specs.Tree as t
 use Rattle.expr_grammar.specs.Tree.{Tree, ArgTree, ArgTrees, StmtTree}
 use Rattle.text_lines.specs.Hex.{hex}
 use Rattle.text_lines.specs.Shown.{shown_text}
-
--- an operator before its operand
-abbrev pub unary_mark : UnaryOp → List ℕ
-unary_mark u.Not = codes "!"
-unary_mark u.Flip = codes "~"
-unary_mark u.Minus = codes "-"
-unary_mark u.Plus = codes "+"
+use Rattle.expr_grammar.specs.Grammar.{unary_text}
 
 -- an operator between its operands
 abbrev pub binary_mark : BinaryOp → List ℕ
@@ -51,7 +45,7 @@ unfoldable mutual
   expr_text (t.Number n) = number_text n
   expr_text (t.Named name) = name.text
   expr_text (t.Group a) = codes "(" ++ expr_text a ++ codes ")"
-  expr_text (t.Unary op a) = unary_mark op ++ expr_text a
+  expr_text (t.Unary op a) = unary_text op ++ expr_text a
   expr_text (t.Binary op a c) = expr_text a ++ binary_mark op ++ expr_text c
   expr_text (t.Cond c a d) = expr_text c ++ codes " ? " ++ expr_text a ++ codes " : " ++ expr_text d
   expr_text (t.Assign name a) = name.text ++ codes " = " ++ expr_text a

@@ -1,27 +1,16 @@
 -- Places of a set as text.
-use Rattle.std.specs.Prelude.{ℕ, List, [], ◌++◌, codes, decimal, Option, Some, None}
+use Rattle.std.specs.Prelude.{ℕ, List, [], ◌++◌, codes, Option, Some, None}
 use Rattle.dap_base.specs.declared.text.Place.{Place}
 use Rattle.sequence_trees.specs.declared.spot.Part.{Part}
 use Rattle.sequence_trees.specs.declared.spot.Part.TheVariants as parts
 use Rattle.sequence_trees.specs.declared.spot.Spot.{Spot}
-use Rattle.text_lines.specs.Shown.{shown_text, dotted_numbers}
+use Rattle.sequence_trees.specs.Parts.{part_word}
+use Rattle.text_lines.specs.Shown.{shown_text, dotted_numbers, place_words}
 
 -- the sequence and the path of a step; the debug variables have none
 abbrev pub step_place_words : Option (List ℕ) → List ℕ → List ℕ
 step_place_words None path = []
 step_place_words (Some name) path = shown_text name ++ codes " " ++ dotted_numbers path ++ codes " "
-
--- a part of a step
-abbrev pub part_word : Part → List ℕ
-part_word parts.Debugvars = codes "debugvars"
-part_word parts.Control = codes "control"
-part_word parts.Block = codes "block"
-part_word parts.If = codes "if"
-part_word parts.While = codes "while"
-
--- a line and a column
-abbrev pub place_words : Place → List ℕ
-place_words place = codes " " ++ decimal place.line ++ codes ":" ++ decimal place.column
 
 -- a place in code; a condition is one expression, and has no place in it
 abbrev pub code_place : Part → Place → List ℕ

@@ -2,19 +2,19 @@
 use Rattle.std.specs.Prelude.{◌≡◌, ℕ, true, false, List, [], ◌∷◌, ◌++◌, codes, Option, Some}
 use Rattle.expr_grammar.specs.declared.code.BinaryOp.TheVariants as b
 use Rattle.expr_grammar.specs.Tree as t
-use Rattle.expr_grammar.specs.Tree.{Tree, StmtTree}
+use Rattle.expr_grammar.specs.Tree.{Tree, StmtTree, args_of}
 use Rattle.sequence_trees.specs.declared.spot.Part.TheVariants as part
 use Rattle.target_calls.specs.Asks.{unit_ask}
 use Rattle.target_machine.specs.Plain.{CallEnd, Answered, Skipped, Faulted}
 use Rattle.target_machine.specs.declared.unit.Unit.TheVariants as unit
-use Rattle.sequence_rules.specs.Rows.{here, v, arg, args, name, call, text}
+use Rattle.sequence_rules.specs.Rows.{here, v, arg, name, call, text}
 use Rattle.run_events.specs.Events.{Event, Begins, Tests, Chooses, Loops, Turns, Finds, Leaves, Assigns, Makes, Calls, Returns}
 use Rattle.log_lines.specs.LogText.{text_of_events}
 use Rattle.log_lines.specs.Places.{condition_spot, debug_spot, spot_in_step}
 
 -- `Read32(0x40034FE0) & 4`
 abbrev pub status : Tree
-status = t.Binary b.BitAnd (t.Call (name (codes "Read32")) (args (arg (t.Number 0x40034FE0) ∷ []))) (t.Number 4)
+status = t.Binary b.BitAnd (t.Call (name (codes "Read32")) (args_of (arg (t.Number 0x40034FE0) ∷ []))) (t.Number 4)
 
 -- a unit that reads the word
 abbrev pub read_event : ℕ → Option CallEnd → Event

@@ -7,16 +7,12 @@ use Rattle.target_machine.specs.declared.unit.ProbeCall.{ProbeCall}
 use Rattle.target_machine.specs.declared.unit.ProbeCall.TheVariants as probe
 use Rattle.target_machine.specs.declared.unit.Unit.{Unit as AccessUnit}
 use Rattle.target_machine.specs.declared.unit.Unit.TheVariants as unit
-use Rattle.text_lines.specs.Hex.{hex, hex2, hex8, hex16}
+use Rattle.text_lines.specs.Hex.{hex, hex2, hex8, hex16, hex_address}
 use Rattle.run_events.specs.Events.{MadeUnit}
 
 -- `read` or `write`
 abbrev pub direction_word : Bool → List ℕ
 direction_word read = if read then codes "read" else codes "write"
-
--- an address: eight digits, and sixteen from 2^32 on
-abbrev pub address_text : ℕ → List ℕ
-address_text address = if nat_le (2 ^ 32) address then hex16 address else hex8 address
 
 -- the access port
 abbrev pub port_text : ℕ → List ℕ
@@ -29,7 +25,7 @@ written_text read value = if read then [] else codes " = " ++ hex value
 -- an access
 abbrev pub unit_text : AccessUnit → List ℕ
 unit_text (unit.Memory size read ap address value) =
-    direction_word read ++ decimal (8 * size) ++ codes " " ++ address_text address ++ port_text ap ++ written_text read value
+    direction_word read ++ decimal (8 * size) ++ codes " " ++ hex_address address ++ port_text ap ++ written_text read value
 unit_text (unit.Ap read ap addr value) = direction_word read ++ codes "ap " ++ hex2 addr ++ port_text ap ++ written_text read value
 unit_text (unit.Dp read addr value) = direction_word read ++ codes "dp " ++ hex addr ++ written_text read value
 unit_text (unit.Poll mask value turns) = codes "poll mask " ++ hex8 mask ++ codes " value " ++ hex8 value ++ codes " turns " ++ decimal turns

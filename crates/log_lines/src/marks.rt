@@ -1,11 +1,12 @@
 //! The marks of operators.
 ghost use Rattle.std.specs.Prelude.{◌≡◌};
-ghost use Rattle.log_lines.specs.CodeText.{binary_mark, unary_mark};
+ghost use Rattle.log_lines.specs.CodeText.{binary_mark};
+ghost use Rattle.expr_grammar.specs.Grammar.{unary_text};
 
 use expr_grammar::{BinaryOp, UnaryOp};
 
 pub fn unary_mark(op: UnaryOp) -> &'static str
-    ensures { result.now ≡ unary_mark op }
+    ensures { result.now ≡ unary_text op }
 {
     match op {
         UnaryOp::Not => "!",

@@ -1,37 +1,17 @@
 //! Places of a set as text.
 ghost use Rattle.std.specs.Prelude.{◌≡◌, ◌++◌, IfOk, Some};
-ghost use Rattle.log_lines.specs.Places.{code_place, debug_spot, part_word, place_words, spot_in_step, spot_words, step_place_words};
+ghost use Rattle.log_lines.specs.Places.{code_place, debug_spot, spot_in_step, spot_words, step_place_words};
 
 use dap_base::{OutOfMemory, Place};
-use sequence_trees::{Part, Spot};
+use sequence_trees::{Part, Spot, part_text};
 use text_lines::Line;
-
-fn part_text(part: Part) -> &'static str
-    ensures { result.now ≡ part_word part }
-{
-    match part {
-        Part::Debugvars => "debugvars",
-        Part::Control => "control",
-        Part::Block => "block",
-        Part::If => "if",
-        Part::While => "while",
-    }
-}
-
-// A line and a column.
-fn with_place(line: Line, place: Place) -> Result<Line, OutOfMemory>
-    ensures { IfOk result (λ l. l ≡ line ++ place_words place) }
-{
-    line.add_labelled(" ", place.line)?
-        .add_labelled(":", place.column)
-}
 
 // A place in code.
 fn with_code_place(line: Line, part: Part, place: Place) -> Result<Line, OutOfMemory>
     ensures { IfOk result (λ l. l ≡ line ++ code_place part place) }
 {
     match part {
-        Part::Debugvars | Part::Block => with_place(line, place),
+        Part::Debugvars | Part::Block => line.add_place(place),
         Part::Control | Part::If | Part::While => Ok(line),
     }
 }
@@ -81,5 +61,5 @@ pub fn with_spot_in(
 pub fn with_debug_spot(line: Line, place: Place) -> Result<Line, OutOfMemory>
     ensures { IfOk result (λ l. l ≡ line ++ spot_words (debug_spot place)) }
 {
-    with_place(line.text("debugvars")?, place)
+    line.text("debugvars")?.add_place(place)
 }

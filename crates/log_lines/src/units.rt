@@ -1,8 +1,8 @@
 //! Units as text.
 ghost use Rattle.std.specs.Prelude.{◌≡◌, ◌++◌, ◌*◌, codes, decimal, option_map, IfOk};
 ghost use Rattle.direct_calls.specs.Made.{call_end_of};
-ghost use Rattle.text_lines.specs.Hex.{hex, hex2, hex8};
-ghost use Rattle.log_lines.specs.Units.{address_text, call_text, command_text, direction_word, end_text, has_result, made_text, port_text, unit_text, written_text};
+ghost use Rattle.text_lines.specs.Hex.{hex, hex2, hex8, hex_address};
+ghost use Rattle.log_lines.specs.Units.{call_text, command_text, direction_word, end_text, has_result, made_text, port_text, unit_text, written_text};
 
 use dap_base::OutOfMemory;
 use direct_calls::Made;
@@ -15,16 +15,6 @@ fn direction_text(read: bool) -> &'static str
     ensures { result.now ≡ direction_word read }
 {
     if read { "read" } else { "write" }
-}
-
-// An address: eight digits, and sixteen from 2^32 on.
-fn with_address(line: Line, address: u64) -> Result<Line, OutOfMemory>
-    ensures { IfOk result (λ l. l ≡ line ++ address_text address) }
-{
-    match u32::try_from(address) {
-        Ok(low) => line.hex8(low),
-        Err(_) => line.hex16(address),
-    }
 }
 
 // What a write writes.
@@ -40,12 +30,14 @@ fn with_written(alloc: Global, line: Line, read: bool, value: u32) -> Result<Lin
 
 // A memory access.
 fn with_memory(line: Line, size: u8, read: bool, ap: u8, address: u64) -> Result<Line, OutOfMemory>
-    ensures { IfOk result (λ l. l ≡ line ++ direction_word read ++ decimal (8 * size) ++ codes " " ++ address_text address ++ port_text ap) }
+    ensures { IfOk result (λ l. l ≡ line ++ direction_word read ++ decimal (8 * size) ++ codes " " ++ hex_address address ++ port_text ap) }
 {
     let line = line
         .text(direction_text(read))?
         .decimal(8 * u64::from(size))?;
-    with_address(line.text(" ")?, address)?.add_labelled(" ap ", u64::from(ap))
+    line.text(" ")?
+        .add_address(address)?
+        .add_labelled(" ap ", u64::from(ap))
 }
 
 // An access to a register of an access port.

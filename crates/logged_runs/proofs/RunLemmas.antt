@@ -19,7 +19,7 @@ use Rattle.sequence_rules.proofs.LoopLemmas.{tail_two}
 use Rattle.sequence_rules.proofs.NowLemmas.{steps_found}
 use Rattle.run_events.specs.Events.{Event, Assigns, Begins, events_after}
 use Rattle.run_events.specs.OfRuns.{at_debugvars, debugged_events, run_events}
-use Rattle.run_events.specs.OfSteps.{step_spot, steps_events}
+use Rattle.run_events.specs.OfSteps.{steps_events}
 use Rattle.run_events.specs.OfValues.{value_events}
 use Rattle.logged_calls.specs.Held.{CodeEndsAs, Means}
 use Rattle.logged_calls.specs.declared.held.LoggedEnd.{LoggedEnd}
@@ -27,6 +27,7 @@ use Rattle.logged_calls.specs.declared.held.Stopped.{Stopped}
 use Rattle.logged_calls.proofs.EndLemmas.{ends_on}
 use Rattle.logged_runs.specs.declared.runner.LoggedRunner.{LoggedRunner}
 use Rattle.logged_runs.specs.Walk.{calls_in_walk, debug_statement_in_walk, definition_in_walk, events_in_walk, one_events, step_on_path}
+use Rattle.sequence_trees.specs.Order.{spot_at}
 
 abbrev S : Type 0
 S = State ℕ Now
@@ -88,7 +89,7 @@ module _ (runner : LoggedRunner) where
       → one_events shows runner st s ++ events_after (debug_statement_in_walk runner st s) (λ done r. debugged_events shows run_us all code r) ≡ debugged_events shows run_us all (st ∷ code) s
   unfolding debugged_events
   first_seen shows (t.Empty at) code s = refl
-  first_seen shows (t.Declare name e) code s = ap (λ xs. Begins (step_spot at_debugvars part.Debugvars name.at) (t.Declare name e) ∷ xs) (assigned_then (value_events (calls_in_walk runner 0) (events_in_walk shows runner 0) e s) (value (direct false) (calls_in_walk runner 0) e s) name.text (λ n r. stored_value (direct false) name n r) (λ q. debugged_events shows run_us all code q))
+  first_seen shows (t.Declare name e) code s = ap (λ xs. Begins (spot_at at_debugvars part.Debugvars name.at) (t.Declare name e) ∷ xs) (assigned_then (value_events (calls_in_walk runner 0) (events_in_walk shows runner 0) e s) (value (direct false) (calls_in_walk runner 0) e s) name.text (λ n r. stored_value (direct false) name n r) (λ q. debugged_events shows run_us all code q))
   first_seen shows (t.Plain at e) code s = refl
 
   pub debug_head : (xs : List statement.Stmt) (i : ℕ) (d : statement.Stmt) (s : S) → i < length xs → (shows : ℕ → Bool)

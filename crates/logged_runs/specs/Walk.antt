@@ -9,12 +9,11 @@ use Rattle.sequence_rules.specs.Direct.{Now, direct}
 use Rattle.sequence_rules.specs.Machine.{State, Out}
 use Rattle.sequence_rules.specs.Steps.{sequence_at}
 use Rattle.sequence_rules.specs.Values.{stored_value, used_now, value}
-use Rattle.sequence_trees.specs.Order.{SetStep}
+use Rattle.sequence_trees.specs.Order.{SetStep, spot_at}
 use Rattle.sequence_trees.specs.declared.spot.Part.TheVariants as part
 use Rattle.target_machine.specs.State.{TargetState}
 use Rattle.run_events.specs.Events.{Event, Begins, Assigns, events_after}
 use Rattle.run_events.specs.OfRuns.{at_debugvars, sequence_events}
-use Rattle.run_events.specs.OfSteps.{step_spot}
 use Rattle.run_events.specs.OfValues.{value_events}
 use Rattle.log_lines.specs.LogLines.{LogLines}
 use Rattle.log_lines.specs.declared.log.LogMark.{LogMark}
@@ -115,5 +114,5 @@ defined_events shows runner name e s =
 -- what is seen of one statement of the debug variables
 abbrev pub one_events : (ℕ → Bool) → LoggedRunner → StmtTree → State ℕ Now → List Event
 one_events shows runner (t.Empty at) s = []
-one_events shows runner (t.Declare name e) s = Begins (step_spot at_debugvars part.Debugvars name.at) (t.Declare name e) ∷ defined_events shows runner name e s
+one_events shows runner (t.Declare name e) s = Begins (spot_at at_debugvars part.Debugvars name.at) (t.Declare name e) ∷ defined_events shows runner name e s
 one_events shows runner (t.Plain at e) s = []

@@ -8,10 +8,10 @@ use Rattle.code_check.specs.declared.fault.FaultKind.{FaultKind}
 use Rattle.code_check.specs.declared.fault.FaultKind.TheVariants as k
 use Rattle.code_check.specs.Order.{rank}
 use Rattle.dap_base.specs.declared.text.Place.{Place}
-use Rattle.set_lines.specs.Parts.{part_number}
 use Rattle.set_lines.proofs.SameLemmas.{same_part, text_equal}
 use Rattle.pack_faults.specs.declared.answer.Found.{Found}
 use Rattle.pack_faults.specs.Merged.{same_spot, same_found}
+use Rattle.sequence_trees.specs.Parts.{part_rank}
 
 pub and_true : (a b : Bool) → a ≡ true → b ≡ true → a && b ≡ true
 and_true a b p q = rw (p, q) refl
@@ -69,7 +69,7 @@ pub spot_equal : (x y : Spot) → same_spot x y ≡ true → x ≡ y
 spot_equal x y e =
     let a = and_parts (same_text x.sequence y.sequence) _ e in
     let b = and_parts (bytes_eq x.path y.path) _ a.1 in
-    let c = and_parts (part_number x.part == part_number y.part) _ b.1 in
+    let c = and_parts (part_rank x.part == part_rank y.part) _ b.1 in
     let d = and_parts (x.place.line == y.place.line) (x.place.column == y.place.column) c.1 in
     spot_equal_at x y (text_equal x.sequence y.sequence a.0) ((bytes_eq-Decides x.path y.path).0 b.0) (same_part x.part y.part c.0)
     (place_equal x.place y.place (eqb-true x.place.line y.place.line d.0) (eqb-true x.place.column y.place.column d.1))
@@ -81,7 +81,7 @@ pub spot_itself : (x : Spot) → same_spot x x ≡ true
 spot_itself x =
     and_true (same_text x.sequence x.sequence) _ (text_itself x.sequence)
     (and_true (bytes_eq x.path x.path) _ ((bytes_eq-Decides x.path x.path).1 refl)
-    (and_true (part_number x.part == part_number x.part) _ (number_itself (part_number x.part))
+    (and_true (part_rank x.part == part_rank x.part) _ (number_itself (part_rank x.part))
     (and_true (x.place.line == x.place.line) (x.place.column == x.place.column) (number_itself x.place.line) (number_itself x.place.column))))
 
 -- ---- what is found

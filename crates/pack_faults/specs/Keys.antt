@@ -9,8 +9,8 @@ use Rattle.pack_faults.specs.declared.answer.Found.{Found}
 use Rattle.pack_faults.specs.declared.answer.PackFault.{PackFault}
 use Rattle.pack_faults.specs.declared.keys.FoundKey.{FoundKey}
 use Rattle.pack_faults.specs.contracts.keys.FoundKeyOrd.TheImpl as key_ord
-use Rattle.set_lines.specs.Parts.{part_number}
 use Rattle.pack_faults.specs.Steps.{numbers_with}
+use Rattle.sequence_trees.specs.Parts.{part_rank}
 
 -- what distinguishes faults
 pub record KeyView : Type 0 where
@@ -33,7 +33,7 @@ found_view f = record {
   kind = rank f.fault.kind;
   sequence = f.fault.spot.sequence;
   path = f.fault.spot.path;
-  part = part_number f.fault.spot.part;
+  part = part_rank f.fault.spot.part;
   line = f.fault.spot.place.line;
   column = f.fault.spot.place.column;
   text = f.line;

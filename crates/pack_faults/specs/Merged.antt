@@ -5,13 +5,13 @@ use Rattle.std.specs.Str.{bytes_eq}
 use Rattle.device_tree.specs.Same.{same_text}
 use Rattle.sequence_trees.specs.declared.spot.Spot.{Spot}
 use Rattle.code_check.specs.Order.{rank}
-use Rattle.set_lines.specs.Parts.{part_number}
 use Rattle.pack_faults.specs.declared.answer.Found.{Found}
 use Rattle.pack_faults.specs.declared.answer.PackFault.{PackFault}
+use Rattle.sequence_trees.specs.Parts.{part_rank}
 
 -- one place in one part of one step
 abbrev pub same_spot : Spot → Spot → Bool
-same_spot s t = same_text s.sequence t.sequence && (bytes_eq s.path t.path && (part_number s.part == part_number t.part
+same_spot s t = same_text s.sequence t.sequence && (bytes_eq s.path t.path && (part_rank s.part == part_rank t.part
     && (s.place.line == t.place.line && s.place.column == t.place.column)))
 
 -- one kind at one spot, in lines with the same text

@@ -20,5 +20,6 @@ pub fn one_answer()
 
 /// There is no fault exactly where each of the sets is valid.
 pub fn empty_where_valid()
-    ensures { (pack : Pack) (request : PackRequest) (answer : PackFaults) → ArePackFaults pack request answer → (answer.faults ≡ []) ↔ AreValid pack (sets_of pack request) }
+    ensures { (pack : Pack) (request : PackRequest) (answer : PackFaults) → ArePackFaults pack request answer
+        → (answer.faults ≡ []) ↔ AreValid pack (sets_of pack request) }
 {}

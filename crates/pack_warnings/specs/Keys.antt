@@ -4,13 +4,13 @@ use Rattle.std.specs.declared.cmp.Ordering.{Ordering}
 use Rattle.std.specs.BTreeMap.{BTreeMap, get}
 use Rattle.std.specs.Str.{bytes_eq}
 use Rattle.device_tree.specs.Same.{same_text}
-use Rattle.set_lines.specs.Parts.{part_number}
 use Rattle.pack_faults.specs.Steps.{numbers_with}
 use Rattle.pack_warnings.specs.declared.answer.FoundWarning.{FoundWarning}
 use Rattle.pack_warnings.specs.declared.answer.PackWarning.{PackWarning}
 use Rattle.pack_warnings.specs.declared.keys.WarningKey.{WarningKey}
 use Rattle.pack_warnings.specs.contracts.keys.WarningKeyOrd.TheImpl as key_ord
 use Rattle.pack_warnings.specs.Merged.{kind_number}
+use Rattle.sequence_trees.specs.Parts.{part_rank}
 
 -- what distinguishes warnings
 pub record WarningKeyView : Type 0 where
@@ -34,7 +34,7 @@ warning_found_view f = record {
   kind = kind_number f.warning.kind;
   sequence = f.warning.spot.sequence;
   path = f.warning.spot.path;
-  part = part_number f.warning.spot.part;
+  part = part_rank f.warning.spot.part;
   line = f.warning.spot.place.line;
   column = f.warning.spot.place.column;
   name = f.warning.name;

@@ -18,7 +18,7 @@ use Rattle.probe_core.specs.Bench.{Reported as BenchReported}
 use Rattle.probe_core.specs.Probe.{target_of}
 use Rattle.target_calls.specs.Asks.{AreAskable, IsAskable, IsCallInRange, IsUnitInRange, is_forgiving, unit_ask}
 use Rattle.target_calls.specs.Journal.{Entry, target_after}
-use Rattle.target_calls.specs.NeedPoints.{Cost, asks_with_call, capped_sum}
+use Rattle.target_calls.specs.NeedPoints.{Cost, asks_with_call}
 use Rattle.target_calls.specs.World.{small_now, start_world}
 use Rattle.target_calls.specs.declared.calls.Ask.{Ask}
 use Rattle.target_calls.specs.declared.journal.Part.TheVariants.{Settles}
@@ -45,6 +45,7 @@ use Rattle.packed_access.proofs.TryBeginLemmas.{askable_last}
 use Rattle.access_regs.specs.declared.planner.Planner.{Planner}
 use Rattle.access_regs.specs.declared.planner.Planner.TheVariants.{Managed, Plain}
 use Rattle.access_regs.specs.Journal.{is_alone}
+use Rattle.target_machine.specs.Lines.{grown_counter}
 
 -- ---- a call is asked
 
@@ -275,7 +276,7 @@ asked_by : (log : LogState) (calls : List Ask) (ask : Ask) (n : ℕ) → log.cal
 asked_by log calls ask zero are = ap (λ (l : List Ask). record { calls = l; needs = log.needs; fence = log.fence }) are
 asked_by log calls ask (suc n) are =
     let count : length log.calls - 1 ≡ length calls = (let l = ap length are ∙ length-append calls (ask ∷ []) in omega (arith, l)) in
-    (λ j. record { calls = are j; needs = capped_sum log.needs (suc n); fence = count j })
+    (λ j. record { calls = are j; needs = grown_counter log.needs (suc n); fence = count j })
 
 no_more : (k : Kept) (t : TargetState) (asked : AccessUnit) → IsNoPoll asked → call_cost k t (Access asked) ≡ 0
 no_more k t (unit.Memory size read n address value) h = refl
@@ -285,7 +286,7 @@ no_more k t (unit.Poll mask value turns) h = absurd h
 
 needs_like : (old mid : LogState) (n : ℕ) → asks_of mid ≡ asks_of old → asks_of (with_needs mid n (length mid.calls - 1)) ≡ asks_of (with_needs old n (length old.calls - 1))
 needs_like old mid zero same = same
-needs_like old mid (suc n) same = ap (λ a. record { calls = a.calls; needs = capped_sum a.needs (suc n); fence = length a.calls - 1 }) same
+needs_like old mid (suc n) same = ap (λ a. record { calls = a.calls; needs = grown_counter a.needs (suc n); fence = length a.calls - 1 }) same
 
 -- its cost: so many reads of CFG and CSW before it counts as asked, where the access counts need points
 planned_cost_is : (p : Planner) (t : TargetState) (calls : List Ask) (ask : Ask) (asked' : AccessUnit) → ask.call ≡ Access asked' → is_forgiving ask ≡ false → IsNoPoll asked' → (is_alone p false && may_forgive (Access asked')) ≡ false →

@@ -7,7 +7,7 @@ use Rattle.target_machine.specs.declared.unit.Call.TheVariants.{Probe}
 use Rattle.target_machine.specs.declared.unit.ProbeCall.{ProbeCall}
 use Rattle.target_calls.specs.Asks.{probe_ask, settled_last}
 use Rattle.target_machine.specs.Counts.{one_if}
-use Rattle.target_calls.specs.NeedPoints.{Asks, Cost, asks_with_call, capped_sum, asks_at_need, needed_more, asks_at_use, with_call}
+use Rattle.target_calls.specs.NeedPoints.{Asks, Cost, asks_with_call, asks_at_need, needed_more, asks_at_use, with_call}
 use Rattle.target_calls.specs.declared.calls.Ask.{Ask}
 use Rattle.target_calls.specs.declared.calls.Slot.{Slot}
 use Rattle.target_calls.proofs.NeedLemmas.{needed_calls}
@@ -17,6 +17,7 @@ use Rattle.flight_laws.specs.Changes.{marks_in}
 use Rattle.packed_access.specs.Sparing.{AreNeeded, first_cost}
 use Rattle.access_regs.specs.declared.planner.Planner.{Planner}
 use Rattle.access_regs.specs.declared.planner.Planner.TheVariants.{Managed, Plain}
+use Rattle.target_machine.specs.Lines.{grown_counter}
 
 -- ---- the calls
 
@@ -53,14 +54,14 @@ covers_same x needs needs' h le = omega (arith, h, le)
 -- the calls stay, and need points may come
 pub needed_same : (p : Planner) (t : TargetState) (a b : Asks) → AreNeeded p t a → b.calls ≡ a.calls → min a.needs (2 ^ 64 - 1) ≤ b.needs → AreNeeded p t b
 needed_same p t a b h calls le =
-    record { so = subst (λ (l : List Ask). capped_sum (first_cost p t l) (marks_in l) ≤ b.needs) (sym calls) (covers_same (first_cost p t a.calls + marks_in a.calls) a.needs b.needs h.so le) }
+    record { so = subst (λ (l : List Ask). grown_counter (first_cost p t l) (marks_in l) ≤ b.needs) (sym calls) (covers_same (first_cost p t a.calls + marks_in a.calls) a.needs b.needs h.so le) }
 
 -- a call is asked
 pub needed_asked : (p : Planner) (t : TargetState) (a b : Asks) (ask : Ask) → AreNeeded p t a → ask.settled ≡ false → b.calls ≡ a.calls ++ ask ∷ [] → min (a.needs + (cost_by p t a.calls ask).before) (2 ^ 64 - 1) ≤ b.needs → AreNeeded p t b
 needed_asked p t a b ask h unmarked calls le =
-    record { so = subst (λ (l : List Ask). capped_sum (first_cost p t l) (marks_in l) ≤ b.needs) (sym calls) (by_calls a.calls h.so le) }
+    record { so = subst (λ (l : List Ask). grown_counter (first_cost p t l) (marks_in l) ≤ b.needs) (sym calls) (by_calls a.calls h.so le) }
   where
-    by_calls : (l : List Ask) → capped_sum (first_cost p t l) (marks_in l) ≤ a.needs → min (a.needs + (cost_by p t l ask).before) (2 ^ 64 - 1) ≤ b.needs → capped_sum (first_cost p t (l ++ ask ∷ [])) (marks_in (l ++ ask ∷ [])) ≤ b.needs
+    by_calls : (l : List Ask) → grown_counter (first_cost p t l) (marks_in l) ≤ a.needs → min (a.needs + (cost_by p t l ask).before) (2 ^ 64 - 1) ≤ b.needs → grown_counter (first_cost p t (l ++ ask ∷ [])) (marks_in (l ++ ask ∷ [])) ≤ b.needs
     by_calls [] k le = (let m = marks_more [] ask unmarked in omega (arith, k, le, m))
     by_calls (c ∷ cs) k le = (let m = marks_more (c ∷ cs) ask unmarked in omega (arith, k, le, m))
 
@@ -101,7 +102,7 @@ needed_points p t a log new points count h calls needs is =
 pub needed_finished : (p : Planner) (t : TargetState) (a : Asks) (log new : LogState) (count : ℕ) → AreNeeded p t a → log.calls ≡ settled_last a.calls → log.needs ≡ a.needs → new ≡ with_needs log 1 count → AreNeeded p t (asks_of new)
 needed_finished p t a log new count h calls needs is =
     subst (λ (l : LogState). AreNeeded p t (asks_of l)) (sym is)
-    (record { so = subst (λ (l : List Ask). capped_sum (first_cost p t l) (marks_in l) ≤ min (log.needs + 1) (2 ^ 64 - 1)) (sym calls) (let k = h.so in let f = first_marked p t a.calls in let m = marks_upto a.calls in omega (arith, k, f, m, needs)) })
+    (record { so = subst (λ (l : List Ask). grown_counter (first_cost p t l) (marks_in l) ≤ min (log.needs + 1) (2 ^ 64 - 1)) (sym calls) (let k = h.so in let f = first_marked p t a.calls in let m = marks_upto a.calls in omega (arith, k, f, m, needs)) })
 
 -- a slot is used
 pub needed_used : (p : Planner) (t : TargetState) (a : Asks) (log new : LogState) (slot : Slot) → AreNeeded p t a → log.calls ≡ a.calls → log.needs ≡ a.needs → new ≡ with_asks log (asks_at_use slot (asks_of log)) → AreNeeded p t (asks_of new)

@@ -16,7 +16,6 @@ use Rattle.target_calls.specs.Journal.{Entry, actions_in, target_after}
 use Rattle.access_regs.specs.Journal.{making}
 use Rattle.batch_packer.specs.SlotList.{slot_at, value_in}
 use Rattle.batch_packer.specs.Flying.{Flies}
-use Rattle.flight_laws.specs.Pushing.{value_at}
 use Rattle.flight_laws.specs.UnderWay.{IsUnderWay}
 use Rattle.flight_laws.proofs.CutLemmas.{Cutting, cut_list}
 use Rattle.flight_laws.proofs.FlightLemmas.{head_makes, values_came}
@@ -27,7 +26,7 @@ use Rattle.packed_access.proofs.WriteLemmas.{write_gives}
 record IsAccess (e : Entry) (accesses : List RegAccess) (place : ℕ) : Type 0 where
   pub access : RegAccess
   pub is : e.action ≡ Makes access
-  pub slot : (t : TargetState) → access.read ≡ false → value_at (slot_values t accesses) place ≡ None
+  pub slot : (t : TargetState) → access.read ≡ false → slot_at (slot_values t accesses) place ≡ None
 
 access_of : (front : List Entry) (e : Entry) (back : List Entry) (accesses : List RegAccess) → actions_in (front ++ e ∷ back) ≡ making accesses → IsAccess e accesses (length front)
 access_of [] e back [] h = absurd (cc)
@@ -68,9 +67,9 @@ slot_gives entries made flying rest accesses m0 m o part values front e more pla
     action : e.action ≡ Makes found.access
     action = ap (λ (x : Entry). x.action) (sym same.1) ∙ found.is
 
-    by_read : (b : Bool) → found.access.read ≡ b → unwrap_or (value_at part.values place) 0 ≡ given_number (action_attempt (target_after (target_of m0.probe) front) e.action).outcome
+    by_read : (b : Bool) → found.access.read ≡ b → unwrap_or (slot_at part.values place) 0 ≡ given_number (action_attempt (target_after (target_of m0.probe) front) e.action).outcome
     by_read true read = ap (λ (v : Option ℕ). unwrap_or v 0) (value_is_given entries made flying rest accesses m0 m o part front e more found.access place on flies good is at within action read)
     by_read false write =
-        (λ j. unwrap_or (value_at (values_came entries made flying rest accesses m0 m o part on flies good j) (sym c.at j)) 0)
+        (λ j. unwrap_or (slot_at (values_came entries made flying rest accesses m0 m o part on flies good j) (sym c.at j)) 0)
         ∙ ap (λ (v : Option ℕ). unwrap_or v 0) (found.slot (target_after (target_of m0.probe) made) write)
         ∙ sym (ap (λ (x : Action). given_number (action_attempt (target_after (target_of m0.probe) front) x).outcome) action ∙ write_gives (target_after (target_of m0.probe) front) found.access write)

@@ -27,7 +27,6 @@ use Rattle.bench_flights.specs.Full.{IsFull}
 use Rattle.bench_flights.specs.Flown.{CanMatch, HasCome, SendsFew}
 use Rattle.packed_access.specs.Forgiving.{log_after_answer}
 use Rattle.packed_access.specs.Logs.{IsFurther, LogState, nothing_logged, with_needs}
-use Rattle.target_calls.specs.NeedPoints.{capped_sum}
 use Rattle.access_calls.specs.Opening.{HasOpened, MayBegin, opened_bench}
 use Rattle.probe_core.specs.declared.job.Config.{Config as OpenConfig}
 use Rattle.packed_access.specs.Sparing.{HasPaid, HasSpared, IsSpared, managed_points}
@@ -37,6 +36,7 @@ use Rattle.access_regs.specs.declared.planner.Planner.{Planner}
 use Rattle.access_regs.specs.declared.planner.Planner.TheVariants.{Managed, Plain}
 use Rattle.flight_laws.proofs.ActionLemmas.{flight_registers}
 use Rattle.bench_flights.proofs.PacketLemmas.{none_sent}
+use Rattle.target_machine.specs.Lines.{grown_counter}
 
 -- ---- register accesses of entries
 
@@ -186,7 +186,7 @@ has_later p x limits given log new points more m0 h calls later le = record { so
         let s : IsSpared p limits given new (points + 0) m0 m = grown_spared p limits given limits given log new points 0 m0 m m k (none_sent m) calls later refl refl in
         record { full = s.full; few = (let f = s.few in omega (arith, f, le)); filled = s.filled; counts = s.counts; limits_are = s.limits_are; fits = s.fits; blocks = s.blocks }
 
-needs_cover : (log : LogState) (points count : ℕ) → (capped_sum log.needs points ≤ (with_needs log points count).needs) × (((with_needs log points count).calls ≡ log.calls) × ((with_needs log points count).confirmed ≡ log.confirmed))
+needs_cover : (log : LogState) (points count : ℕ) → (grown_counter log.needs points ≤ (with_needs log points count).needs) × (((with_needs log points count).calls ≡ log.calls) × ((with_needs log points count).confirmed ≡ log.confirmed))
 needs_cover log zero count = (omega arith, (refl, refl))
 needs_cover log (suc points) count = (omega arith, (refl, refl))
 
@@ -194,23 +194,23 @@ covers_more : (paid left needs points now : ℕ) → min (paid + left) (2 ^ 64 -
 covers_more paid left needs points now before after = omega (arith, before, after)
 
 -- the need points come
-pub has_paid : (p : Planner) (x : Option BenchState) (limits given : Limits) (log new : LogState) (needs paid points count left : ℕ) (m0 : BenchState) → HasSpared p limits given x log (paid + points) m0 → (p ≡ Managed → capped_sum paid left ≤ needs) → log.needs ≡ needs → new ≡ with_needs log points count → HasPaid p limits given x new left m0
+pub has_paid : (p : Planner) (x : Option BenchState) (limits given : Limits) (log new : LogState) (needs paid points count left : ℕ) (m0 : BenchState) → HasSpared p limits given x log (paid + points) m0 → (p ≡ Managed → grown_counter paid left ≤ needs) → log.needs ≡ needs → new ≡ with_needs log points count → HasPaid p limits given x new left m0
 has_paid p x limits given log new needs paid points count left m0 h covers same is =
     let c = needs_cover log points count in
     record {
       paid = paid + points;
       spared = has_later p x limits given log new (paid + points) (paid + points) m0 h (ap (λ (l : LogState). l.calls) is ∙ c.1.0) (let k = ap (λ (l : LogState). l.confirmed) is ∙ c.1.1 in omega (arith, k)) (omega arith);
-      covers = λ managed. (let n = subst (λ (l : LogState). capped_sum needs points ≤ l.needs) (sym is) (subst (λ (n : ℕ). capped_sum n points ≤ (with_needs log points count).needs) same c.0) in covers_more paid left needs points new.needs (covers managed) n);
+      covers = λ managed. (let n = subst (λ (l : LogState). grown_counter needs points ≤ l.needs) (sym is) (subst (λ (n : ℕ). grown_counter n points ≤ (with_needs log points count).needs) same c.0) in covers_more paid left needs points new.needs (covers managed) n);
     }
 
 -- where none came the need points are the same
-pub spared_further : (p : Planner) → {A E : Type 0} (x : Option BenchState) (limits given : Limits) (log new : LogState) (paid left : ℕ) (result : Result A E) (m0 : BenchState) → (p ≡ Managed → capped_sum paid left ≤ log.needs) → OnOk result (IsFurther log new) → OnOk result (HasSpared p limits given x new paid m0) →
+pub spared_further : (p : Planner) → {A E : Type 0} (x : Option BenchState) (limits given : Limits) (log new : LogState) (paid left : ℕ) (result : Result A E) (m0 : BenchState) → (p ≡ Managed → grown_counter paid left ≤ log.needs) → OnOk result (IsFurther log new) → OnOk result (HasSpared p limits given x new paid m0) →
     OnOk result (HasPaid p limits given x new left m0)
 spared_further p x limits given log new paid left (Err e) m0 covers further h = tt
-spared_further p x limits given log new paid left (Ok v) m0 covers further h = record { paid = paid; spared = h; covers = λ managed. subst (λ (n : ℕ). capped_sum paid left ≤ n) (sym further.needs) (covers managed) }
+spared_further p x limits given log new paid left (Ok v) m0 covers further h = record { paid = paid; spared = h; covers = λ managed. subst (λ (n : ℕ). grown_counter paid left ≤ n) (sym further.needs) (covers managed) }
 
-pub spared_same : (p : Planner) (x : Option BenchState) (limits given : Limits) (log new : LogState) (paid left : ℕ) (m0 : BenchState) → (p ≡ Managed → capped_sum paid left ≤ log.needs) → IsFurther log new → HasSpared p limits given x new paid m0 → HasPaid p limits given x new left m0
-spared_same p x limits given log new paid left m0 covers further h = record { paid = paid; spared = h; covers = λ managed. subst (λ (n : ℕ). capped_sum paid left ≤ n) (sym further.needs) (covers managed) }
+pub spared_same : (p : Planner) (x : Option BenchState) (limits given : Limits) (log new : LogState) (paid left : ℕ) (m0 : BenchState) → (p ≡ Managed → grown_counter paid left ≤ log.needs) → IsFurther log new → HasSpared p limits given x new paid m0 → HasPaid p limits given x new left m0
+spared_same p x limits given log new paid left m0 covers further h = record { paid = paid; spared = h; covers = λ managed. subst (λ (n : ℕ). grown_counter paid left ≤ n) (sym further.needs) (covers managed) }
 
 -- by the managed planner all of them are counted
 pub all_counted : (p : Planner) (n : ℕ) → p ≡ Managed → managed_points p n ≡ n
@@ -225,7 +225,7 @@ pub has_more : (p : Planner) (x : Option BenchState) (limits given : Limits) (lo
 has_more p x limits given log new left m0 h calls more same = record {
   paid = h.paid;
   spared = has_later p x limits given log new h.paid h.paid m0 h.spared calls more (omega arith);
-  covers = λ managed. subst (λ (n : ℕ). capped_sum h.paid left ≤ n) (sym same) (h.covers managed);
+  covers = λ managed. subst (λ (n : ℕ). grown_counter h.paid left ≤ n) (sym same) (h.covers managed);
 }
 
 -- ---- polls and commands

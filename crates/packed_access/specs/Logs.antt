@@ -8,7 +8,7 @@ use Rattle.target_machine.specs.Sound.{IsSoundCall}
 use Rattle.probe_core.specs.Bench.{BenchState}
 use Rattle.probe_core.specs.Bench.{Reported as BenchReported}
 use Rattle.target_calls.specs.Journal.{Entry}
-use Rattle.target_calls.specs.NeedPoints.{Asks, capped_sum}
+use Rattle.target_calls.specs.NeedPoints.{Asks}
 use Rattle.target_calls.specs.declared.calls.Ask.{Ask}
 use Rattle.access_calls.specs.Causes.{KeepsReplyAt}
 use Rattle.access_calls.specs.Issued.{AreKeptOf, lines_before_kept}
@@ -25,6 +25,7 @@ use Rattle.batch_packer.specs.declared.ends.FlightEnd.{FlightEnd}
 use Rattle.batch_packer.specs.declared.ends.FlightEnd.TheVariants as ends
 use Rattle.packed_access.specs.Counted.{CountsConfirmed}
 use Rattle.packed_access.specs.declared.confirmed.Confirmed.{Confirmed}
+use Rattle.target_machine.specs.Lines.{grown_counter}
 
 -- What is kept of the calls.
 pub record LogState : Type 0 where
@@ -161,7 +162,7 @@ with_asks log asks = record log { calls = asks.calls; needs = asks.needs; fence 
 -- so many need points came, where so many calls had been asked
 abbrev pub with_needs : LogState → ℕ → ℕ → LogState
 with_needs log zero calls = log
-with_needs log (suc points) calls = record log { needs = capped_sum log.needs (suc points); fence = calls }
+with_needs log (suc points) calls = record log { needs = grown_counter log.needs (suc points); fence = calls }
 
 -- one more entry was issued
 abbrev pub log_with_entry : LogState → Issued → LogState

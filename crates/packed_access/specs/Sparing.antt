@@ -8,7 +8,7 @@ use Rattle.probe_core.specs.Probe.{target_of}
 use Rattle.probe_core.specs.Ranges.{AreLimits}
 use Rattle.probe_core.specs.declared.job.Limits.{Limits}
 use Rattle.target_machine.specs.Counts.{one_if}
-use Rattle.target_calls.specs.NeedPoints.{Asks, capped_sum}
+use Rattle.target_calls.specs.NeedPoints.{Asks}
 use Rattle.target_calls.specs.Weights.{registers_in}
 use Rattle.target_calls.specs.declared.calls.Ask.{Ask}
 use Rattle.access_regs.specs.Costs.{cost_by}
@@ -25,6 +25,7 @@ use Rattle.packed_access.specs.Blocks.{AreBlocks}
 use Rattle.packed_access.specs.Logs.{LogState, asks_of}
 use Rattle.access_regs.specs.declared.planner.Planner.{Planner}
 use Rattle.access_regs.specs.declared.planner.Planner.TheVariants.{Managed, Plain}
+use Rattle.target_machine.specs.Lines.{grown_counter}
 
 -- Since the beginning there were at most so many starting packets, besides the three of the opening and one for each full flight. A full flight
 -- is one that was sent because there was no room. It had at least the capacity of accesses, which are confirmed, and a block where all were
@@ -47,7 +48,7 @@ pub record HasSpared (p : Planner) (limits given : Limits) (state : Option Bench
 pub record HasPaid (p : Planner) (limits given : Limits) (state : Option BenchState) (log : LogState) (left : ℕ) (m0 : BenchState) : Type 0 where
   pub paid : ℕ
   pub spared : HasSpared p limits given state log paid m0
-  pub covers : p ≡ Managed → capped_sum paid left ≤ log.needs
+  pub covers : p ≡ Managed → grown_counter paid left ≤ log.needs
 
 -- one need point is left where the last came after calls of which not all have come
 abbrev pub points_left : LogState → ℕ
@@ -69,7 +70,7 @@ first_cost p t (c ∷ calls) = (cost_by p t [] c).before
 
 -- The first call made its need points, and each `finish` one more. Their count stops at 2^64 - 1.
 pub record AreNeeded (p : Planner) (t : TargetState) (asks : Asks) : Type 0 where
-  pub so : capped_sum (first_cost p t asks.calls) (marks_in asks.calls) ≤ asks.needs
+  pub so : grown_counter (first_cost p t asks.calls) (marks_in asks.calls) ≤ asks.needs
 
 -- The access began when its bench had this state, and while it has no end its starting packets are paid for.
 pub record HasBegunSparing (p : Planner) (limits : Limits) (bench : BenchReported) (state : Option BenchState) (log : LogState) (sent got : List ℕ) (kept : Kept)

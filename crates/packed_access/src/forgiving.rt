@@ -237,7 +237,8 @@ impl<F: Flights> Sender<F> {
         requires ready { CanIssue most_entries (⟦<Self as Viewed>⟧.view self.old) }
         requires alone { IsMadeAlone F.planner forgive unit.now }
         ensures gives { AsksFor result (⟦<Self as Viewed>⟧.view self.old) (⟦<Self as Viewed>⟧.view self.new) (λ m0 ask. ask ≡ unit_ask unit.now forgive) SenderHasBegun }
-        ensures small { (m0 : BenchState) (calls : List Ask) (ask : Ask) → ask ≡ unit_ask unit.now forgive → SenderHasAsked (⟦<Self as Viewed>⟧.view self.old) calls ask m0
+        ensures small { (m0 : BenchState) (calls : List Ask) (ask : Ask) → ask ≡ unit_ask unit.now forgive
+            → SenderHasAsked (⟦<Self as Viewed>⟧.view self.old) calls ask m0
             → IfOk result (λ small. small ≡ small_now (start_world (target_of m0.probe) None) calls ask) }
         ensures step { SenderSteps result (⟦<Self as Viewed>⟧.view self.old) (⟦<Self as Viewed>⟧.view self.new) }
         ensures asks { AsksWhole result (⟦<Self as Viewed>⟧.view self.old) (⟦<Self as Viewed>⟧.view self.new) }

@@ -194,7 +194,8 @@ impl<F: Flights> Sender<F> {
             → SenderIsSparing (⟦<Self as Viewed>⟧.view self.old) (points + 1) m0
             → OnOk result (SenderIsSparing (⟦<Self as Viewed>⟧.view self.new) (points + command_cost call) m0) }
         ensures broke { (m0 : BenchState) (calls : List Ask) → self.old.log.calls ≡ calls ++ probe_ask call ∷ []
-            → IsToIssueNext (⟦<Self as Viewed>⟧.view self.old) (entry_of_call calls (Commands call) ∷ []) m0 → IfErr result (IsAtEnd (⟦<Self as Viewed>⟧.view self.new) m0) }
+            → IsToIssueNext (⟦<Self as Viewed>⟧.view self.old) (entry_of_call calls (Commands call) ∷ []) m0
+            → IfErr result (IsAtEnd (⟦<Self as Viewed>⟧.view self.new) m0) }
         ensures stops { (m0 : BenchState) (calls : List Ask) (answered : Option ℕ) → self.old.log.calls ≡ calls ++ probe_ask call ∷ []
             → IsToIssueNext (⟦<Self as Viewed>⟧.view self.old) (entry_of_call calls (Commands call) ∷ []) m0
             → IsLeft (access_view (⟦<Self as Viewed>⟧.view self.new)) answered → IfErr result (StopsAfterLines m0 answered self.old.log.calls self.new.log.lines) }

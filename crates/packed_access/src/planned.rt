@@ -6,7 +6,6 @@ ghost use Rattle.target_machine.specs.Sound.{IsSound};
 ghost use Rattle.probe_core.specs.Bench.{BenchState};
 ghost use Rattle.target_calls.specs.Journal.{Entry};
 ghost use Rattle.target_calls.specs.declared.journal.Part.TheVariants.{Ends, Leads};
-ghost use Rattle.target_calls.specs.NeedPoints.{capped_sum};
 ghost use Rattle.target_machine.specs.Counts.{one_if};
 ghost use Rattle.access_regs.specs.Journal.{by_csw, gives, port_of};
 ghost use Rattle.access_regs.specs.Plan.{cfg_plan, first_plan, last_access, leads, kept_after_csw, learned_cfg, kept_after_plan, needs_cfg, needs_csw};
@@ -18,6 +17,7 @@ ghost use Rattle.target_machine.specs.declared.unit.Unit.TheVariants as unit;
 ghost use Rattle.packed_access.specs.Gives.{AsksFor, Issues, Plans, Reads};
 ghost use Rattle.packed_access.specs.Frame.{AsksWhole, CanIssue, Further, IsSoundAccess, IssuesFew, SenderSteps};
 ghost use Rattle.packed_access.specs.Views.{IsPaid, IsToIssue, SenderHasBegun};
+ghost use Rattle.target_machine.specs.Lines.{grown_counter};
 
 use crate::issuing::list_accesses;
 use crate::seen::Viewed;
@@ -58,7 +58,7 @@ impl<F: Flights> Sender<F> {
         ensures empty { OnOk result (F.accesses self.new.flights ≡ []) }
         ensures places { OnOk result (self.new.log.places ≡ self.old.log.places) }
         ensures asks { OnOk result (asks_of self.new.log
-            ≡ record { calls = self.old.log.calls; needs = capped_sum self.old.log.needs 1; fence = length self.old.log.calls - 1 }) }
+            ≡ record { calls = self.old.log.calls; needs = grown_counter self.old.log.needs 1; fence = length self.old.log.calls - 1 }) }
         ensures fenced { OnOk result (self.new.log.fence ≤ self.new.log.known) }
     {
         let plan = self.managed.cfg_plan(unit);
@@ -84,7 +84,7 @@ impl<F: Flights> Sender<F> {
         ensures empty { OnOk result (F.accesses self.new.flights ≡ []) }
         ensures places { OnOk result (self.new.log.places ≡ self.old.log.places) }
         ensures asks { OnOk result (asks_of self.new.log
-            ≡ record { calls = self.old.log.calls; needs = capped_sum self.old.log.needs 1; fence = length self.old.log.calls - 1 }) }
+            ≡ record { calls = self.old.log.calls; needs = grown_counter self.old.log.needs 1; fence = length self.old.log.calls - 1 }) }
         ensures fenced { OnOk result (self.new.log.fence ≤ self.new.log.known) }
     {
         let plan = self.managed.first_plan(unit);

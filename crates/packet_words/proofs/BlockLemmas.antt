@@ -5,7 +5,8 @@ use Rattle.packet_words.specs.declared.fate.Fate.{Fate}
 use Rattle.register_words.specs.declared.known.KnownRegisters.{KnownRegisters}
 use Rattle.register_words.specs.declared.access.RegisterAccess.{RegisterAccess}
 use Rattle.packet_words.specs.Accesses.{request_access, requests_accesses}
-use Rattle.packet_words.specs.Requests.{RequestsLeft, after_request, after_requests, block_requests, fate_of, left_after_request, request_line, request_lines}
+use Rattle.packet_words.specs.Requests.{RequestsLeft, after_request, after_requests, fate_of, left_after_request, request_line, request_lines}
+use Rattle.dap_messages.specs.Requests.{block_requests}
 
 -- the item at a place, and those after it
 pub drop_at : (xs : List ℕ) (i x : ℕ) → slice_get xs i ≡ Some x → drop i xs ≡ x ∷ drop (i + 1) xs

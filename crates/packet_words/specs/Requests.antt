@@ -162,10 +162,6 @@ request_line known r fate = line_of_request (kind r) known r fate
 
 -- ---- the words of all requests
 
--- the words of a block, each as a request with this byte
-abbrev pub block_requests : ℕ → List ℕ → List Request
-block_requests byte words = map (λ word. record { byte = byte; word = word }) words
-
 -- the lines of requests, where this is left of their reply
 abbrev pub request_lines : KnownRegisters → RequestsLeft → List Request → List ℕ
 request_lines known left [] = []

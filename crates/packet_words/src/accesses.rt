@@ -2,10 +2,10 @@
 ghost use Rattle.std.specs.Prelude.{◌≡◌, ◌++◌, ◌<◌, ◌^◌, IfOk, OnOk, length};
 ghost use Rattle.std.specs.Option.{option_copied};
 ghost use Rattle.dap_messages.specs.Commands.{IsCommand, requests_of};
-ghost use Rattle.dap_messages.specs.Requests.{kind};
+ghost use Rattle.dap_messages.specs.Requests.{kind, block_requests};
 ghost use Rattle.dap_messages.specs.PacketReading.{packet_read};
 ghost use Rattle.register_words.specs.Registers.{register_of};
-ghost use Rattle.packet_words.specs.Requests.{after_requests, block_requests};
+ghost use Rattle.packet_words.specs.Requests.{after_requests};
 ghost use Rattle.packet_words.specs.Commands.{after_command};
 ghost use Rattle.packet_words.specs.Accesses.{one_access, done_accesses, access_by_fate, request_access, requests_accesses, own_access};
 ghost use Rattle.packet_words.specs.Accesses.{command_accesses, answered_accesses, all_accesses, packet_accesses, exchange_accesses};

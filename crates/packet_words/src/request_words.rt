@@ -2,8 +2,9 @@
 ghost use Rattle.std.specs.Prelude.{◌≡◌, ◌++◌, ◌<◌, ◌^◌, IfOk, OnOk, codes, length, option_map};
 ghost use Rattle.text_lines.specs.Hex.{hex2};
 ghost use Rattle.packet_words.specs.Requests.{mark, subject, read_part, value_part, address_words, banked_address, csw_note, port_note};
-ghost use Rattle.packet_words.specs.Requests.{note, match_note, done_note, request_note, line_of_request, request_line, block_requests};
+ghost use Rattle.packet_words.specs.Requests.{note, match_note, done_note, request_note, line_of_request, request_line};
 ghost use Rattle.packet_words.specs.Requests.{request_lines, after_requests};
+ghost use Rattle.dap_messages.specs.Requests.{block_requests};
 
 use crate::fate::{Fate, Left, follow};
 use dap_base::OutOfMemory;

@@ -1,6 +1,8 @@
 //! The bits of registers, the pins and the line sequences by name.
 ghost use Rattle.std.specs.Prelude.{◌≡◌, ◌++◌, IfOk};
-ghost use Rattle.register_words.specs.Flags.{flag_word, power_flags, reset_flags, sticky_flags, ctrl_stat_flags, clear_flags, abort_flags, size_name, increment_name, csw_flags, csw_words, dp_bank_words, select_words, reset_pins, line_pins, pin_names, switch_name, reset_name, line_name};
+ghost use Rattle.register_words.specs.Flags.{flag_word, power_flags, reset_flags, sticky_flags, ctrl_stat_flags, clear_flags, abort_flags, size_name};
+ghost use Rattle.register_words.specs.Flags.{increment_name, csw_flags, csw_words, dp_bank_words, select_words, reset_pins, line_pins, pin_names};
+ghost use Rattle.register_words.specs.Flags.{switch_name, reset_name, line_name};
 
 use dap_base::OutOfMemory;
 use target_machine::registers::{APBANKSEL, CSW_ADDRINC, CSW_SIZE, DPBANKSEL};

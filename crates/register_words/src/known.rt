@@ -1,7 +1,9 @@
 //! What is known of SELECT, and of CSW and TAR of each access port.
 ghost use Rattle.std.specs.Prelude.{◌≡◌, ◌⊎◌, Option, bit_and};
 ghost use Rattle.target_machine.specs.Registers.{csw_size};
-ghost use Rattle.register_words.specs.Known.{unknown_port, nothing_known, unknown_ports, port_at, known_with_port, tar_after, bytes_of, moved_by, stepped_tar, known_next_tar, accessed_port, kept_tar, port_written, port_read, port_matched, after_abort, after_write, after_read, after_match};
+ghost use Rattle.register_words.specs.Known.{unknown_port, nothing_known, unknown_ports, port_at, known_with_port, tar_after, bytes_of, moved_by};
+ghost use Rattle.register_words.specs.Known.{stepped_tar, known_next_tar, accessed_port, kept_tar, port_written, port_read, port_matched};
+ghost use Rattle.register_words.specs.Known.{after_abort, after_write, after_read, after_match};
 
 use crate::register::Register;
 use target_machine::registers::{ADDRINC_SINGLE, CSW, CSW_ADDRINC, CSW_SIZE, DRW, TAR};

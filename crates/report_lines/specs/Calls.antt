@@ -1,15 +1,11 @@
 -- What a call asks, as a report shows it.
 use Rattle.std.specs.Prelude.{ℕ, ◌*◌, ◌^◌, nat_le, Bool, List, ◌++◌, codes, decimal, if◌then◌else◌}
-use Rattle.text_lines.specs.Hex.{hex, hex2, hex8, hex16}
+use Rattle.text_lines.specs.Hex.{hex, hex2, hex8, hex16, hex_address}
 use Rattle.target_machine.specs.declared.unit.Call.{Call}
 use Rattle.target_machine.specs.declared.unit.Call.TheVariants as calls
 use Rattle.target_machine.specs.declared.unit.Unit.{Unit as AccessUnit}
 use Rattle.target_machine.specs.declared.unit.Unit.TheVariants as units
 use Rattle.report_lines.specs.Words.{direction_word}
-
--- an address: eight digits, and sixteen from 2^32 on
-abbrev pub hex_address : ℕ → List ℕ
-hex_address address = if nat_le (2 ^ 32) address then hex16 address else hex8 address
 
 -- the number of an access port
 abbrev pub port_part : ℕ → List ℕ

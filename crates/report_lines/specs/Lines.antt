@@ -1,11 +1,10 @@
 -- The lines of a report from the number of units on. Each ends with a line feed.
 use Rattle.std.specs.Prelude.{ℕ, List, [], ◌++◌, codes, decimal, Option, Some, None}
-use Rattle.text_lines.specs.Hex.{hex, hex2, hex8, hex16}
+use Rattle.text_lines.specs.Hex.{hex, hex2, hex8, hex16, hex_address}
 use Rattle.target_machine.specs.declared.image.ApImage.{ApImage}
 use Rattle.target_machine.specs.declared.image.DpImage.{DpImage}
 use Rattle.target_machine.specs.declared.image.LinesImage.{LinesImage}
 use Rattle.target_machine.specs.declared.image.WordImage.{WordImage}
-use Rattle.report_lines.specs.Calls.{hex_address}
 use Rattle.report_lines.specs.Words.{bit_word}
 
 -- how many units were asked

@@ -1,7 +1,7 @@
 //! What a call asks, as a report shows it.
 ghost use Rattle.std.specs.Prelude.{◌≡◌, ◌++◌, codes, IfOk};
-ghost use Rattle.text_lines.specs.Hex.{hex, hex2};
-ghost use Rattle.report_lines.specs.Calls.{call_words, hex_address, memory_words, port_part, unit_words};
+ghost use Rattle.text_lines.specs.Hex.{hex, hex2, hex_address};
+ghost use Rattle.report_lines.specs.Calls.{call_words, memory_words, port_part, unit_words};
 ghost use Rattle.report_lines.specs.Words.{direction_word};
 
 use crate::words::direction_text;
@@ -9,16 +9,6 @@ use dap_base::OutOfMemory;
 use std::alloc::Global;
 use target_machine::{Call, Unit};
 use text_lines::Line;
-
-/// An address: eight digits, and sixteen from 2^32 on.
-pub fn with_address(line: Line, address: u64) -> Result<Line, OutOfMemory>
-    ensures { IfOk result (λ l. l ≡ line ++ hex_address address) }
-{
-    match u32::try_from(address) {
-        Ok(low) => line.hex8(low),
-        Err(_) => line.hex16(address),
-    }
-}
 
 // The number of an access port.
 fn with_port(line: Line, ap: u8) -> Result<Line, OutOfMemory>
@@ -39,7 +29,7 @@ fn with_memory(
 {
     let line = line.text(direction_text(is_read))?;
     let line = line.decimal(8 * u64::from(size))?.text(" ")?;
-    with_port(with_address(line, address)?, ap)
+    with_port(line.add_address(address)?, ap)
 }
 
 // An access to a register of an access port.

@@ -3,7 +3,6 @@ ghost use Rattle.std.specs.Prelude.{◌≡◌, ◌++◌, IfOk, codes, decimal};
 ghost use Rattle.text_lines.specs.Hex.{hex2, hex8, hex16};
 ghost use Rattle.report_lines.specs.Lines.{ap_line, dp_line, high_part, lines_line, place_part, units_line, variable_line, word_line};
 
-use crate::calls::with_address;
 use crate::words::bit_text;
 use dap_base::OutOfMemory;
 use std::alloc::Global;
@@ -102,7 +101,7 @@ fn with_place(line: Line, place: Option<u32>) -> Result<Line, OutOfMemory>
 pub fn word_text(alloc: Global, address: u64, image: &WordImage) -> Result<Line, OutOfMemory>
     ensures { IfOk result (λ line. line ≡ word_line address image.now) }
 {
-    let line = with_address(Line::begin(alloc, "mem ")?, address)?;
+    let line = Line::begin(alloc, "mem ")?.add_address(address)?;
     let line = line.text(" ")?.hex8(image.value)?;
     with_place(line, image.place)?.text("\n")
 }

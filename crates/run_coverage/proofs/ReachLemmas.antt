@@ -1,7 +1,7 @@
 -- Sequences that are reached, one call deeper after another.
 use Rattle.std.proofs.Common.{◌≡◌, ◌∙◌, ap, ℕ, suc, ◌+◌, List, [], arith}
 use Rattle.sequence_trees.specs.Trees.{SetTrees}
-use Rattle.code_check.specs.Names.{with_name}
+use Rattle.expr_grammar.specs.Names.{with_name}
 use Rattle.run_coverage.specs.Reach.{one_deeper, reached_sequences}
 
 pub first_reached : (set : SetTrees) (names none : List (List ℕ)) (start : List ℕ) → none ≡ [] → names ≡ with_name none start → names ≡ reached_sequences set 0 start

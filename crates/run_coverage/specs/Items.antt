@@ -1,10 +1,9 @@
 -- What a run can cover: that a statement runs, that an `if` is taken or skipped, that a `while` is left or times out.
 use Rattle.std.specs.Prelude.{ℕ, suc, true, false, List, [], ◌∷◌, ◌++◌, codes, nat_eq, Option, Some, None, if◌then◌else◌}
 use Rattle.expr_grammar.specs.Tree.{Tree, StmtTree, Empty, Declare, Plain}
-use Rattle.sequence_trees.specs.Trees.{CodeStep, Block, Control, CodeSteps, NoSteps, MoreSteps, SetTrees}
+use Rattle.sequence_trees.specs.Trees.{CodeStep, Block, Control, CodeSteps, NoSteps, MoreSteps, SetTrees, steps_in}
 use Rattle.sequence_trees.specs.declared.spot.Part.TheVariants as parts
 use Rattle.sequence_trees.specs.declared.spot.Spot.{Spot}
-use Rattle.run_events.specs.OfRuns.{steps_in}
 use Rattle.log_lines.specs.Places.{spot_words, spot_in_step, condition_spot}
 use Rattle.run_coverage.specs.declared.items.Item.{Item}
 

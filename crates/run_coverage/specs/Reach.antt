@@ -1,14 +1,13 @@
 -- The sequences that a sequence can reach by calls.
-use Rattle.std.specs.Prelude.{ℕ, zero, suc, List, [], ◌∷◌, ◌++◌, fold, codes, Option, Some, None, if◌then◌else◌}
+use Rattle.std.specs.Prelude.{ℕ, zero, suc, List, [], ◌∷◌, ◌++◌, codes, Option, Some, None, if◌then◌else◌}
 use Rattle.std.specs.List.{flat_map}
 use Rattle.std.specs.Str.{bytes_eq}
 use Rattle.expr_grammar.specs.declared.code.Name.{Name}
 use Rattle.expr_grammar.specs.Tree.{Tree, Number, Named, Group, Unary, Binary, Cond, Assign, Call, ArgTree, ExprArg}
 use Rattle.expr_grammar.specs.Tree.{TextArg, ArgTrees, NoArgs, MoreArgs, StmtTree, Empty, Declare, Plain}
-use Rattle.sequence_trees.specs.Trees.{CodeStep, Block, Control, CodeSteps, NoSteps, MoreSteps, SetTrees}
-use Rattle.code_check.specs.Names.{with_name}
+use Rattle.sequence_trees.specs.Trees.{CodeStep, Block, Control, CodeSteps, NoSteps, MoreSteps, SetTrees, steps_in}
+use Rattle.expr_grammar.specs.Names.{with_names}
 use Rattle.sequence_rules.specs.Values.{text_of}
-use Rattle.run_events.specs.OfRuns.{steps_in}
 
 -- the sequence that a call itself names
 abbrev pub own_name : Name → ArgTrees → List (List ℕ)
@@ -66,13 +65,9 @@ abbrev mutual
 abbrev pub sequence_names : SetTrees → List ℕ → List (List ℕ)
 sequence_names set name = steps_names (steps_in set name)
 
--- the names with more, each of which goes last unless it is there
-abbrev pub names_with_more : List (List ℕ) → List (List ℕ) → List (List ℕ)
-names_with_more names more = fold with_name names more
-
 -- the sequences, and those that they call
 abbrev pub one_deeper : SetTrees → List (List ℕ) → List (List ℕ)
-one_deeper set names = names_with_more names (flat_map (sequence_names set) names)
+one_deeper set names = with_names names (flat_map (sequence_names set) names)
 
 -- the sequences that so many calls, one in the other, lead to; itself first, then in the order of the first call
 unfoldable pub reached_sequences : SetTrees → ℕ → List ℕ → List (List ℕ)

@@ -2,7 +2,8 @@
 ghost use Rattle.std.specs.Prelude.{◌≡◌, ◌++◌, IfOk, OnOk, map, string_bytes};
 ghost use Rattle.std.specs.List.{flat_map};
 ghost use Rattle.seq_check.specs.Answers.{checked_trees};
-ghost use Rattle.run_coverage.specs.Reach.{names_with_more, one_deeper, reached_names, sequence_names};
+ghost use Rattle.run_coverage.specs.Reach.{one_deeper, reached_names, sequence_names};
+ghost use Rattle.expr_grammar.specs.Names.{with_names};
 
 use crate::calls::push_names;
 use code_check::Names;
@@ -39,7 +40,7 @@ fn called_by(alloc: Global, checked: &Checked, names: &[String]) -> Result<Words
 
 // Adds names, one after the other.
 fn add_names(alloc: Global, names: &mut Names, more: &[NameText]) -> Result<(), OutOfMemory>
-    ensures { OnOk result (names.new ≡ names_with_more names.old more.now) }
+    ensures { OnOk result (names.new ≡ with_names names.old more.now) }
 {
     for name in more {
         names.add(alloc, name.as_str())?;

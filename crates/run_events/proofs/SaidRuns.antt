@@ -3,7 +3,7 @@ use Rattle.std.proofs.Common.{◌≡◌, ◌∙◌, ℕ, zero, suc, false, List,
 use Rattle.expr_grammar.specs.Tree as t
 use Rattle.expr_grammar.specs.Tree.{StmtTree}
 use Rattle.sequence_trees.specs.Trees as c
-use Rattle.sequence_trees.specs.Trees.{CodeSteps, SetTrees, steps_named}
+use Rattle.sequence_trees.specs.Trees.{CodeSteps, SetTrees, steps_named, steps_in}
 use Rattle.sequence_trees.specs.declared.spot.Part.TheVariants as part
 use Rattle.sequence_rules.specs.Calls.{missing}
 use Rattle.sequence_rules.specs.Direct.{Now, now_at, direct}
@@ -14,12 +14,12 @@ use Rattle.sequence_rules.specs.Values.{value, stored_value}
 use Rattle.sequence_rules.proofs.OutcomeLemmas.{over_calls, over_written}
 use Rattle.run_events.specs.Events.{Begins, Assigns, units_from}
 use Rattle.run_events.specs.Laws.{EventsAreTheRun}
-use Rattle.run_events.specs.OfRuns.{at_debugvars, at_sequence, steps_in, sequence_events, debugged_events, run_events, each_turn}
-use Rattle.run_events.specs.OfSteps.{step_spot}
+use Rattle.run_events.specs.OfRuns.{at_debugvars, at_sequence, sequence_events, debugged_events, run_events, each_turn}
 use Rattle.run_events.proofs.Leaves.{given_is}
 use Rattle.run_events.proofs.Said.{Tells, said_none, also, tells_bind, tells_next, tells_map}
 use Rattle.run_events.proofs.SaidSteps.{tells_steps}
 use Rattle.run_events.proofs.SaidValues.{tells_value, tells_stored}
+use Rattle.sequence_trees.specs.Order.{spot_at}
 
 module _ (turn_us : ℕ) (set : SetTrees) where
   tells_sequence : (d : ℕ) (name : List ℕ) (s : State ℕ Now) → Tells s (sequence_at (direct false) turn_us set d name s) (sequence_events each_turn turn_us set d name s)
@@ -33,7 +33,7 @@ module _ (turn_us : ℕ) (set : SetTrees) where
   unfolding debug_result debugged_events
   tells_debugged [] s = said_none s.rest
   tells_debugged (t.Empty at ∷ code) s = tells_debugged code s
-  tells_debugged (t.Declare name e ∷ code) s = also s.rest _ (Begins (step_spot at_debugvars part.Debugvars name.at) (t.Declare name e)) _ refl refl
+  tells_debugged (t.Declare name e ∷ code) s = also s.rest _ (Begins (spot_at at_debugvars part.Debugvars name.at) (t.Declare name e)) _ refl refl
       (tells_bind s (value (direct false) (λ n q. sequence_at (direct false) turn_us set 0 n q) e s) _ _ _
       (tells_value (λ n q. sequence_at (direct false) turn_us set 0 n q) (λ n q. sequence_events each_turn turn_us set 0 n q) (λ n q. tells_sequence 0 n q) e s)
       (λ x. also x.1.rest _ (Assigns name.text x.0) _ refl refl

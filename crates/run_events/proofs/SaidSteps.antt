@@ -4,7 +4,7 @@ use Rattle.dap_base.specs.Outcome.{◌>>=◌}
 use Rattle.expr_grammar.specs.declared.code.Name.{Name}
 use Rattle.expr_grammar.specs.Tree as t
 use Rattle.expr_grammar.specs.Tree.{Tree, StmtTree}
-use Rattle.sequence_trees.specs.Order.{SetStep}
+use Rattle.sequence_trees.specs.Order.{SetStep, spot_at}
 use Rattle.sequence_trees.specs.Trees as c
 use Rattle.sequence_trees.specs.Trees.{CodeStep, CodeSteps}
 use Rattle.sequence_trees.specs.declared.spot.Part.TheVariants as part
@@ -16,7 +16,7 @@ use Rattle.sequence_rules.specs.Steps.{timeout_of, counted_step, declared_variab
 use Rattle.sequence_rules.specs.Values.{used_now, value}
 use Rattle.run_events.specs.Events.{Event, Begins, Tests, Chooses, Loops, Turns, Finds, Leaves, TimesOut, Assigns, events_after}
 use Rattle.run_events.specs.OfRuns.{each_turn}
-use Rattle.run_events.specs.OfSteps.{text_start, step_spot, inner_step, tested_events, turn_events, turns_events, done_events, statement_events, block_events, condition_events, loop_events, repeat_events, controlled_events, step_events, steps_events}
+use Rattle.run_events.specs.OfSteps.{text_start, inner_step, tested_events, turn_events, turns_events, done_events, statement_events, block_events, condition_events, loop_events, repeat_events, controlled_events, step_events, steps_events}
 use Rattle.run_events.specs.OfValues.{value_events}
 use Rattle.run_events.proofs.Leaves.{tells_counted, tells_poll, given_is}
 use Rattle.run_events.proofs.Said.{Tells, said_none, said_one, also, tells_bind, tells_next, tells_map, tells_end, tells_if}
@@ -72,10 +72,10 @@ module _ (spot : Spot) (test : State ℕ Now → Out ℕ Now ℕ) (test_seen : S
 module _ (turn_us : ℕ) (seq : List ℕ → State ℕ Now → Out ℕ Now (Unit {0})) (seen : List ℕ → State ℕ Now → List Event) (h : (name : List ℕ) (s : State ℕ Now) → Tells s (seq name s) (seen name s)) where
   tells_statement : (at : SetStep) (st : StmtTree) (s : State ℕ Now) → Tells s (statement (direct false) turn_us seq st s) (statement_events each_turn turn_us seq seen at st s)
   unfolding statement statement_events done_events
-  tells_statement at (t.Empty place) s = also s.rest _ (Begins (step_spot at part.Block place) (t.Empty place)) _ refl refl (tells_end s (counted_step (direct false) s) [] _ (tells_counted s) (λ x. said_none x.1.rest))
-  tells_statement at (t.Declare name e) s = also s.rest _ (Begins (step_spot at part.Block name.at) (t.Declare name e)) _ refl refl
+  tells_statement at (t.Empty place) s = also s.rest _ (Begins (spot_at at part.Block place) (t.Empty place)) _ refl refl (tells_end s (counted_step (direct false) s) [] _ (tells_counted s) (λ x. said_none x.1.rest))
+  tells_statement at (t.Declare name e) s = also s.rest _ (Begins (spot_at at part.Block name.at) (t.Declare name e)) _ refl refl
       (tells_after_counted s _ (λ r. value_events seq seen e r ++ events_after (value (direct false) seq e r) (λ n q. Assigns name.text n ∷ [])) (λ r. tells_declared name r _ _ (tells_value seq seen h e r)))
-  tells_statement at (t.Plain place e) s = also s.rest _ (Begins (step_spot at part.Block place) (t.Plain place e)) _ refl refl
+  tells_statement at (t.Plain place e) s = also s.rest _ (Begins (spot_at at part.Block place) (t.Plain place e)) _ refl refl
       (tells_after_counted s _ (λ r. value_events seq seen e r) (λ r. tells_dropped r _ _ (tells_value seq seen h e r)))
 
   tells_block : (at : SetStep) (code : List StmtTree) (s : State ℕ Now) → Tells s (block (direct false) turn_us seq code s) (block_events each_turn turn_us seq seen at code s)
@@ -86,9 +86,9 @@ module _ (turn_us : ℕ) (seq : List ℕ → State ℕ Now → Out ℕ Now (Unit
   tells_condition : (at : SetStep) (o : Option Tree) (s : State ℕ Now) → Tells s (condition (direct false) turn_us seq o s) (condition_events each_turn turn_us seq seen at o s)
   unfolding condition condition_events
   tells_condition at None s = said_none s.rest
-  tells_condition at (Some e) s = also s.rest _ (Tests (step_spot at part.If text_start) e) _ refl refl
+  tells_condition at (Some e) s = also s.rest _ (Tests (spot_at at part.If text_start) e) _ refl refl
       (rw (used_is (value (direct false) seq e s)) (tells_map s (value (direct false) seq e s) _ _
-      (tells_end s (value (direct false) seq e s) _ _ (tells_value seq seen h e s) (λ x. said_one x.1.rest (Chooses (step_spot at part.If text_start) x.0) refl refl)) (λ x. refl)))
+      (tells_end s (value (direct false) seq e s) _ _ (tells_value seq seen h e s) (λ x. said_one x.1.rest (Chooses (spot_at at part.If text_start) x.0) refl refl)) (λ x. refl)))
 
   module _ (at : SetStep) (body : State ℕ Now → Out ℕ Now (Unit {0})) (body_seen : State ℕ Now → List Event) (hb : (r : State ℕ Now) → Tells r (body r) (body_seen r)) where
     -- the body, after which its declarations are not visible
@@ -103,8 +103,8 @@ module _ (turn_us : ℕ) (seq : List ℕ → State ℕ Now → Out ℕ Now (Unit
     tells_repeated : (o : Option Tree) (timeout : Option ℕ) (steps : CodeSteps) (s : State ℕ Now) → Tells s (repeat_result (direct false) turn_us seq o timeout steps body s) (repeat_events each_turn turn_us seq seen at o timeout steps within body_seen s)
     unfolding repeat_result repeat_events
     tells_repeated None timeout steps s = tells_inside s body (body_seen s) (hb s)
-    tells_repeated (Some e) timeout steps s = also s.rest _ (Loops (step_spot at part.While text_start) e _) _ refl refl
-        (rw (given_is 0 (timeout_of timeout) s) (tells_loop (step_spot at part.While text_start) (poll_of e steps) e _ s))
+    tells_repeated (Some e) timeout steps s = also s.rest _ (Loops (spot_at at part.While text_start) e _) _ refl refl
+        (rw (given_is 0 (timeout_of timeout) s) (tells_loop (spot_at at part.While text_start) (poll_of e steps) e _ s))
 
     tells_controlled : (cond_tree o : Option Tree) (timeout : Option ℕ) (steps : CodeSteps) (s : State ℕ Now)
         → Tells s (control_result (direct false) turn_us seq cond_tree o timeout steps body s) (controlled_events each_turn turn_us seq seen at cond_tree o timeout steps within body_seen s)

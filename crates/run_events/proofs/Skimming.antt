@@ -5,9 +5,9 @@ use Rattle.expr_grammar.specs.Tree.{Tree, ArgTree, ArgTrees, StmtTree}
 use Rattle.function_table.specs.declared.function.Function.{Function}
 use Rattle.function_table.specs.declared.function.Function.TheVariants as f
 use Rattle.function_table.specs.Lookup.{function_named}
-use Rattle.sequence_trees.specs.Order.{SetStep}
+use Rattle.sequence_trees.specs.Order.{SetStep, spot_at}
 use Rattle.sequence_trees.specs.Trees as c
-use Rattle.sequence_trees.specs.Trees.{CodeStep, CodeSteps, SetTrees}
+use Rattle.sequence_trees.specs.Trees.{CodeStep, CodeSteps, SetTrees, steps_in}
 use Rattle.sequence_trees.specs.declared.spot.Part.TheVariants as part
 use Rattle.sequence_trees.specs.declared.spot.Spot.{Spot}
 use Rattle.sequence_rules.specs.Direct.{Now, direct, now_at}
@@ -18,8 +18,8 @@ use Rattle.sequence_rules.specs.Steps.{counted_step, turn, statement, condition,
 use Rattle.sequence_rules.specs.Values.{text_of, argument, arguments, value, stored_value}
 use Rattle.run_events.specs.Events.{Event, Calls, Returns, events_after}
 use Rattle.run_events.specs.Laws.{IsPartOfEvents, ShownAreSeen}
-use Rattle.run_events.specs.OfRuns.{at_sequence, steps_in, sequence_events, debugged_events, run_events, each_turn}
-use Rattle.run_events.specs.OfSteps.{text_start, step_spot, inner_step, is_last_turn, tested_events, turn_events, turns_events, done_events, statement_events, block_events, condition_events, loop_events, repeat_events, controlled_events, step_events, steps_events}
+use Rattle.run_events.specs.OfRuns.{at_sequence, sequence_events, debugged_events, run_events, each_turn}
+use Rattle.run_events.specs.OfSteps.{text_start, inner_step, is_last_turn, tested_events, turn_events, turns_events, done_events, statement_events, block_events, condition_events, loop_events, repeat_events, controlled_events, step_events, steps_events}
 use Rattle.run_events.specs.OfValues.{needs_right, called_events, call_events, value_events, argument_events, arguments_events}
 
 -- ---- lists
@@ -152,7 +152,7 @@ module _ (shows : ℕ → Bool) (turn_us : ℕ) (seq : List ℕ → State ℕ No
     part_repeat : (o : Option Tree) (timeout : Option ℕ) (steps : CodeSteps) (s : State ℕ Now) → Skims (repeat_events shows turn_us seq shown at o timeout steps body body_shown s) (repeat_events each_turn turn_us seq seen at o timeout steps body body_seen s)
     unfolding repeat_events
     part_repeat None timeout steps s = hb s
-    part_repeat (Some e) timeout steps s = part_first _ _ _ (part_loop (step_spot at part.While text_start) (poll_of e steps) e _ s)
+    part_repeat (Some e) timeout steps s = part_first _ _ _ (part_loop (spot_at at part.While text_start) (poll_of e steps) e _ s)
 
     part_controlled : (cond_tree o : Option Tree) (timeout : Option ℕ) (steps : CodeSteps) (s : State ℕ Now) → Skims (controlled_events shows turn_us seq shown at cond_tree o timeout steps body body_shown s) (controlled_events each_turn turn_us seq seen at cond_tree o timeout steps body body_seen s)
     unfolding controlled_events

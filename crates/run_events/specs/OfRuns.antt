@@ -2,9 +2,9 @@
 use Rattle.std.specs.Prelude.{ℕ, zero, suc, Bool, true, false, List, [], ◌∷◌, ◌++◌, Option, Some, None, unwrap_or, nat_le}
 use Rattle.expr_grammar.specs.Tree as t
 use Rattle.expr_grammar.specs.Tree.{StmtTree}
-use Rattle.sequence_trees.specs.Order.{SetStep}
+use Rattle.sequence_trees.specs.Order.{SetStep, spot_at}
 use Rattle.sequence_trees.specs.Trees as c
-use Rattle.sequence_trees.specs.Trees.{CodeSteps, SetTrees, steps_named}
+use Rattle.sequence_trees.specs.Trees.{CodeSteps, SetTrees, steps_named, steps_in}
 use Rattle.sequence_trees.specs.declared.spot.Part.TheVariants as part
 use Rattle.target_calls.specs.World.{World, start_world}
 use Rattle.target_machine.specs.State.{TargetState}
@@ -14,7 +14,7 @@ use Rattle.sequence_rules.specs.Runs.{Program, as_values}
 use Rattle.sequence_rules.specs.Steps.{sequence_at, debug_result, start_state}
 use Rattle.sequence_rules.specs.Values.{value, stored_value}
 use Rattle.run_events.specs.Events.{Event, Begins, Assigns, events_after}
-use Rattle.run_events.specs.OfSteps.{step_spot, steps_events}
+use Rattle.run_events.specs.OfSteps.{steps_events}
 use Rattle.run_events.specs.OfValues.{value_events}
 
 -- the place of the debug variables
@@ -24,10 +24,6 @@ at_debugvars = record { sequence = None; path = [] }
 -- the place of the steps of a sequence
 abbrev pub at_sequence : List ℕ → SetStep
 at_sequence name = record { sequence = Some name; path = [] }
-
--- the steps of a sequence, none where the set does not have it
-abbrev pub steps_in : SetTrees → List ℕ → CodeSteps
-steps_in set name = unwrap_or (steps_named name set.sequences) c.NoSteps
 
 -- Which turns of a loop are seen besides its last one, by their numbers.
 module _ (shows : ℕ → Bool) (turn_us : ℕ) (set : SetTrees) where
@@ -43,7 +39,7 @@ module _ (shows : ℕ → Bool) (turn_us : ℕ) (set : SetTrees) where
   debugged_events [] s = []
   debugged_events (t.Empty at ∷ code) s = debugged_events code s
   debugged_events (t.Declare name e ∷ code) s =
-      Begins (step_spot at_debugvars part.Debugvars name.at) (t.Declare name e)
+      Begins (spot_at at_debugvars part.Debugvars name.at) (t.Declare name e)
       ∷ value_events (λ n q. sequence_at (direct false) turn_us set 0 n q) (λ n q. sequence_events 0 n q) e s
       ++ events_after (value (direct false) (λ n q. sequence_at (direct false) turn_us set 0 n q) e s)
       (λ n r. Assigns name.text n ∷ events_after (stored_value (direct false) name n r) (λ done q. debugged_events code q))

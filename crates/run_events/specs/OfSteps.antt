@@ -3,7 +3,7 @@ use Rattle.std.specs.Prelude.{ℕ, zero, suc, Bool, true, false, not, ◌||◌, 
 use Rattle.dap_base.specs.declared.text.Place.{Place}
 use Rattle.expr_grammar.specs.Tree as t
 use Rattle.expr_grammar.specs.Tree.{Tree, StmtTree}
-use Rattle.sequence_trees.specs.Order.{SetStep}
+use Rattle.sequence_trees.specs.Order.{SetStep, spot_at}
 use Rattle.sequence_trees.specs.Trees as c
 use Rattle.sequence_trees.specs.Trees.{CodeStep, CodeSteps}
 use Rattle.sequence_trees.specs.declared.spot.Part.{Part}
@@ -23,10 +23,6 @@ use Rattle.run_events.specs.OfValues.{value_events}
 -- the start of a text
 abbrev pub text_start : Place
 text_start = record { line = 1; column = 1 }
-
--- the place in a part of a step
-abbrev pub step_spot : SetStep → Part → Place → Spot
-step_spot at part place = record { sequence = at.sequence; path = at.path; part = part; place = place }
 
 -- where a statement begins: a declaration at the name
 abbrev pub statement_place : StmtTree → Place
@@ -89,7 +85,7 @@ module _ (shows : ℕ → Bool) where
 
     -- a statement
     unfoldable pub statement_events : SetStep → StmtTree → State ℕ Now → List Event
-    statement_events at st s = Begins (step_spot at part.Block (statement_place st)) st ∷ events_after (counted_step (direct false) s) (λ done r. done_events st r)
+    statement_events at st s = Begins (spot_at at part.Block (statement_place st)) st ∷ events_after (counted_step (direct false) s) (λ done r. done_events st r)
 
     -- statements in order
     unfoldable pub block_events : SetStep → List StmtTree → State ℕ Now → List Event
@@ -101,8 +97,8 @@ module _ (shows : ℕ → Bool) where
     unfoldable pub condition_events : SetStep → Option Tree → State ℕ Now → List Event
     condition_events at None s = []
     condition_events at (Some e) s =
-        Tests (step_spot at part.If text_start) e ∷ value_events sequence seen e s
-        ++ events_after (value (direct false) sequence e s) (λ n r. Chooses (step_spot at part.If text_start) n ∷ [])
+        Tests (spot_at at part.If text_start) e ∷ value_events sequence seen e s
+        ++ events_after (value (direct false) sequence e s) (λ n r. Chooses (spot_at at part.If text_start) n ∷ [])
 
     -- a poll, or turns
     unfoldable pub loop_events : Spot → Option (ℕ × ℕ) → Tree → ℕ → (State ℕ Now → Out ℕ Now (Unit {0})) → (State ℕ Now → List Event) → State ℕ Now → List Event
@@ -115,8 +111,8 @@ module _ (shows : ℕ → Bool) where
         → (State ℕ Now → Out ℕ Now (Unit {0})) → (State ℕ Now → List Event) → State ℕ Now → List Event
     repeat_events at None timeout steps body body_seen s = body_seen s
     repeat_events at (Some e) timeout steps body body_seen s =
-        Loops (step_spot at part.While text_start) e (turn_count turn_us (unwrap_or (timeout_of timeout) 0))
-        ∷ loop_events (step_spot at part.While text_start) (poll_of e steps) e (turn_count turn_us (unwrap_or (timeout_of timeout) 0)) body body_seen s
+        Loops (spot_at at part.While text_start) e (turn_count turn_us (unwrap_or (timeout_of timeout) 0))
+        ∷ loop_events (spot_at at part.While text_start) (poll_of e steps) e (turn_count turn_us (unwrap_or (timeout_of timeout) 0)) body body_seen s
 
     -- a control is skipped where its `if` is 0
     unfoldable pub controlled_events : SetStep → Option Tree → Option Tree → Option ℕ → CodeSteps

@@ -12,10 +12,12 @@ use Rattle.code_check.specs.First.{IsFirst, Nowhere, InEither, here, there, Faul
 use Rattle.code_check.specs.ExprFaults.{Scope}
 use Rattle.code_check.proofs.OrderLemmas.{is_before-irrefl}
 use Rattle.seq_check.specs.declared.faulty.PartFault.{PartFault}
-use Rattle.seq_check.specs.StepFaults.{StepFault, no_place, path_before, part_rank, control_rank, fault_before, is_step_before, At, ConditionFault, TimeoutFault, LoopFault, ControlFault, OwnFault}
+use Rattle.seq_check.specs.StepFaults.{StepFault, path_before, control_rank, fault_before, is_step_before, At, ConditionFault, TimeoutFault, LoopFault, ControlFault, OwnFault}
 use Rattle.seq_check.specs.Views.{own_view}
 use Rattle.seq_check.proofs.FirstLemmas.{first_of_none, first_or, first_mapped}
 use Rattle.dap_base.proofs.Basics.{lt_itself}
+use Rattle.expr_grammar.specs.Bare.{nowhere}
+use Rattle.sequence_trees.specs.Parts.{part_rank}
 
 -- ---- single faults of the form
 
@@ -25,13 +27,13 @@ same_rank n = grind (arith, nat_tests)
 not_before_itself : (f : CodeFault) → fault_before parts.Control f f ≡ false
 not_before_itself f = rw (lt_itself (control_rank f.kind), same_rank (control_rank f.kind)) (is_before-irrefl f)
 
-pub form_where : (Cause : Type 0) (kind : FaultKind) → Cause → IsFirst (fault_before parts.Control) (FaultWhere Cause no_place kind) (Some (record { place = no_place; kind = kind }))
+pub form_where : (Cause : Type 0) (kind : FaultKind) → Cause → IsFirst (fault_before parts.Control) (FaultWhere Cause nowhere kind) (Some (record { place = nowhere; kind = kind }))
 form_where Cause kind c = record {
   holds = record { cause = c; is = refl };
-  none_before = λ g s. subst (λ x. fault_before parts.Control x (record { place = no_place; kind = kind }) ≡ false) (sym s.is) (not_before_itself (record { place = no_place; kind = kind }));
+  none_before = λ g s. subst (λ x. fault_before parts.Control x (record { place = nowhere; kind = kind }) ≡ false) (sym s.is) (not_before_itself (record { place = nowhere; kind = kind }));
 }
 
-pub form_where_not : (Cause : Type 0) (kind : FaultKind) → (Cause → ⊥) → IsFirst (fault_before parts.Control) (FaultWhere Cause no_place kind) None
+pub form_where_not : (Cause : Type 0) (kind : FaultKind) → (Cause → ⊥) → IsFirst (fault_before parts.Control) (FaultWhere Cause nowhere kind) None
 form_where_not Cause kind c = record { holds = tt; none_before = λ g s. absurd (c s.cause) }
 
 pub form_none : IsFirst (fault_before parts.Control) Nowhere None
@@ -41,7 +43,7 @@ pub ruleset forms = (form_where, form_where_not, form_none)
 
 -- ---- the order of those of the form
 
-pub kind_of_where : (Cause : Type 0) (kind : FaultKind) (f : CodeFault) → FaultWhere Cause no_place kind f → f.kind ≡ kind
+pub kind_of_where : (Cause : Type 0) (kind : FaultKind) (f : CodeFault) → FaultWhere Cause nowhere kind f → f.kind ≡ kind
 kind_of_where Cause kind f h = ap (λ x. x.kind) h.is
 
 pub kind_of_timeout : (timeout : Option ℕ) (f : CodeFault) → TimeoutFault timeout f → f.kind ≡ k.TimeoutTooLong
@@ -60,7 +62,7 @@ kind_order f g a b p q lt eq = rw (p, q, lt, eq) refl
 timeout_order : (repeat : Option Tree) (timeout : Option ℕ) (p q : CodeFault) → TimeoutFault timeout p → LoopFault repeat timeout q → fault_before parts.Control q p ≡ false
 timeout_order repeat timeout p q h j = kind_order q p k.UnboundedLoop k.TimeoutTooLong (kind_of_loop repeat timeout q j) (kind_of_timeout timeout p h) refl refl
 
-nested_order : (around : ℕ) (repeat : Option Tree) (timeout : Option ℕ) (p q : CodeFault) → FaultWhere (32 ≤ around) no_place k.NestedTooDeep p → InEither (TimeoutFault timeout) (LoopFault repeat timeout) q → fault_before parts.Control q p ≡ false
+nested_order : (around : ℕ) (repeat : Option Tree) (timeout : Option ℕ) (p q : CodeFault) → FaultWhere (32 ≤ around) nowhere k.NestedTooDeep p → InEither (TimeoutFault timeout) (LoopFault repeat timeout) q → fault_before parts.Control q p ≡ false
 nested_order around repeat timeout p q h j =
     let nested = kind_of_where (32 ≤ around) k.NestedTooDeep p h in
     elim j [
@@ -69,7 +71,7 @@ nested_order around repeat timeout p q h j =
     ]
 
 pub control_first : (around : ℕ) (repeat : Option Tree) (timeout : Option ℕ) (a b c x r : Option CodeFault) → x ≡ option_or b c → r ≡ option_or a x
-    → IsFirst (fault_before parts.Control) (FaultWhere (32 ≤ around) no_place k.NestedTooDeep) a → IsFirst (fault_before parts.Control) (TimeoutFault timeout) b
+    → IsFirst (fault_before parts.Control) (FaultWhere (32 ≤ around) nowhere k.NestedTooDeep) a → IsFirst (fault_before parts.Control) (TimeoutFault timeout) b
     → IsFirst (fault_before parts.Control) (LoopFault repeat timeout) c → IsFirst (fault_before parts.Control) (ControlFault around repeat timeout) r
 control_first around repeat timeout a b c x r e f nested long loop =
     let before = fault_before parts.Control in
@@ -131,7 +133,7 @@ not_deep s around cond repeat timeout r h e = below (nat_lt around 32) refl wher
   none = rw e at h
 
   deep : 32 ≤ around → ⊥
-  deep too = none.none_before (view_at parts.Control (record { place = no_place; kind = k.NestedTooDeep })) (here (record { own = refl; part_is = refl; holds = here (record { cause = too; is = refl }) }))
+  deep too = none.none_before (view_at parts.Control (record { place = nowhere; kind = k.NestedTooDeep })) (here (record { own = refl; part_is = refl; holds = here (record { cause = too; is = refl }) }))
 
   below : (b : Bool) → nat_lt around 32 ≡ b → around < 32
   below true q = grind (arith, nat_tests)

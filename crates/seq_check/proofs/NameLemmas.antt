@@ -4,7 +4,7 @@ use Rattle.std.proofs.lemmas.List.{append-nil}
 use Rattle.std.proofs.Math.Seq.{take-append_seam}
 use Rattle.expr_grammar.specs.Tree.{StmtTree, Empty, Declare, Plain}
 use Rattle.sequence_trees.specs.Trees.{CodeStep, Block, Control, CodeSteps, NoSteps, MoreSteps}
-use Rattle.code_check.specs.Names.{has_name}
+use Rattle.expr_grammar.specs.Names.{has_name}
 use Rattle.code_check.specs.BlockFaults.{names_after, names_after_all}
 use Rattle.seq_check.specs.declared.faulty.FaultyStep.{FaultyStep}
 use Rattle.seq_check.specs.StepFaults.{names_after_step, names_after_steps}

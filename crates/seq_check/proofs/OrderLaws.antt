@@ -8,8 +8,9 @@ use Rattle.code_check.specs.Order.{is_before}
 use Rattle.code_check.proofs.OneFirst.{is_before-total}
 use Rattle.seq_check.specs.declared.faulty.Holder.{Holder}
 use Rattle.seq_check.specs.declared.faulty.Holder.TheVariants as holders
-use Rattle.seq_check.specs.StepFaults.{StepFault, path_before, part_rank, control_rank, fault_before, is_step_before}
+use Rattle.seq_check.specs.StepFaults.{StepFault, path_before, control_rank, fault_before, is_step_before}
 use Rattle.seq_check.specs.SetFaults.{SetFault, holder_before, is_set_before}
+use Rattle.sequence_trees.specs.Parts.{part_rank}
 
 pub or_first : (a b : Bool) → (a || b) ≡ false → a ≡ false
 or_first true b h = h

@@ -9,7 +9,7 @@ use Rattle.dap_base.specs.declared.text.OutOfMemory.{OutOfMemory}
 use Rattle.dap_base.proofs.Basics.{lt_itself, other_text}
 use Rattle.sequence_trees.specs.declared.spot.Part.TheVariants as parts
 use Rattle.sequence_trees.specs.Trees.{CodeSteps, SetTrees}
-use Rattle.code_check.specs.Names.{has_name, with_name}
+use Rattle.expr_grammar.specs.Names.{has_name, with_name}
 use Rattle.code_check.specs.First.{IsFirst, InEither, here, there}
 use Rattle.code_check.specs.ExprFaults.{Scope}
 use Rattle.code_check.specs.BlockFaults.{BlockFault}

@@ -12,13 +12,14 @@ use Rattle.code_check.specs.First.{IsFirst, FaultWhere}
 use Rattle.code_check.specs.ExprFaults.{Scope}
 use Rattle.code_check.specs.BlockFaults.{seeing, BlockFault}
 use Rattle.seq_check.specs.declared.faulty.PartFault.{PartFault}
-use Rattle.seq_check.specs.StepFaults.{StepFault, fault_before, is_step_before, no_place, under, Under, At, ConditionFault, TimeoutFault, LoopFault, ControlFault, OwnFault, FaultInStep, FaultInSteps, names_after_step}
+use Rattle.seq_check.specs.StepFaults.{StepFault, fault_before, is_step_before, under, Under, At, ConditionFault, TimeoutFault, LoopFault, ControlFault, OwnFault, FaultInStep, FaultInSteps, names_after_step}
 use Rattle.seq_check.specs.Views.{own_view}
 use Rattle.seq_check.proofs.FirstLemmas.{first_of_none, first_or, first_mapped}
 use Rattle.seq_check.proofs.ControlLemmas.{form_where, form_where_not, form_none, control_first, first_in_part, own_first}
 use Rattle.seq_check.proofs.StepLemmas.{control_own, control_inner, steps_order, under_order}
 use Rattle.dap_base.proofs.Least.{Decided, at_most, less, same_number}
 use Rattle.code_check.proofs.SomeFault.{expr_first, block_first}
+use Rattle.expr_grammar.specs.Bare.{nowhere}
 
 -- ---- a control itself
 
@@ -26,8 +27,8 @@ use Rattle.code_check.proofs.SomeFault.{expr_first, block_first}
 abbrev FirstForm : (CodeFault → Type 0) → Type 0
 FirstForm P = (r : Option CodeFault) × IsFirst (fault_before parts.Control) P r
 
-form : (Cause : Type 0) (kind : FaultKind) → Decided Cause → FirstForm (FaultWhere Cause no_place kind)
-form Cause kind (inl is) = (Some (record { place = no_place; kind = kind }), form_where Cause kind is)
+form : (Cause : Type 0) (kind : FaultKind) → Decided Cause → FirstForm (FaultWhere Cause nowhere kind)
+form Cause kind (inl is) = (Some (record { place = nowhere; kind = kind }), form_where Cause kind is)
 form Cause kind (inr not) = (None, form_where_not Cause kind not)
 
 timeout_first : (timeout : Option ℕ) → FirstForm (TimeoutFault timeout)

@@ -20,10 +20,11 @@ use Rattle.dap_base.specs.declared.text.OutOfMemory.{OutOfMemory}
 use Rattle.dap_base.proofs.Basics.{lt_itself}
 use Rattle.seq_check.specs.declared.faulty.FaultyStep.{FaultyStep}
 use Rattle.seq_check.specs.Views.{faulty_view}
-use Rattle.seq_check.specs.StepFaults.{StepFault, path_before, part_rank, fault_before, is_step_before, under, Under, OwnFault, FaultInStep, FaultInSteps, names_after_step, names_after_steps}
+use Rattle.seq_check.specs.StepFaults.{StepFault, path_before, fault_before, is_step_before, under, Under, OwnFault, FaultInStep, FaultInSteps, names_after_step, names_after_steps}
 use Rattle.seq_check.proofs.FirstLemmas.{first_of_none, first_of_same, first_here, first_there, first_mapped}
 use Rattle.seq_check.proofs.ControlLemmas.{same_rank}
 use Rattle.seq_check.proofs.SetLemmas.{above}
+use Rattle.sequence_trees.specs.Parts.{part_rank}
 
 -- ---- what each form of step is as a tree
 

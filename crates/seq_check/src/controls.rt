@@ -5,8 +5,9 @@ ghost use Rattle.code_check.specs.Order.{is_before};
 ghost use Rattle.code_check.specs.First.{IsFirst, FaultWhere};
 ghost use Rattle.code_check.specs.Views.{scope_view};
 ghost use Rattle.sequence_trees.specs.declared.spot.Part.TheVariants as parts;
-ghost use Rattle.seq_check.specs.StepFaults.{no_place, fault_before, is_step_before, ConditionFault, TimeoutFault, LoopFault, ControlFault, OwnFault};
+ghost use Rattle.seq_check.specs.StepFaults.{fault_before, is_step_before, ConditionFault, TimeoutFault, LoopFault, ControlFault, OwnFault};
 ghost use Rattle.seq_check.specs.Views.{own_view};
+ghost use Rattle.expr_grammar.specs.Bare.{nowhere};
 
 use crate::faulty::{PartFault, in_part};
 use code_check::{CodeFault, FaultKind, Scope, expr_fault};
@@ -22,7 +23,7 @@ const LONGEST_TIMEOUT: u64 = 60_000_000;
 
 // A fault of what stands in no text.
 fn form_fault(kind: FaultKind) -> Option<CodeFault>
-    ensures { result ≡ Some (record { place = no_place; kind = kind }) }
+    ensures { result ≡ Some (record { place = nowhere; kind = kind }) }
 {
     Some(CodeFault {
         place: Place { line: 0, column: 0 },
@@ -32,7 +33,7 @@ fn form_fault(kind: FaultKind) -> Option<CodeFault>
 
 #[tactic(auto, using(crate::proofs::ControlLemmas::forms))]
 fn nested_fault(around: u64) -> Option<CodeFault>
-    ensures { IsFirst (fault_before parts.Control) (FaultWhere (32 ≤ around) no_place FaultKind.NestedTooDeep) result }
+    ensures { IsFirst (fault_before parts.Control) (FaultWhere (32 ≤ around) nowhere FaultKind.NestedTooDeep) result }
 {
     if around < MOST_AROUND {
         return None;
@@ -63,7 +64,7 @@ fn loop_fault(repeat: &Option<Expr>, timeout: Option<u64>) -> Option<CodeFault>
 
 #[tactic(auto, using(crate::proofs::ControlLemmas::forms))]
 fn zero_fault(timeout: u64) -> Option<CodeFault>
-    ensures { IsFirst (fault_before parts.Control) (FaultWhere (timeout ≡ 0) no_place FaultKind.UnboundedLoop) result }
+    ensures { IsFirst (fault_before parts.Control) (FaultWhere (timeout ≡ 0) nowhere FaultKind.UnboundedLoop) result }
 {
     if timeout == 0 {
         form_fault(FaultKind::UnboundedLoop)

@@ -3,7 +3,7 @@ use Rattle.std.proofs.Common.{◌≡◌, ◌↔◌, ℕ, suc, ◌≤◌, Bool, t
 use Rattle.std.proofs.lemmas.Bool.{both_ways, and_from, true_from_ne_false}
 use Rattle.expr_grammar.specs.declared.code.Name.{Name}
 use Rattle.expr_grammar.specs.Tree as t
-use Rattle.expr_grammar.specs.Tree.{ArgTree, ArgTrees}
+use Rattle.expr_grammar.specs.Tree.{ArgTree, ArgTrees, arg_count}
 use Rattle.function_table.specs.declared.function.Function.{Function}
 use Rattle.function_table.specs.declared.function.Function.TheVariants as functions
 use Rattle.function_table.specs.declared.function.ParameterKind.{ParameterKind}
@@ -12,10 +12,10 @@ use Rattle.function_table.specs.Functions.{name_of, parameters_of, has_more, Tak
 use Rattle.function_table.specs.Lookup.{function_named}
 use Rattle.function_table.proofs.Lookup.{exactly}
 use Rattle.code_check.specs.First as first
-use Rattle.code_check.specs.ExprFaults.{Scope, CallFault, OfText, SequenceFault, text_at, KnownFault, KindFault, KindsFault, NamesNone, arg_count}
+use Rattle.code_check.specs.ExprFaults.{Scope, CallFault, OfText, SequenceFault, text_at, KnownFault, KindFault, KindsFault, NamesNone}
 use Rattle.code_check.specs.declared.fault.CodeFault.{CodeFault}
 use Rattle.code_check.specs.declared.fault.FaultKind.TheVariants as kinds
-use Rattle.sequence_rules.specs.Values.{count_of, is_count, is_kind, are_kinds, is_call}
+use Rattle.sequence_rules.specs.Values.{is_count, is_kind, are_kinds, is_call}
 
 -- ---- the function
 
@@ -28,7 +28,7 @@ pick n (Some f) ex some = (f, refl)
 
 -- ---- the count
 
-counts : (args : ArgTrees) → count_of args ≡ arg_count args
+counts : (args : ArgTrees) → arg_count args ≡ arg_count args
 counts t.NoArgs = refl
 counts (t.MoreArgs a more) = ap suc (counts more)
 

@@ -6,7 +6,7 @@ use Rattle.expr_grammar.specs.declared.code.Arg.TheVariants as arg
 use Rattle.code_check.proofs.TreeLemmas.{arg_tree-Number}
 use Rattle.expr_grammar.specs.declared.code.Expr.{Expr}
 use Rattle.expr_grammar.specs.declared.code.Name.{Name}
-use Rattle.expr_grammar.specs.Tree.{arg_trees, tree, Tree, ArgTrees, ExprArg, TextArg, NoArgs, MoreArgs}
+use Rattle.expr_grammar.specs.Tree.{arg_trees, tree, Tree, ArgTrees, ExprArg, TextArg, NoArgs, MoreArgs, one_number, two_numbers}
 use Rattle.function_table.specs.Lookup.{function_named}
 use Rattle.function_table.specs.declared.function.Function.{Function}
 use Rattle.sequence_rules.specs.Calls.{guarded_rest, use_now}
@@ -19,7 +19,6 @@ use Rattle.sequence_rules.proofs.Goes as g
 use Rattle.sequence_meaning.specs.declared.end.DirectEnd.{DirectEnd}
 use Rattle.sequence_meaning.specs.declared.end.Stopped.{Stopped}
 use Rattle.sequence_meaning.specs.declared.runner.DirectRunner.{DirectRunner}
-use Rattle.sequence_meaning.specs.Few.{one_number, two_numbers}
 use Rattle.sequence_meaning.specs.Held.{EndsDirect, MeansDirect, calls_of}
 use Rattle.sequence_meaning.proofs.FrameLemmas.{frames}
 use Rattle.sequence_meaning.proofs.StopLemmas.{adds_ok, adds_sequence, ends_appended, ends_call, ends_on}

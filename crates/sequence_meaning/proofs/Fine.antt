@@ -1,13 +1,15 @@
 -- A run that lacks nothing: what comes of a part of it, and the names that its states have.
 use Rattle.std.proofs.Common.{◌≡◌, ℕ, Bool, true, false, cond, not, ◌&&◌, ◌||◌, List, [], ◌∷◌, map, Option, None, Some, Ok, Err, refl, ap, ◌∙◌, bytes_eq}
 use Rattle.std.specs.Option.{option_or}
-use Rattle.code_check.specs.Names.{has_name}
+use Rattle.expr_grammar.specs.Names.{has_name}
 use Rattle.dap_base.specs.Outcome.{◌>>=◌}
 use Rattle.sequence_rules.specs.declared.bindings.Binding.{Binding}
 use Rattle.sequence_rules.specs.Calls.{value_or_missing, guarded_rest}
+use Rattle.sequence_rules.specs.Complete.{names_in}
 use Rattle.sequence_rules.specs.Machine as machine
 use Rattle.sequence_rules.specs.Machine.{Over, Machine, State, Out}
-use Rattle.sequence_rules.specs.Variables.{bound_variable, has_in, value_named, set_in, newest_in, set_newest, is_visible, visible, set_visible}
+use Rattle.sequence_rules.specs.Variables.{has_in, value_named, set_in, newest_in, set_newest, is_visible, visible, set_visible}
+use Rattle.sequence_rules.proofs.NameLemmas.{has_names, set_names, newest_names}
 
 -- ---- outcomes
 
@@ -57,18 +59,7 @@ module _ {V T : Type 0} (m : Machine V T) where
 
 -- ---- names
 
-has_one : (c : Bool) (p q : Bool) → p ≡ q → cond c true p ≡ (c || q)
-has_one true p q h = refl
-has_one false p q h = h
-
 module _ {V : Type 0} where
-  abbrev pub names_in : List (Binding V) → List (List ℕ)
-  names_in bs = map (λ b. b.name) bs
-
-  pub has_names : (bs : List (Binding V)) (n : List ℕ) → has_in bs n ≡ has_name (names_in bs) n
-  has_names [] n = refl
-  has_names (x ∷ bs) n = has_one (bytes_eq n x.name) _ _ (has_names bs n)
-
   value_one : (c q : Bool) (v : V) (o : Option V) → (q ≡ true → (w : V) × (o ≡ Some w)) → cond c true q ≡ true → (w : V) × (cond c (Some v) o ≡ Some w)
   value_one true q v o k h = (v, refl)
   value_one false q v o k h = k h
@@ -93,23 +84,6 @@ module _ {V : Type 0} where
   either_found p q (Some v) r k l h = (v, refl)
   either_found true q None r k l h = (let x = k refl in absurd (not_some x.0 x.1))
   either_found false q None r k l h = l h
-
-  set_one : (c : Bool) (x : Binding V) (v : V) (bs cs : List (Binding V)) → names_in cs ≡ names_in bs → names_in (cond c (bound_variable x.name v ∷ bs) (x ∷ cs)) ≡ x.name ∷ names_in bs
-  set_one true x v bs cs h = refl
-  set_one false x v bs cs h = ap (λ r. x.name ∷ r) h
-
-  pub set_names : (bs : List (Binding V)) (n : List ℕ) (v : V) → names_in (set_in bs n v) ≡ names_in bs
-  set_names [] n v = refl
-  set_names (x ∷ bs) n v = set_one (bytes_eq n x.name) x v bs (set_in bs n v) (set_names bs n v)
-
-  newest_names_one : (c d : Bool) (x : Binding V) (v : V) (bs cs : List (Binding V)) → names_in cs ≡ names_in bs → names_in (cond c (x ∷ cs) (cond d (bound_variable x.name v ∷ bs) (x ∷ bs))) ≡ x.name ∷ names_in bs
-  newest_names_one true d x v bs cs h = ap (λ r. x.name ∷ r) h
-  newest_names_one false true x v bs cs h = refl
-  newest_names_one false false x v bs cs h = refl
-
-  pub newest_names : (bs : List (Binding V)) (n : List ℕ) (v : V) → names_in (set_newest bs n v) ≡ names_in bs
-  newest_names [] n v = refl
-  newest_names (x ∷ bs) n v = newest_names_one (has_in bs n) (bytes_eq n x.name) x v bs (set_newest bs n v) (newest_names bs n v)
 
 -- ---- the names of a state
 

@@ -1,6 +1,6 @@
 -- Calls of functions lack nothing where the predefined variables that they use are there.
 use Rattle.std.proofs.Common.{◌≡◌, ℕ, Bool, true, false, ◌||◌, List, [], ◌∷◌, slice_index, nat_eq, nat_lt, Result, Ok, Err, codes, ap, ◌∙◌}
-use Rattle.code_check.specs.Names.{has_name}
+use Rattle.expr_grammar.specs.Names.{has_name}
 use Rattle.function_table.specs.declared.function.Function.{Function}
 use Rattle.function_table.specs.declared.function.Function.TheVariants as f
 use Rattle.target_machine.specs.declared.unit.HaltCause.{HaltCause}
@@ -10,7 +10,8 @@ use Rattle.sequence_rules.specs.Calls.{Port, or_halt, use_now, global, port, por
 use Rattle.sequence_rules.specs.Machine.{Over, Machine, State, Out, with_rest}
 use Rattle.sequence_rules.specs.Values.{all_used}
 use Rattle.sequence_rules.specs.Variables.{value_named}
-use Rattle.sequence_meaning.proofs.Fine.{IsMet, Fine, fine_bind, fine_cond, fine_given, value_found, has_names, Has}
+use Rattle.sequence_rules.proofs.NameLemmas.{has_names}
+use Rattle.sequence_meaning.proofs.Fine.{IsMet, Fine, fine_bind, fine_cond, fine_given, value_found, Has}
 
 -- no operation of the machine lacks anything
 abbrev pub IsMetBy : {T X : Type 0} → Result (X × T) (Over × T) → Type 0

@@ -1,6 +1,6 @@
 -- The run of a checked set lacks nothing: chains of calls, the debug variables, and whole runs.
 use Rattle.std.proofs.Common.{◌≡◌, ◌<◌, ◌≤◌, ℕ, zero, suc, ◌+◌, Bool, true, false, cond, not, ◌||◌, List, [], ◌∷◌, ◌++◌, map, length, slice_get, slice_index_or, nat_lt, None, Some, unwrap_or, Contains, ◌⊎◌, inl, inr, codes, refl, sym, ap, subst, ◌∙◌, arith, bytes_eq}
-use Rattle.std.proofs.Math.Bool.{or-false, or-true, or_assoc}
+use Rattle.std.proofs.Math.Bool.{or-true}
 use Rattle.std.specs.List.{position_or_len}
 use Rattle.std.proofs.lemmas.List.Elements.{Contains-append_cases}
 use Rattle.call_graph.specs.Graph.{callees_of, BeginsChain}
@@ -10,7 +10,7 @@ use Rattle.dap_base.proofs.Basics.{text_itself, contains_map}
 use Rattle.expr_grammar.specs.Tree as t
 use Rattle.expr_grammar.specs.Tree.{Tree, ArgTree, ArgTrees, StmtTree}
 use Rattle.function_table.specs.Variables.{names_of_predefined}
-use Rattle.code_check.specs.Names.{has_name, with_name}
+use Rattle.expr_grammar.specs.Names.{has_name, with_name}
 use Rattle.code_check.specs.First as first
 use Rattle.code_check.specs.ExprFaults.{Scope, ExprFault}
 use Rattle.code_check.specs.BlockFaults.{names_after, names_after_all, seeing, BlockFault}
@@ -27,10 +27,13 @@ use Rattle.seq_check.specs.declared.calls.TextCall.{TextCall}
 use Rattle.seq_check.specs.declared.faulty.Holder.TheVariants as holders
 use Rattle.seq_check.specs.declared.step_calls.StepCall.{StepCall}
 use Rattle.sequence_rules.specs.declared.bindings.Binding.{Binding}
+use Rattle.sequence_rules.specs.Complete.{names_in}
 use Rattle.sequence_rules.specs.Machine.{Machine, State, Out, with_locals}
 use Rattle.sequence_rules.specs.Steps.{declared_names, given_back, sequence_result, steps_at, sequence_at, debug_result, run_of, steps_result}
-use Rattle.sequence_rules.specs.Variables.{bound_variable, has_in, with_new, with_all_new}
-use Rattle.sequence_meaning.proofs.Fine.{Fine, fine_bind, given_some, fine_weak, names_in, has_names, set_names, Has}
+use Rattle.sequence_rules.specs.Variables.{with_new, with_all_new}
+use Rattle.sequence_rules.proofs.NameLemmas.{set_names, new_names}
+use Rattle.code_check.proofs.Visible.{has_name-with}
+use Rattle.sequence_meaning.proofs.Fine.{Fine, fine_bind, given_some, fine_weak, Has}
 use Rattle.sequence_meaning.proofs.FineCalls.{LacksNothing}
 use Rattle.sequence_meaning.proofs.FineValues.{Runs, fine_stored, fine_value}
 use Rattle.sequence_meaning.proofs.FineSteps.{AreGoodCalls, own_steps, append_none, fine_steps}
@@ -120,23 +123,11 @@ place_of xs x k = (k.0, place_at xs x k.0 k.1 k.2)
 
 -- ---- names of debug variables
 
-with_one : (vs : List (List ℕ)) (x n : List ℕ) → has_name (vs ++ x ∷ []) n ≡ (has_name vs n || bytes_eq n x)
-with_one [] x n = or-false (bytes_eq n x)
-with_one (v ∷ vs) x n = ap (λ b. bytes_eq n v || b) (with_one vs x n) ∙ sym (or_assoc (bytes_eq n v) (has_name vs n) (bytes_eq n x))
-
 keeps_with : (vs : List (List ℕ)) (x n : List ℕ) → has_name vs n ≡ true → has_name (with_name vs x) n ≡ true
-keeps_with vs x n h = either (has_name vs x) (with_one vs x n ∙ ap (λ b. b || bytes_eq n x) h)
-  where
-    either : (b : Bool) → has_name (vs ++ x ∷ []) n ≡ true → has_name (cond b vs (vs ++ x ∷ [])) n ≡ true
-    either true k = h
-    either false k = k
+keeps_with vs x n h = has_name-with vs x n ∙ ap (λ b. b || bytes_eq n x) h
 
 has_with : (vs : List (List ℕ)) (x : List ℕ) → has_name (with_name vs x) x ≡ true
-has_with vs x = either (has_name vs x) refl
-  where
-    either : (b : Bool) → has_name vs x ≡ b → has_name (cond b vs (vs ++ x ∷ [])) x ≡ true
-    either true k = k
-    either false k = with_one vs x x ∙ ap (λ b. has_name vs x || b) (text_itself x) ∙ or-true (has_name vs x)
+has_with vs x = has_name-with vs x x ∙ ap (λ b. has_name vs x || b) (text_itself x) ∙ or-true (has_name vs x)
 
 keeps_after : (vs : List (List ℕ)) (st : StmtTree) (n : List ℕ) → has_name vs n ≡ true → has_name (names_after vs st) n ≡ true
 keeps_after vs (t.Empty at) n h = h
@@ -149,19 +140,6 @@ keeps_all vs (st ∷ code) n h = keeps_all (names_after vs st) code n (keeps_aft
 
 -- the names of the variables that a run starts with
 module _ {V : Type 0} where
-  new_names : (bs : List (Binding V)) (name : List ℕ) (v : V) → names_in (with_new bs name v) ≡ with_name (names_in bs) name
-  new_names bs name v = either (has_in bs name) (has_name (names_in bs) name) (has_names bs name)
-    where
-      pushed : (xs : List (Binding V)) → names_in (xs ++ bound_variable name v ∷ []) ≡ names_in xs ++ name ∷ []
-      pushed [] = refl
-      pushed (x ∷ xs) = ap (λ r. x.name ∷ r) (pushed xs)
-
-      either : (b d : Bool) → b ≡ d → names_in (cond b bs (bs ++ bound_variable name v ∷ [])) ≡ cond d (names_in bs) (names_in bs ++ name ∷ [])
-      either true true h = refl
-      either false false h = pushed bs
-      either true false h = absurd cc
-      either false true h = absurd cc
-
   pub start_names : (bs : List (Binding V)) (code : List StmtTree) (v : V) → names_in (with_all_new bs (declared_names code) v) ≡ names_after_all (names_in bs) code
   start_names bs [] v = refl
   start_names bs (t.Empty at ∷ code) v = start_names bs code v

@@ -4,7 +4,7 @@ use Rattle.std.proofs.lemmas.List.{append_assoc}
 use Rattle.std.proofs.lemmas.List.Elements.{Contains-append_left, Contains-append_right}
 use Rattle.expr_grammar.specs.Tree as t
 use Rattle.expr_grammar.specs.Tree.{Tree, StmtTree}
-use Rattle.code_check.specs.Names.{has_name}
+use Rattle.expr_grammar.specs.Names.{has_name}
 use Rattle.code_check.specs.First as first
 use Rattle.code_check.specs.ExprFaults.{Scope, ExprFault}
 use Rattle.code_check.specs.BlockFaults.{names_after, names_after_all, seeing, StmtFault, BlockFault}
@@ -15,19 +15,22 @@ use Rattle.sequence_trees.specs.Trees.{CodeStep, CodeSteps}
 use Rattle.sequence_trees.specs.declared.spot.Part.{Part}
 use Rattle.sequence_trees.specs.declared.spot.Part.TheVariants as parts
 use Rattle.seq_check.specs.Calls.{number_of, expr_calls, statement_calls, block_calls, condition_calls, calls_at, step_calls, steps_calls}
-use Rattle.seq_check.specs.StepFaults.{StepFault, under, no_place, ConditionFault, TimeoutFault, LoopFault, OwnFault, names_after_step, FaultInStep, FaultInSteps}
+use Rattle.seq_check.specs.StepFaults.{StepFault, under, ConditionFault, TimeoutFault, LoopFault, OwnFault, names_after_step, FaultInStep, FaultInSteps}
 use Rattle.seq_check.specs.declared.calls.TextCall.{TextCall}
 use Rattle.seq_check.specs.declared.step_calls.StepCall.{StepCall}
 use Rattle.sequence_rules.specs.declared.bindings.Binding.{Binding}
 use Rattle.sequence_rules.specs.Calls.{global}
+use Rattle.sequence_rules.specs.Complete.{names_in}
 use Rattle.sequence_rules.specs.Machine.{Machine, State, Out}
 use Rattle.sequence_rules.specs.Polls.{poll_of}
 use Rattle.sequence_rules.specs.Steps.{is_timeout, timeout_of, turn_count, counted_step, after_counted, declared_variable, dropped_value, in_order, inside, turn, turns, poll_result_at, poll_result, statement, block, condition, loop_result, repeat_result, control_result, step, steps_result}
 use Rattle.sequence_rules.specs.Values.{used_now, value}
-use Rattle.sequence_meaning.proofs.Fine.{Fine, fine_bind, fine_cond, fine_given, names_in, Has}
+use Rattle.sequence_rules.proofs.NameLemmas.{last_names}
+use Rattle.sequence_meaning.proofs.Fine.{Fine, fine_bind, fine_cond, fine_given, Has}
 use Rattle.sequence_meaning.proofs.FineCalls.{LacksNothing, fine_global, fine_ask}
 use Rattle.sequence_meaning.proofs.FineValues.{Runs, AreGood, good_left, good_right, fine_used, fine_value}
 use Rattle.dap_base.proofs.Basics.{contains_map}
+use Rattle.expr_grammar.specs.Bare.{nowhere}
 
 -- ---- names
 
@@ -103,10 +106,6 @@ names_length : {V : Type 0} (bs : List (Binding V)) → length (names_in bs) ≡
 names_length [] = refl
 names_length (b ∷ bs) = ap suc (names_length bs)
 
-names_append : {V : Type 0} (bs : List (Binding V)) (b : Binding V) → names_in (bs ++ b ∷ []) ≡ names_in bs ++ b.name ∷ []
-names_append [] b = refl
-names_append (x ∷ bs) b = ap (λ r. x.name ∷ r) (names_append bs b)
-
 false_of : (b : Bool) → ¬ (b ≡ true) → b ≡ false
 false_of true h = absurd (h refl)
 false_of false h = refl
@@ -148,7 +147,7 @@ calls_of_text Good path part calls h call k =
 
 timeout_fine : (timeout : ℕ) → ((g : CodeFault) → TimeoutFault (Some timeout) g → ⊥) → ¬ (timeout ≡ 0) → timeout_of (Some timeout) ≡ Some timeout
 timeout_fine timeout no' some =
-    let few : ¬ (60000000 < timeout) = λ h. no' (record { place = no_place; kind = kinds.TimeoutTooLong }) (record { cause = h; is = refl }) in
+    let few : ¬ (60000000 < timeout) = λ h. no' (record { place = nowhere; kind = kinds.TimeoutTooLong }) (record { cause = h; is = refl }) in
     let test : is_timeout timeout ≡ true = both (nat_lt 0 timeout) (nat_le timeout 60000000) (grind arith) (grind arith) in
     ap (λ b. cond b (Some timeout) None) test
   where
@@ -157,8 +156,8 @@ timeout_fine timeout no' some =
     both false q h k = h
 
 loop_fine : (e : Tree) (timeout : Option ℕ) → ((g : CodeFault) → TimeoutFault timeout g → ⊥) → ((g : CodeFault) → LoopFault (Some e) timeout g → ⊥) → (w : ℕ) × (timeout_of timeout ≡ Some w)
-loop_fine e None no' bad = absurd (bad (record { place = no_place; kind = kinds.UnboundedLoop }) (record { cause = tt; is = refl }))
-loop_fine e (Some timeout) no' bad = (timeout, timeout_fine timeout no' (λ h. bad (record { place = no_place; kind = kinds.UnboundedLoop }) (record { cause = h; is = refl })))
+loop_fine e None no' bad = absurd (bad (record { place = nowhere; kind = kinds.UnboundedLoop }) (record { cause = tt; is = refl }))
+loop_fine e (Some timeout) no' bad = (timeout, timeout_fine timeout no' (λ h. bad (record { place = nowhere; kind = kinds.UnboundedLoop }) (record { cause = h; is = refl })))
 
 -- ---- steps
 
@@ -184,7 +183,7 @@ module _ {V T : Type 0} (m : Machine V T) (safe : LacksNothing m) (gs : List (Li
   fine_statement ls sc same seqs (t.Declare name e) no' good s h =
       fine_bind (Has gs ls) (Has gs (ls ++ name.text ∷ [])) (counted_step m s) _ (fine_counted ls s h) (λ k p.
       fine_bind (Has gs ls) (Has gs (ls ++ name.text ∷ [])) (value m seq e k.1) _ (fine_expr ls sc same seqs e (λ g x. no' g (first.there x)) good k.1 p) (λ x q.
-      record { globals = q.globals; locals = names_append x.1.locals (record { name = name.text; value = x.0 }) ∙ ap (λ r. r ++ name.text ∷ []) q.locals }))
+      record { globals = q.globals; locals = last_names x.1.locals name.text x.0 ∙ ap (λ r. r ++ name.text ∷ []) q.locals }))
   fine_statement ls sc same seqs (t.Plain at e) no' good s h =
       fine_bind (Has gs ls) (Has gs ls) (counted_step m s) _ (fine_counted ls s h) (λ k p.
       fine_bind (Has gs ls) (Has gs ls) (value m seq e k.1) _ (fine_expr ls sc same seqs e (λ g x. no' g (first.there x)) good k.1 p) (λ x q. q))

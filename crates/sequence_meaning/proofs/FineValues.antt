@@ -9,12 +9,12 @@ use Rattle.expr_grammar.specs.declared.code.UnaryOp.{UnaryOp}
 use Rattle.expr_grammar.specs.declared.code.BinaryOp.{BinaryOp}
 use Rattle.expr_grammar.specs.declared.code.BinaryOp.TheVariants as b
 use Rattle.expr_grammar.specs.Tree as t
-use Rattle.expr_grammar.specs.Tree.{Tree, ArgTree, ArgTrees}
+use Rattle.expr_grammar.specs.Tree.{Tree, ArgTree, ArgTrees, arg_count}
 use Rattle.function_table.specs.declared.function.Function.{Function}
 use Rattle.function_table.specs.declared.function.Function.TheVariants as f
 use Rattle.function_table.specs.Lookup.{function_named}
 use Rattle.function_table.proofs.Lookup.{exactly}
-use Rattle.code_check.specs.Names.{has_name}
+use Rattle.expr_grammar.specs.Names.{has_name}
 use Rattle.code_check.specs.First as first
 use Rattle.code_check.specs.ExprFaults.{Scope, ExprFault, ArgFault, ArgsFault, NameFault, CallFault, OfText, SequenceFault, text_at}
 use Rattle.code_check.specs.declared.fault.CodeFault.{CodeFault}
@@ -24,7 +24,7 @@ use Rattle.seq_check.specs.declared.calls.TextCall.{TextCall}
 use Rattle.sequence_rules.specs.Calls.{use_now, guarded_rest}
 use Rattle.sequence_rules.specs.Machine.{Machine, State, Out}
 use Rattle.sequence_rules.specs.Variables.{visible, is_visible}
-use Rattle.sequence_rules.specs.Values.{text_of, named_value, stored_value, assigned_value, used_now, of_unary, both, operands, result_of, strict_binary, truth_of, conjunction, disjunction, of_binary, choice, appended_values, chained_values, numbers_of, is_call, count_of, call_result, call_of, value, argument, arguments}
+use Rattle.sequence_rules.specs.Values.{text_of, named_value, stored_value, assigned_value, used_now, of_unary, both, operands, result_of, strict_binary, truth_of, conjunction, disjunction, of_binary, choice, appended_values, chained_values, numbers_of, is_call, call_result, call_of, value, argument, arguments}
 use Rattle.sequence_meaning.proofs.CallLemmas.{call_is, call_has}
 use Rattle.sequence_meaning.proofs.Fine.{Fine, fine_bind, fine_cond, fine_given, fine_guarded, Has, is_visible_by, visible_by, store_keeps}
 use Rattle.sequence_meaning.proofs.FineCalls.{LacksNothing, fine_use, fine_all, fine_performed}
@@ -53,7 +53,7 @@ one_text : (args : ArgTrees) → is_call (Some f.Sequence) args ≡ true → (a 
 one_text t.NoArgs is = absurd cc
 one_text (t.MoreArgs (t.ExprArg at e) t.NoArgs) is = absurd cc
 one_text (t.MoreArgs (t.TextArg a) t.NoArgs) is = (a, (refl, refl))
-one_text (t.MoreArgs a (t.MoreArgs c more)) is = absurd (too_many (count_of more) (first_true _ _ is))
+one_text (t.MoreArgs a (t.MoreArgs c more)) is = absurd (too_many (arg_count more) (first_true _ _ is))
   where
     too_many : (n : ℕ) → nat_eq (suc (suc n)) 1 ≡ true → ⊥
     too_many n k = grind arith

@@ -4,8 +4,9 @@ use Rattle.target_calls.specs.World.{World, is_over, done_now, next_world}
 use Rattle.target_calls.specs.declared.calls.Ask.{Ask}
 use Rattle.target_machine.specs.Plain.{CallEnd, Answered, Skipped, Faulted, Small}
 use Rattle.code_check.specs.BlockFaults.{names_after_all}
-use Rattle.code_check.specs.Names.{has_name}
+use Rattle.expr_grammar.specs.Names.{has_name}
 use Rattle.sequence_trees.specs.Trees.{CodeSteps, SequenceTrees, steps_named}
+use Rattle.sequence_rules.specs.Complete.{names_in}
 use Rattle.sequence_rules.specs.declared.bindings.Binding.{Binding}
 use Rattle.sequence_rules.specs.Direct.{Now, with_call, answers, made_call, direct}
 use Rattle.sequence_rules.specs.Machine as machine
@@ -14,7 +15,8 @@ use Rattle.sequence_rules.specs.Runs as ending
 use Rattle.sequence_rules.specs.Runs.{Program, Ending, as_values, outcome_over, outcome_of, meaning, watched_run}
 use Rattle.sequence_rules.proofs.Watching.{watched_same}
 use Rattle.sequence_meaning.specs.Valid.{IsChecked}
-use Rattle.sequence_meaning.proofs.Fine.{IsMet, Fine, names_in}
+use Rattle.sequence_rules.proofs.CompleteSteps.{values_names}
+use Rattle.sequence_meaning.proofs.Fine.{IsMet, Fine}
 use Rattle.sequence_meaning.proofs.FineCalls.{IsMetBy, LacksNothing}
 use Rattle.sequence_meaning.proofs.FineRuns.{start_names, run_fine}
 
@@ -39,10 +41,6 @@ unfolding direct
 direct_safe = record { asked = λ u forgive t. made_met _ t; commanded = λ c t. made_met _ t }
 
 -- ---- the start
-
-as_names : (bs : List (Binding ℕ)) → names_in (as_values (direct true) bs) ≡ map (λ b. b.name) bs
-as_names [] = refl
-as_names (b ∷ bs) = ap (λ r. b.name ∷ r) (as_names bs)
 
 named_one : (b c : Bool) (s : CodeSteps) (o : Option CodeSteps) → is_some o ≡ c → is_some (cond b (Some s) o) ≡ cond b true c
 named_one true c s o h = refl
@@ -72,7 +70,7 @@ never_lost : (w : World) (p : Program) (written : Option (List ℕ)) → IsCheck
 never_lost w p written h =
     not_lost (λ r. Unit {0}) (watched_run w p written)
     (run_fine (direct true) direct_safe p.turn_us p.set h.sound p.start (sym (some_named p.set.sequences p.start) ∙ h.start) _
-    (record { globals = start_names (as_values (direct true) p.predefined) p.set.debugvars _ ∙ ap (λ ns. names_after_all ns p.set.debugvars) (as_names p.predefined ∙ h.names); locals = refl }))
+    (record { globals = start_names (as_values (direct true) p.predefined) p.set.debugvars _ ∙ ap (λ ns. names_after_all ns p.set.debugvars) (values_names p.predefined ∙ h.names); locals = refl }))
 
 pub nothing_missing : (w : World) (p : Program) (written : Option (List ℕ)) → IsChecked p → (outcome_of (watched_run w p written) ≡ outcome_of (meaning w p written)) × ((outcome_of (watched_run w p written)).ending ≡ ending.Lost → ⊥)
 nothing_missing w p written h = (by (watched_same w p written), never_lost w p written h)

@@ -3,12 +3,11 @@ ghost use Rattle.dap_base.specs.declared.text.Place.{Place};
 ghost use Rattle.seq_check.specs.Answers.{checked_trees};
 ghost use Rattle.sequence_trees.specs.Trees.{NoSteps, steps_named, steps_tree};
 ghost use Rattle.function_table.specs.declared.function.Function.{Function};
-ghost use Rattle.sequence_meaning.specs.Few.{one_number, two_numbers};
 ghost use Rattle.std.specs.Prelude.{◌≡◌, [], unwrap_or};
 ghost use Rattle.sequence_meaning.specs.Frame.{RunsDirect};
 ghost use Rattle.sequence_meaning.specs.Held.{calls_of, with_answer};
 ghost use Rattle.sequence_meaning.specs.Parts.{argument_meaning, arguments_meaning, call_meaning, called_sequence_meaning, function_meaning, value_after};
-ghost use Rattle.expr_grammar.specs.Tree.{arg_tree, arg_trees, tree};
+ghost use Rattle.expr_grammar.specs.Tree.{arg_tree, arg_trees, tree, one_number, two_numbers};
 
 use crate::end::{DirectEnd, Stopped};
 use crate::functions::make_call;

@@ -2,6 +2,7 @@
 use Rattle.std.proofs.Common.{◌≡◌, ℕ, zero, suc, true, false, List, [], ◌∷◌, ◌++◌, codes, nat_lt, nat_eq, Option, None, Some, ◌⊎◌, inl, inr, Ok, Err, refl, sym, ap, subst, ◌∙◌}
 use Rattle.std.proofs.lemmas.List.{append_assoc, append-nil}
 use Rattle.dap_base.specs.Outcome.{◌>>=◌}
+use Rattle.expr_grammar.specs.Names.{has_name, with_names}
 use Rattle.expr_grammar.specs.Tree as t
 use Rattle.expr_grammar.specs.Tree.{Tree, StmtTree}
 use Rattle.sequence_trees.specs.Trees as c
@@ -9,7 +10,7 @@ use Rattle.sequence_trees.specs.Trees.{CodeStep, CodeSteps, SetTrees, steps_name
 use Rattle.target_calls.specs.World.{World}
 use Rattle.sequence_rules.specs.declared.bindings.Binding.{Binding}
 use Rattle.sequence_rules.specs.Calls.{value_or_missing, global, ask}
-use Rattle.sequence_rules.specs.Complete.{names_in, has_name, with_names, ExprComplete, CodeComplete, ConditionComplete, HasTimeout, LoopComplete, step_names, StepComplete, StepsComplete, AreThere, SequenceComplete, NoCalls, DebugComplete, shared_names, IsComplete}
+use Rattle.sequence_rules.specs.Complete.{names_in, ExprComplete, CodeComplete, ConditionComplete, HasTimeout, LoopComplete, step_names, StepComplete, StepsComplete, AreThere, SequenceComplete, NoCalls, DebugComplete, shared_names, IsComplete}
 use Rattle.sequence_rules.specs.Direct.{now_at, direct}
 use Rattle.sequence_rules.specs.Machine as machine
 use Rattle.sequence_rules.specs.Machine.{Over, with_locals, with_variables}
@@ -18,7 +19,8 @@ use Rattle.sequence_rules.specs.Runs as ending
 use Rattle.sequence_rules.specs.Runs.{Program, as_values, outcome_of, outcome_over, meaning, watched_run}
 use Rattle.sequence_rules.specs.Steps.{timeout_of, declared_names, counted_step, after_counted, declared_variable, dropped_value, in_order, inside, turn, turns, poll_result_at, poll_result, statement, block, condition, loop_result, repeat_result, control_result, step, steps_result, given_back, sequence_result, steps_at, sequence_at, debug_result, run_of, start_state}
 use Rattle.sequence_rules.specs.Values.{value, used_now, stored_value}
-use Rattle.sequence_rules.proofs.Completing.{S, O, Fine, NotLost, Has, IsThere, fine_bind, fine_cond, set_names, last_names, front_names, all_new_names, given_fine, global_fine, ask_fine, used_fine, stored_fine, value_fine}
+use Rattle.sequence_rules.proofs.NameLemmas.{set_names, last_names, front_names, all_new_names}
+use Rattle.sequence_rules.proofs.Completing.{S, O, Fine, NotLost, Has, IsThere, fine_bind, fine_cond, given_fine, global_fine, ask_fine, used_fine, stored_fine, value_fine}
 use Rattle.sequence_rules.proofs.Watching.{watched_same}
 
 -- the names that steps declare for those after them
@@ -161,7 +163,7 @@ module _ (shared : List (List ℕ)) (dp : has_name shared (codes "__dp") ≡ tru
 
 -- ---- whole runs
 
-values_names : (bs : List (Binding ℕ)) → names_in (as_values (direct true) bs) ≡ names_in bs
+pub values_names : (bs : List (Binding ℕ)) → names_in (as_values (direct true) bs) ≡ names_in bs
 values_names [] = refl
 values_names (x ∷ bs) = ap (λ ns. x.name ∷ ns) (values_names bs)
 

@@ -7,6 +7,7 @@ use Rattle.expr_grammar.specs.declared.code.Name.{Name}
 use Rattle.expr_grammar.specs.declared.code.UnaryOp.{UnaryOp}
 use Rattle.expr_grammar.specs.declared.code.BinaryOp.{BinaryOp}
 use Rattle.expr_grammar.specs.declared.code.BinaryOp.TheVariants as b
+use Rattle.expr_grammar.specs.Names.{has_name}
 use Rattle.expr_grammar.specs.Tree as t
 use Rattle.expr_grammar.specs.Tree.{Tree, ArgTree, ArgTrees, StmtTree}
 use Rattle.function_table.specs.declared.function.Function.{Function}
@@ -21,63 +22,13 @@ use Rattle.target_machine.specs.declared.unit.ProbeCall.{ProbeCall}
 use Rattle.target_machine.specs.declared.unit.Unit.{Unit as AccessUnit}
 use Rattle.sequence_rules.specs.declared.bindings.Binding.{Binding}
 use Rattle.sequence_rules.specs.Calls.{Port, or_halt, use_now, value_or_missing, guarded_rest, global, port_with, port_from, port, counted_answer, ask, counted_number, command, zero_of, if_read, low_and_high, second_half, two_units, one_unit, memory_port, memory_at, memory, ap_unit, ap_at, ap_register, dp_unit, dp_at, dp_register, pins_command, abort_at, abort, delay, clock, pins, line_bits, line_result, function_result}
-use Rattle.sequence_rules.specs.Complete.{names_in, has_name, with_name, with_names, Sees, MayCall, ExprComplete, ArgComplete, ArgsComplete}
+use Rattle.sequence_rules.specs.Complete.{names_in, Sees, MayCall, ExprComplete, ArgComplete, ArgsComplete}
 use Rattle.sequence_rules.specs.Direct.{Now, with_call, answers, made_call, direct}
 use Rattle.sequence_rules.specs.Machine as machine
 use Rattle.sequence_rules.specs.Machine.{Over, State, Out, with_rest, unit_more, line_more, step_more, with_locals, with_variables}
 use Rattle.sequence_rules.specs.Values.{is_call, text_of, named_value, stored_value, assigned_value, used_now, of_unary, both, operands, result_of, strict_binary, truth_of, conjunction, disjunction, of_binary, choice, appended_values, chained_values, all_used, numbers_of, call_result, call_of, value, argument, arguments}
 use Rattle.sequence_rules.specs.Variables.{bound_variable, has_in, value_named, set_in, newest_in, set_newest, with_new, with_all_new, is_visible, visible, set_visible}
-
--- ---- names
-
-pub has_names : {V : Type 0} (bs : List (Binding V)) (name : List ℕ) → has_in bs name ≡ has_name (names_in bs) name
-has_names [] name = refl
-has_names (x ∷ bs) name = ap (λ h. cond (bytes_eq name x.name) true h) (has_names bs name)
-
-pub set_names : {V : Type 0} (bs : List (Binding V)) (name : List ℕ) (v : V) → names_in (set_in bs name v) ≡ names_in bs
-set_names [] name v = refl
-set_names (x ∷ bs) name v = either (bytes_eq name x.name) (set_names bs name v)
-  where
-    either : (p : Bool) → names_in (set_in bs name v) ≡ names_in bs → names_in (cond p (bound_variable x.name v ∷ bs) (x ∷ set_in bs name v)) ≡ x.name ∷ names_in bs
-    either true e = refl
-    either false e = ap (λ ns. x.name ∷ ns) e
-
-newest_names : {V : Type 0} (bs : List (Binding V)) (name : List ℕ) (v : V) → names_in (set_newest bs name v) ≡ names_in bs
-newest_names [] name v = refl
-newest_names (x ∷ bs) name v = either (has_in bs name) (bytes_eq name x.name) (newest_names bs name v)
-  where
-    either : (q p : Bool) → names_in (set_newest bs name v) ≡ names_in bs → names_in (cond q (x ∷ set_newest bs name v) (cond p (bound_variable x.name v ∷ bs) (x ∷ bs))) ≡ x.name ∷ names_in bs
-    either true p e = ap (λ ns. x.name ∷ ns) e
-    either false true e = refl
-    either false false e = refl
-
-pub last_names : {V : Type 0} (bs : List (Binding V)) (name : List ℕ) (v : V) → names_in (bs ++ bound_variable name v ∷ []) ≡ names_in bs ++ name ∷ []
-last_names [] name v = refl
-last_names (x ∷ bs) name v = ap (λ ns. x.name ∷ ns) (last_names bs name v)
-
-pub front_names : {V : Type 0} (old bs : List (Binding V)) (more : List (List ℕ)) → names_in bs ≡ names_in old ++ more → names_in (take (length old) bs) ≡ names_in old
-front_names [] bs more h = refl
-front_names (x ∷ old) [] more h = absurd cc
-front_names (x ∷ old) (y ∷ bs) more h = rw (ap (first_of []) h) (ap (λ ns. x.name ∷ ns) (front_names old bs more (ap rest_of_names h)))
-  where
-    first_of : List ℕ → List (List ℕ) → List ℕ
-    first_of d [] = d
-    first_of d (n ∷ ns) = n
-
-    rest_of_names : List (List ℕ) → List (List ℕ)
-    rest_of_names [] = []
-    rest_of_names (n ∷ ns) = ns
-
-new_names : {V : Type 0} (bs : List (Binding V)) (name : List ℕ) (v : V) → names_in (with_new bs name v) ≡ with_name (names_in bs) name
-new_names bs name v = rw (has_names bs name) (either (has_name (names_in bs) name))
-  where
-    either : (p : Bool) → names_in (cond p bs (bs ++ bound_variable name v ∷ [])) ≡ cond p (names_in bs) (names_in bs ++ name ∷ [])
-    either true = refl
-    either false = last_names bs name v
-
-pub all_new_names : {V : Type 0} (bs : List (Binding V)) (names : List (List ℕ)) (v : V) → names_in (with_all_new bs names v) ≡ with_names (names_in bs) names
-all_new_names bs [] v = refl
-all_new_names bs (name ∷ names) v = all_new_names (with_new bs name v) names v ∙ ap (λ ns. with_names ns names) (new_names bs name v)
+use Rattle.sequence_rules.proofs.NameLemmas.{has_names, set_names, newest_names}
 
 -- a value is there
 abbrev pub IsThere : {V : Type 0} → Option V → Type 0

@@ -11,6 +11,7 @@ pub mod Limits
 pub mod Watching
 pub mod Writing
 pub mod Cuts
+pub mod NameLemmas
 pub mod Completing
 pub mod CompleteSteps
 pub mod KnownLemmas

@@ -1,8 +1,8 @@
 -- Programs that lack nothing. Each name is visible where it is used, and each call is one that its function takes. Each sequence that is called
 -- is in the set, and no chain of calls is longer than 32. Each loop has a timeout.
-use Rattle.std.specs.Prelude.{◌≡◌, ℕ, zero, suc, Bool, true, false, ◌||◌, List, [], ◌∷◌, ◌++◌, codes, Option, Some, None, if◌then◌else◌}
+use Rattle.std.specs.Prelude.{◌≡◌, ℕ, zero, suc, Bool, true, ◌||◌, List, [], ◌∷◌, ◌++◌, map, codes, Option, Some, None}
 use Rattle.std.specs.Bool.{⊤}
-use Rattle.std.specs.Str.{bytes_eq}
+use Rattle.expr_grammar.specs.Names.{has_name, with_names}
 use Rattle.expr_grammar.specs.Tree as t
 use Rattle.expr_grammar.specs.Tree.{Tree, ArgTree, ArgTrees, StmtTree}
 use Rattle.function_table.specs.declared.function.Function.{Function}
@@ -19,22 +19,7 @@ use Rattle.sequence_rules.specs.Values.{is_call, text_of}
 
 -- the names of variables
 abbrev pub names_in : {V : Type 0} → List (Binding V) → List (List ℕ)
-names_in [] = []
-names_in (b ∷ bs) = b.name ∷ names_in bs
-
--- the name is among these
-abbrev pub has_name : List (List ℕ) → List ℕ → Bool
-has_name [] name = false
-has_name (n ∷ names) name = if bytes_eq name n then true else has_name names name
-
--- one more name, unless it is there
-abbrev pub with_name : List (List ℕ) → List ℕ → List (List ℕ)
-with_name names name = if has_name names name then names else names ++ name ∷ []
-
--- each of these names more
-abbrev pub with_names : List (List ℕ) → List (List ℕ) → List (List ℕ)
-with_names names [] = names
-with_names names (name ∷ more) = with_names (with_name names name) more
+names_in bs = map (λ b. b.name) bs
 
 -- the names that a step declares for those after it
 abbrev pub step_names : CodeStep → List (List ℕ)

@@ -4,7 +4,7 @@ use Rattle.dap_base.specs.declared.text.Place.{Place}
 use Rattle.expr_grammar.specs.declared.code.Name.{Name}
 use Rattle.expr_grammar.specs.declared.code.BinaryOp.TheVariants as b
 use Rattle.expr_grammar.specs.Tree as t
-use Rattle.expr_grammar.specs.Tree.{Tree, ArgTree, ArgTrees, StmtTree}
+use Rattle.expr_grammar.specs.Tree.{Tree, ArgTree, ArgTrees, StmtTree, args_of}
 use Rattle.function_table.specs.Variables.{names_of_predefined}
 use Rattle.sequence_trees.specs.Trees as c
 use Rattle.sequence_trees.specs.Trees.{CodeStep, CodeSteps, SequenceTrees}
@@ -39,14 +39,9 @@ arg e = t.ExprArg here e
 abbrev pub text : List ℕ → ArgTree
 text bytes = t.TextArg (record { text = bytes; at = here })
 
--- arguments
-abbrev pub args : List ArgTree → ArgTrees
-args [] = t.NoArgs
-args (a ∷ more) = t.MoreArgs a (args more)
-
 -- a call as a statement
 abbrev pub call : List ℕ → List ArgTree → StmtTree
-call function arguments = t.Plain here (t.Call (name function) (args arguments))
+call function arguments = t.Plain here (t.Call (name function) (args_of arguments))
 
 -- an assignment as a statement
 abbrev pub assign : List ℕ → Tree → StmtTree
@@ -102,7 +97,7 @@ divides = program
     ∷ declare (codes "c") (t.Number 9) ∷ declare (codes "d") (t.Number 9) ∷ [])
     (sequence (codes "Main")
     (assign (codes "c") (t.Binary b.BitAnd (t.Number 2) (t.Binary b.Eq (t.Number 2) (t.Number 2)))
-    ∷ assign (codes "d") (t.Binary b.And (t.Number 0) (t.Call (name (codes "Read32")) (args (arg (t.Number 0x30000000) ∷ []))))
+    ∷ assign (codes "d") (t.Binary b.And (t.Number 0) (t.Call (name (codes "Read32")) (args_of (arg (t.Number 0x30000000) ∷ []))))
     ∷ assign (codes "a") (t.Binary b.Div (t.Number 5) (v (codes "c"))) ∷ []) ∷ [])
 
 -- it halts at the division

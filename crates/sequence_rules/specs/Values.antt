@@ -7,7 +7,7 @@ use Rattle.expr_grammar.specs.declared.code.BinaryOp.{BinaryOp}
 use Rattle.expr_grammar.specs.declared.code.BinaryOp.TheVariants as b
 use Rattle.expr_grammar.specs.Arithmetic.{truth, unary_value, binary_value}
 use Rattle.expr_grammar.specs.Tree as t
-use Rattle.expr_grammar.specs.Tree.{Tree, ArgTree, ArgTrees}
+use Rattle.expr_grammar.specs.Tree.{Tree, ArgTree, ArgTrees, arg_count}
 use Rattle.function_table.specs.declared.function.Function.{Function}
 use Rattle.function_table.specs.declared.function.Function.TheVariants as f
 use Rattle.function_table.specs.declared.function.ParameterKind.{ParameterKind}
@@ -20,11 +20,6 @@ use Rattle.sequence_rules.specs.Machine.{Machine, State, Out, halt}
 use Rattle.sequence_rules.specs.Variables.{is_visible, visible, set_visible}
 
 -- ---- calls that a valid set has
-
--- how many arguments a call has
-abbrev pub count_of : ArgTrees → ℕ
-count_of t.NoArgs = 0
-count_of (t.MoreArgs a more) = suc (count_of more)
 
 -- whether a call of the function may have so many arguments
 abbrev pub is_count : Function → ℕ → Bool
@@ -47,7 +42,7 @@ are_kinds function index (t.MoreArgs a more) = is_kind (kind_at function index) 
 -- a function of the table, with arguments that it takes
 abbrev pub is_call : Option Function → ArgTrees → Bool
 is_call None args = false
-is_call (Some function) args = is_count function (count_of args) && are_kinds function 0 args
+is_call (Some function) args = is_count function (arg_count args) && are_kinds function 0 args
 
 -- the first text among the arguments
 abbrev pub text_in : ArgTrees → Option (List ℕ)

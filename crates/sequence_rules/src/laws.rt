@@ -2,7 +2,8 @@
 
 ghost use Rattle.target_calls.specs.World.{World};
 ghost use Rattle.sequence_rules.specs.Rows.{Divides, HalfMade, Loops, LoopsUntil, Orders, CallsB, Writes, Halts};
-ghost use Rattle.sequence_rules.specs.Laws.{LateValuesChangeNothing, RunsOnlyAdd, CallsAreMade, CompleteIsNeverLost, CutsAreFronts, LateRunsOnlyAdd, LimitsCutRuns, LinesAreOnlyWritten, WatchedIsTheMeaning};
+ghost use Rattle.sequence_rules.specs.Laws.{LateValuesChangeNothing, RunsOnlyAdd, CallsAreMade, CompleteIsNeverLost, CutsAreFronts, LateRunsOnlyAdd};
+ghost use Rattle.sequence_rules.specs.Laws.{LimitsCutRuns, LinesAreOnlyWritten, WatchedIsTheMeaning};
 
 /// A run with results that come later comes to what the meaning comes to, in each world: the same ending, variables, counts, calls
 /// and lines. Where the meaning ends at a fault or at a call that is not answered, it has the same lines, and the first calls.

@@ -1,4 +1,5 @@
 pub mod Trees
+pub mod Parts
 pub mod Texts
 pub mod Order
 pub mod Reading

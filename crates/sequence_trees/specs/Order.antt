@@ -88,6 +88,10 @@ pub record SetStep : Type 0 where
   pub sequence : Option (List ℕ)
   pub path : List ℕ
 
+-- a place in a part of a step
+abbrev pub spot_at : SetStep → Part → Place → Spot
+spot_at step part place = record { sequence = step.sequence; path = step.path; part = part; place = place }
+
 -- a disabled sequence has no steps
 abbrev pub enabled_steps : SeqEntry → device.StepTree
 enabled_steps e = if e.disabled then device.no_steps else e.steps

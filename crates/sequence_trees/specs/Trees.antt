@@ -1,5 +1,5 @@
 -- The steps of sequences as plain values: what `CheckedStep` says, without where it lies in memory.
-use Rattle.std.specs.Prelude.{ℕ, List, [], ◌∷◌, ◌++◌, map, Option, None, Some, option_map, if◌then◌else◌}
+use Rattle.std.specs.Prelude.{ℕ, List, [], ◌∷◌, ◌++◌, map, Option, None, Some, option_map, unwrap_or, if◌then◌else◌}
 use Rattle.std.specs.Str.{bytes_eq}
 use Rattle.expr_grammar.specs.Tree.{Tree, tree, StmtTree, code_trees}
 use Rattle.sequence_trees.specs.declared.steps.CheckedStep.{CheckedStep}
@@ -56,3 +56,7 @@ with_sequence name steps set = record { debugvars = set.debugvars; sequences = s
 abbrev pub steps_named : List ℕ → List SequenceTrees → Option CodeSteps
 steps_named name [] = None
 steps_named name (s ∷ more) = if bytes_eq name s.name then Some s.steps else steps_named name more
+
+-- the steps of a sequence, none where the set does not have it
+abbrev pub steps_in : SetTrees → List ℕ → CodeSteps
+steps_in set name = unwrap_or (steps_named name set.sequences) NoSteps

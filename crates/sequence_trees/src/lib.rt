@@ -12,6 +12,6 @@ mod text;
 
 pub use set::ReadSet;
 pub use set_reader::{SetFault, read_set};
-pub use spot::{OutwardPath, Part, Spot, StepPath, copy_path, inner_path};
+pub use spot::{OutwardPath, Part, Spot, StepPath, copy_path, inner_path, part_text};
 pub use steps::{CheckedStep, CheckedSteps};
 pub use text::{TextFault, read_code, read_condition};

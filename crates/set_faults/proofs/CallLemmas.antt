@@ -4,14 +4,14 @@ use Rattle.expr_grammar.specs.declared.code.Arg.{Arg}
 use Rattle.expr_grammar.specs.declared.code.Name.{Name}
 use Rattle.expr_grammar.specs.declared.code.TextArg as string
 use Rattle.expr_grammar.specs.declared.code.Stmt.{Stmt}
-use Rattle.expr_grammar.specs.Tree.{ArgTrees, arg_tree, arg_trees, stmt_tree, code_trees}
+use Rattle.expr_grammar.specs.Tree.{ArgTrees, arg_tree, arg_trees, stmt_tree, code_trees, arg_count}
 use Rattle.function_table.specs.declared.function.Function.{Function}
 use Rattle.function_table.specs.declared.function.Function.TheVariants as functions
 use Rattle.function_table.specs.Functions.{name_of, Takes, kind_at}
 use Rattle.code_check.specs.declared.fault.FaultKind.TheVariants as k
 use Rattle.code_check.specs.declared.fault.CodeFault.{CodeFault}
 use Rattle.code_check.specs.First.{here, there}
-use Rattle.code_check.specs.ExprFaults.{Scope, ArgFault, ArgsFault, KindFault, KindsFault, arg_count, text_at, OfText, SequenceFault, FormatFault, TextsFault, KnownFault, NamesNone, FunctionFault}
+use Rattle.code_check.specs.ExprFaults.{Scope, ArgFault, ArgsFault, KindFault, KindsFault, text_at, OfText, SequenceFault, FormatFault, TextsFault, KnownFault, NamesNone, FunctionFault}
 use Rattle.code_check.specs.BlockFaults.{names_after_all, seeing, StmtFault, BlockFault}
 use Rattle.code_check.proofs.ArgLemmas.{arg_trees-take, kinds_to, kinds_from, length-taken, args_from, args_to}
 use Rattle.code_check.proofs.CallLemmas.{not_so, is_so, same_function}

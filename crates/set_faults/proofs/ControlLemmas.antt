@@ -9,21 +9,23 @@ use Rattle.code_check.specs.declared.fault.FaultKind.TheVariants as k
 use Rattle.code_check.specs.declared.fault.CodeFault.{CodeFault}
 use Rattle.code_check.specs.First.{InEither, here, there, FaultWhere}
 use Rattle.code_check.proofs.CallLemmas.{is_so}
-use Rattle.seq_check.specs.StepFaults.{StepFault, path_before, part_rank, control_rank, fault_before, is_step_before, no_place, At, TimeoutFault, LoopFault, ControlFault}
+use Rattle.seq_check.specs.StepFaults.{StepFault, path_before, control_rank, fault_before, is_step_before, At, TimeoutFault, LoopFault, ControlFault}
 use Rattle.seq_check.proofs.ControlLemmas.{at_from, kind_of_loop, kind_of_timeout, kind_of_where, view_at, view_order}
 use Rattle.set_faults.specs.Listed.{IsListOf, found_if}
 use Rattle.set_faults.specs.Controls.{is_too_long, is_unbounded}
 use Rattle.set_faults.proofs.AddLemmas.{is_said}
 use Rattle.set_faults.proofs.ListLemmas.{listed_nothing, listed_one, listed_two, listed_mapped}
+use Rattle.expr_grammar.specs.Bare.{nowhere}
+use Rattle.sequence_trees.specs.Parts.{part_rank}
 
 abbrev before : CodeFault → CodeFault → Bool
 before = fault_before parts.Control
 
 -- ---- one fault, where a test passes
 
-listed_if : (b : Bool) (Cause : Type 0) (kind : FaultKind) → (b ≡ true → Cause) → (Cause → b ≡ true) → IsListOf before (FaultWhere Cause no_place kind) (found_if b no_place kind)
-listed_if true Cause kind to from = listed_one before (FaultWhere Cause no_place kind) (record { place = no_place; kind = kind }) (record { cause = to refl; is = refl }) (λ g w. w.is)
-listed_if false Cause kind to from = listed_nothing before (FaultWhere Cause no_place kind) (λ f w. true≢false (sym (from w.cause)))
+listed_if : (b : Bool) (Cause : Type 0) (kind : FaultKind) → (b ≡ true → Cause) → (Cause → b ≡ true) → IsListOf before (FaultWhere Cause nowhere kind) (found_if b nowhere kind)
+listed_if true Cause kind to from = listed_one before (FaultWhere Cause nowhere kind) (record { place = nowhere; kind = kind }) (record { cause = to refl; is = refl }) (λ g w. w.is)
+listed_if false Cause kind to from = listed_nothing before (FaultWhere Cause nowhere kind) (λ f w. true≢false (sym (from w.cause)))
 
 over : (t : ℕ) → nat_lt 60000000 t ≡ true → 60000000 < t
 over t h = grind (arith, nat_tests)
@@ -37,11 +39,11 @@ zero_is t h = grind (arith, nat_tests)
 is_zero : (t : ℕ) → t ≡ 0 → (t == 0) ≡ true
 is_zero t h = grind (arith, nat_tests)
 
-listed_timeout : (timeout : Option ℕ) → IsListOf before (TimeoutFault timeout) (found_if (is_too_long timeout) no_place k.TimeoutTooLong)
+listed_timeout : (timeout : Option ℕ) → IsListOf before (TimeoutFault timeout) (found_if (is_too_long timeout) nowhere k.TimeoutTooLong)
 listed_timeout None = listed_nothing before (TimeoutFault None) (λ f h. elim h [ ])
 listed_timeout (Some t) = listed_if (nat_lt 60000000 t) (60000000 < t) k.TimeoutTooLong (over t) (is_over t)
 
-listed_loop : (repeat : Option Tree) (timeout : Option ℕ) → IsListOf before (LoopFault repeat timeout) (found_if (is_unbounded repeat timeout) no_place k.UnboundedLoop)
+listed_loop : (repeat : Option Tree) (timeout : Option ℕ) → IsListOf before (LoopFault repeat timeout) (found_if (is_unbounded repeat timeout) nowhere k.UnboundedLoop)
 listed_loop None timeout = listed_nothing before (LoopFault None timeout) (λ f h. elim h [ ])
 listed_loop (Some e) None = listed_if true (Unit {0}) k.UnboundedLoop (λ h. tt) (λ h. refl)
 listed_loop (Some e) (Some t) = listed_if (t == 0) (t ≡ 0) k.UnboundedLoop (zero_is t) (is_zero t)
@@ -52,7 +54,7 @@ kind_order : (f g : CodeFault) (a b : FaultKind) → f.kind ≡ a → g.kind ≡
 kind_order f g a b p q lt = rw (p, q, lt) refl
 
 form_parts : (around : ℕ) (repeat : Option Tree) (timeout : Option ℕ) (b : Bool) → (b ≡ true → 32 ≤ around) → (32 ≤ around → b ≡ true)
-    → IsListOf before (ControlFault around repeat timeout) (found_if b no_place k.NestedTooDeep ++ (found_if (is_too_long timeout) no_place k.TimeoutTooLong ++ found_if (is_unbounded repeat timeout) no_place k.UnboundedLoop))
+    → IsListOf before (ControlFault around repeat timeout) (found_if b nowhere k.NestedTooDeep ++ (found_if (is_too_long timeout) nowhere k.TimeoutTooLong ++ found_if (is_unbounded repeat timeout) nowhere k.UnboundedLoop))
 form_parts around repeat timeout b to from =
     listed_two before _ _ _ _ (λ f g h j. (let nested = kind_of_where (32 ≤ around) k.NestedTooDeep f h in elim j [
       | here u ↦ kind_order f g k.NestedTooDeep k.TimeoutTooLong nested (kind_of_timeout timeout g u) refl
@@ -62,7 +64,7 @@ form_parts around repeat timeout b to from =
 
 -- the faults of the form, as they were added
 pub form_listed : (around : ℕ) (repeat : Option Tree) (timeout : Option ℕ) (b : Bool) (list : List CodeFault) → (IsTrue b ↔ (32 ≤ around))
-    → list ≡ found_if b no_place k.NestedTooDeep ++ (found_if (is_too_long timeout) no_place k.TimeoutTooLong ++ found_if (is_unbounded repeat timeout) no_place k.UnboundedLoop)
+    → list ≡ found_if b nowhere k.NestedTooDeep ++ (found_if (is_too_long timeout) nowhere k.TimeoutTooLong ++ found_if (is_unbounded repeat timeout) nowhere k.UnboundedLoop)
     → IsListOf before (ControlFault around repeat timeout) list
 form_listed around repeat timeout b list h e = rw e (form_parts around repeat timeout b (is_so b (32 ≤ around) h) (is_said b (32 ≤ around) h))
 

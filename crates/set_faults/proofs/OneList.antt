@@ -10,7 +10,7 @@ use Rattle.code_check.specs.First.{IsFirst}
 use Rattle.code_check.proofs.OrderLemmas.{is_before-asym}
 use Rattle.seq_check.specs.declared.faulty.Holder.{Holder}
 use Rattle.seq_check.specs.declared.faulty.Holder.TheVariants as holders
-use Rattle.seq_check.specs.StepFaults.{StepFault, path_before, part_rank, control_rank, fault_before, is_step_before}
+use Rattle.seq_check.specs.StepFaults.{StepFault, path_before, control_rank, fault_before, is_step_before}
 use Rattle.seq_check.specs.SetFaults.{SetFault, holder_before, is_set_before, FaultInSet}
 use Rattle.seq_check.specs.Valid as valid
 use Rattle.seq_check.specs.Valid.{IsFirstOf}
@@ -19,6 +19,7 @@ use Rattle.set_faults.specs.declared.site.Fault.{Fault}
 use Rattle.set_faults.specs.Listed.{IsListOf}
 use Rattle.set_faults.specs.Rules.{fault_of, AreRuleFaults}
 use Rattle.set_faults.proofs.ListLemmas.{contains_none, contains_cases, contains_first, all_at, one_list}
+use Rattle.sequence_trees.specs.Parts.{part_rank}
 
 -- ---- not both ways
 

@@ -4,7 +4,7 @@ use Rattle.std.specs.Borrow.{Bor}
 use Rattle.dap_base.specs.declared.text.Place.{Place}
 use Rattle.sequence_trees.specs.declared.spot.Part.{Part}
 use Rattle.sequence_trees.specs.declared.spot.Spot.{Spot}
-use Rattle.sequence_trees.specs.Order.{SetStep}
+use Rattle.sequence_trees.specs.Order.{SetStep, spot_at}
 use Rattle.code_check.specs.declared.fault.CodeFault.{CodeFault}
 use Rattle.seq_check.specs.StepFaults.{StepFault}
 use Rattle.set_faults.specs.declared.site.Fault.{Fault}
@@ -19,10 +19,6 @@ name_now (Some name) = Some name.now
 -- the step of a site
 abbrev pub site_step : Site → SetStep
 site_step s = record { sequence = name_now s.sequence; path = s.path.now }
-
--- a place in a part of the step
-abbrev pub spot_at : SetStep → Part → Place → Spot
-spot_at step part place = record { sequence = step.sequence; path = step.path; part = part; place = place }
 
 -- the fault, in a part of the step
 abbrev pub code_fault_at : SetStep → Part → CodeFault → Fault

@@ -1,6 +1,7 @@
 //! Faults, and the steps in which they are.
 ghost use Rattle.std.specs.Prelude.{◌≡◌, ◌++◌, ◌∷◌, [], IfOk, OnOk, map};
-ghost use Rattle.set_faults.specs.Sites.{name_now, site_step, spot_at, code_fault_at};
+ghost use Rattle.set_faults.specs.Sites.{name_now, site_step, code_fault_at};
+ghost use Rattle.sequence_trees.specs.Order.{spot_at};
 
 use code_check::{CodeFault, FaultKind};
 use dap_base::{ItemList, NameText, OutOfMemory, Place};

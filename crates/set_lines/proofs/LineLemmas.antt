@@ -12,9 +12,9 @@ use Rattle.sequence_resolve.specs.declared.entry.SeqSet.{SeqSet}
 use Rattle.sequence_trees.specs.declared.spot.Part.{Part}
 use Rattle.sequence_trees.specs.declared.spot.Spot.{Spot}
 use Rattle.set_lines.specs.Lines.{line_after, text_along, text_in, line_of}
-use Rattle.set_lines.specs.Parts.{part_number}
 use Rattle.set_lines.specs.Rests.{rest_after, rest_of, follows, from_named, AreLast}
 use Rattle.set_lines.proofs.SameLemmas.{text_equal, same_part}
+use Rattle.sequence_trees.specs.Parts.{part_rank}
 
 pub next_rest : (n : ℕ) (text : List ℕ) → 0 < n → rest_after n text ≡ rest_after (n - 1) (after_first (λ b. b == 10) text)
 next_rest zero text some = absurd (omega arith)
@@ -120,7 +120,7 @@ pub rest_later : (set : SeqSet) (before spot : Spot) (passed : ℕ) (old rest : 
 rest_later set before spot passed old rest same is far new =
     let a = and_parts (same_text before.sequence spot.sequence) _ same in
     let b = and_parts (bytes_eq before.path spot.path) _ a.1 in
-    let c = and_parts (part_number before.part == part_number spot.part) (nat_le before.place.line spot.place.line) b.1 in
+    let c = and_parts (part_rank before.part == part_rank spot.part) (nat_le before.place.line spot.place.line) b.1 in
     let le : before.place.line ≤ spot.place.line = leb-true before.place.line spot.place.line c.1 in
     let sum : (before.place.line - 1) + passed ≡ spot.place.line - 1 = omega (arith, le, far) in
     let text : text_in set spot.sequence spot.path spot.part ≡ text_in set before.sequence before.path before.part =

@@ -9,7 +9,7 @@ use Rattle.sequence_trees.specs.declared.spot.Spot.{Spot}
 use Rattle.set_lines.specs.declared.lines.LineStart.{LineStart}
 use Rattle.set_lines.specs.declared.lines.Lines.{Lines}
 use Rattle.set_lines.specs.Lines.{text_in}
-use Rattle.set_lines.specs.Parts.{part_number}
+use Rattle.sequence_trees.specs.Parts.{part_rank}
 
 -- the text after this many line feeds
 abbrev pub rest_after : ℕ → List ℕ → List ℕ
@@ -22,7 +22,7 @@ rest_of set spot = option_map (rest_after (spot.place.line - 1)) (text_in set sp
 
 -- a place is in the text of the last one, in its line or a later one
 abbrev pub follows : Spot → Spot → Bool
-follows last spot = same_text last.sequence spot.sequence && (bytes_eq last.path spot.path && (part_number last.part == part_number spot.part
+follows last spot = same_text last.sequence spot.sequence && (bytes_eq last.path spot.path && (part_rank last.part == part_rank spot.part
     && nat_le last.place.line spot.place.line))
 
 -- the sequences from the first of this name on

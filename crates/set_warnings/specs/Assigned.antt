@@ -3,7 +3,7 @@ use Rattle.std.specs.Prelude.{ℕ, List, [], ◌∷◌, ◌++◌, Option, Some, 
 use Rattle.expr_grammar.specs.declared.code.Name.{Name}
 use Rattle.expr_grammar.specs.Tree.{Tree, Number, Named, Group, Unary, Binary, Cond, Assign, Call, ArgTree, ExprArg}
 use Rattle.expr_grammar.specs.Tree.{TextArg, ArgTrees, NoArgs, MoreArgs, StmtTree, Empty, Declare, Plain}
-use Rattle.code_check.specs.Names.{has_name}
+use Rattle.expr_grammar.specs.Names.{has_name}
 use Rattle.set_warnings.specs.declared.warning.Warning.{Warning}
 use Rattle.set_warnings.specs.declared.warning.WarningKind.TheVariants as k
 use Rattle.set_warnings.specs.Sites.{PartAt, warning_at}

@@ -5,15 +5,15 @@ use Rattle.std.specs.Str.{bytes_eq}
 use Rattle.std.specs.Prelude.{◌≡◌, ◌<◌, true, false, length, get_or}
 use Rattle.sequence_resolve.specs.declared.entry.SeqEntry.{SeqEntry}
 use Rattle.sequence_trees.specs.declared.spot.Part.TheVariants as parts
-use Rattle.sequence_trees.specs.Trees.{CodeSteps, NoSteps, SetTrees, steps_named}
+use Rattle.sequence_trees.specs.Trees.{CodeSteps, NoSteps, SetTrees, steps_named, steps_in}
 use Rattle.code_check.specs.BlockFaults.{names_after_all}
 use Rattle.seq_check.specs.declared.step_calls.StepCall.{StepCall}
-use Rattle.seq_check.specs.StepFaults.{no_place}
 use Rattle.seq_check.specs.Calls.{set_calls}
 use Rattle.set_warnings.specs.declared.warning.Warning.{Warning}
 use Rattle.set_warnings.specs.declared.warning.WarningKind.TheVariants as k
 use Rattle.set_warnings.specs.Sites.{warning_at}
 use Rattle.set_warnings.specs.Steps.{part_at_path, steps_warnings}
+use Rattle.expr_grammar.specs.Bare.{nowhere}
 
 -- the names of the sequences that a debugger starts by itself
 abbrev pub predefined_sequences : List (List ℕ)
@@ -34,15 +34,11 @@ is_called calls number = list_any (λ list. list_any (λ call. call.callee == nu
 -- a sequence itself, where nothing calls it and no debugger starts it
 abbrev pub uncalled_warnings : Bool → List ℕ → List Warning
 uncalled_warnings called name =
-    if is_predefined name || called then [] else warning_at k.UncalledSequence (part_at_path name [] parts.Control) no_place None ∷ []
+    if is_predefined name || called then [] else warning_at k.UncalledSequence (part_at_path name [] parts.Control) nowhere None ∷ []
 
 -- the names of the debug variables
 abbrev pub debug_variables : SetTrees → List (List ℕ)
 debug_variables trees = names_after_all [] trees.debugvars
-
--- the steps of the sequence of the name
-abbrev pub steps_in : SetTrees → List ℕ → CodeSteps
-steps_in trees name = unwrap_or (steps_named name trees.sequences) NoSteps
 
 -- of a sequence that is called or not: of itself, and then of its steps; a disabled one has none
 abbrev pub entry_warnings : SetTrees → Bool → SeqEntry → List Warning

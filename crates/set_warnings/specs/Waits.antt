@@ -9,10 +9,10 @@ use Rattle.sequence_trees.specs.Trees as c
 use Rattle.sequence_trees.specs.Trees.{CodeSteps}
 use Rattle.sequence_rules.specs.Polls.{ungrouped_tree, is_four, only_arg}
 use Rattle.sequence_rules.specs.Steps.{timeout_of, turn_count}
-use Rattle.seq_check.specs.StepFaults.{no_place}
 use Rattle.set_warnings.specs.declared.warning.Warning.{Warning}
 use Rattle.set_warnings.specs.declared.warning.WarningKind.TheVariants as k
 use Rattle.set_warnings.specs.Sites.{PartAt, warning_at}
+use Rattle.expr_grammar.specs.Bare.{nowhere}
 
 -- ---- a poll with names
 --
@@ -82,4 +82,4 @@ is_long (Some e) timeout = nat_lt 1000000 (turn_count 10 (unwrap_or (timeout_of 
 
 -- a warning of a control itself whose `while` is such
 abbrev pub long_warnings : PartAt → Option Tree → Option ℕ → List Warning
-long_warnings at repeat timeout = if is_long repeat timeout then warning_at k.LongWait at no_place None ∷ [] else []
+long_warnings at repeat timeout = if is_long repeat timeout then warning_at k.LongWait at nowhere None ∷ [] else []

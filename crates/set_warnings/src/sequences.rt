@@ -8,7 +8,8 @@ ghost use Rattle.code_check.specs.BlockFaults.{names_after, names_after_all};
 ghost use Rattle.seq_check.specs.SetFaults.{names_of};
 ghost use Rattle.seq_check.specs.Calls.{set_calls};
 ghost use Rattle.set_warnings.specs.Steps.{steps_warnings};
-ghost use Rattle.set_warnings.specs.Sequences.{uncalled_warnings, steps_in, debug_variables, entry_warnings, entries_warnings, AreCalledFlags};
+ghost use Rattle.set_warnings.specs.Sequences.{uncalled_warnings, debug_variables, entry_warnings, entries_warnings, AreCalledFlags};
+ghost use Rattle.sequence_trees.specs.Trees.{steps_in};
 
 use crate::called::{called_flags, is_predefined};
 use crate::site::{PartSite, add_warning};

@@ -2,17 +2,18 @@
 use Rattle.std.proofs.Common.{◌≡◌, ◌∙◌, ℕ, zero, suc, ◌+◌, ◌^◌, ◌<◌, ◌≤◌, Bool, true, false, cond, [], ◌∷◌, ◌++◌, length, nat_lt, refl, sym, ap, arith}
 use Rattle.std.proofs.Math.Nat.{zero-add}
 use Rattle.target_calls.proofs.MarkLemmas.{length_marked}
-use Rattle.target_calls.specs.NeedPoints.{Asks, Cost, capped_sum, asks_with_call, asks_at_finish, asks_at_need, needed_more, asks_at_use, with_call}
+use Rattle.target_calls.specs.NeedPoints.{Asks, Cost, asks_with_call, asks_at_finish, asks_at_need, needed_more, asks_at_use, with_call}
 use Rattle.target_calls.specs.declared.calls.Ask.{Ask}
 use Rattle.target_calls.specs.declared.calls.Slot.{Slot}
+use Rattle.target_machine.specs.Lines.{grown_counter}
 
-capped_twice : (needs few more : ℕ) → capped_sum (capped_sum needs few) more ≡ capped_sum needs (few + more)
+capped_twice : (needs few more : ℕ) → grown_counter (grown_counter needs few) more ≡ grown_counter needs (few + more)
 capped_twice needs few more = omega arith
 
 pub none_last : (n : ℕ) → n ≡ n + 0
 none_last n = omega arith
 
-some_more : (n : ℕ) (asks : Asks) → 0 < n → needed_more n asks ≡ record asks { needs = capped_sum asks.needs n; fence = length asks.calls }
+some_more : (n : ℕ) (asks : Asks) → 0 < n → needed_more n asks ≡ record asks { needs = grown_counter asks.needs n; fence = length asks.calls }
 some_more zero asks some = absurd (omega (arith, some))
 some_more (suc n) asks some = refl
 

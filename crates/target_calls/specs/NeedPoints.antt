@@ -4,6 +4,7 @@ use Rattle.target_machine.specs.State.{TargetState}
 use Rattle.target_calls.specs.Asks.{settled_last}
 use Rattle.target_calls.specs.declared.calls.Ask.{Ask}
 use Rattle.target_calls.specs.declared.calls.Slot.{Slot}
+use Rattle.target_machine.specs.Lines.{grown_counter}
 
 -- How many need points a call makes by itself: before it counts as asked, and after.
 pub record Cost : Type 0 where
@@ -24,14 +25,10 @@ pub record Asks : Type 0 where
 abbrev pub nothing_asked : Asks
 nothing_asked = record { calls = []; needs = 0; fence = 0 }
 
--- a count of need points stops at its last value
-abbrev pub capped_sum : ℕ → ℕ → ℕ
-capped_sum needs more = min (needs + more) (2 ^ 64 - 1)
-
 -- so many need points come now
 abbrev pub needed_more : ℕ → Asks → Asks
 needed_more zero asks = asks
-needed_more (suc more) asks = record asks { needs = capped_sum asks.needs (suc more); fence = length asks.calls }
+needed_more (suc more) asks = record asks { needs = grown_counter asks.needs (suc more); fence = length asks.calls }
 
 -- one need point comes now
 abbrev pub asks_at_need : Asks → Asks

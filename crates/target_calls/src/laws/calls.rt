@@ -1,7 +1,8 @@
 //! Calls in a row.
 ghost use Rattle.std.specs.Prelude.{◌≡◌, ℕ, suc, ◌+◌, ◌<◌, ◌≤◌, true, false, List, [], ◌∷◌, ◌++◌, length, take, slice_index, Some, None};
 ghost use Rattle.target_calls.specs.Values.{IsAsked, number_of};
-ghost use Rattle.target_calls.specs.World.{World, done_now, end_result, is_small_end, later_by, left_at, next_world, one_if_skipped, results, skips, small_now, stop, stops_here, world_after};
+ghost use Rattle.target_calls.specs.World.{World, done_now, end_result, is_small_end, later_by, left_at, next_world, one_if_skipped, results, skips};
+ghost use Rattle.target_calls.specs.World.{small_now, stop, stops_here, world_after};
 ghost use Rattle.target_calls.specs.declared.calls.Ask.{Ask};
 ghost use Rattle.target_calls.specs.declared.calls.Value.{Value};
 

@@ -34,7 +34,8 @@ pub fn passing_entries()
 pub fn performed_entries()
     ensures within { (t : TargetState) (entries : List Entry) (work : ℕ) → entries_performed t entries work ≤ length entries }
     ensures fits { (t : TargetState) (entries : List Entry) (work : ℕ) → weight_in t (take (entries_performed t entries work) entries) ≤ work }
-    ensures most { (t : TargetState) (entries : List Entry) (work n : ℕ) → n ≤ length entries → weight_in t (take n entries) ≤ work → n ≤ entries_performed t entries work }
+    ensures most { (t : TargetState) (entries : List Entry) (work n : ℕ) → n ≤ length entries → weight_in t (take n entries) ≤ work
+        → n ≤ entries_performed t entries work }
     ensures weighs { (t : TargetState) (action : Action) → IsWeighty action → 0 < weight t action }
     ensures front { (t : TargetState) (xs ys : List Entry) → AreWeighty ys → entries_performed t (xs ++ ys) (weight_in t xs) ≡ length xs }
     ensures part { (t : TargetState) (xs : List Entry) (e : Entry) (ys : List Entry) (more : ℕ) → more < weight (target_after t xs) e.action

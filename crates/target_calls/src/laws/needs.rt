@@ -18,6 +18,7 @@ pub fn need_points_add()
 /// After a need point the use of a slot that was asked before it makes none.
 pub fn uses_after_a_need_point()
     ensures needed { (slot : Slot) (asks : Asks) → slot.index < length asks.calls → asks_at_use slot (asks_at_need asks) ≡ asks_at_need asks }
-    ensures finished { (slot : Slot) (asks : Asks) → slot.index < length asks.calls → asks_at_use slot (asks_at_need (asks_at_finish asks)) ≡ asks_at_need (asks_at_finish asks) }
+    ensures finished { (slot : Slot) (asks : Asks) → slot.index < length asks.calls
+        → asks_at_use slot (asks_at_need (asks_at_finish asks)) ≡ asks_at_need (asks_at_finish asks) }
     ensures used { (slot : Slot) (asks : Asks) → slot.index < length asks.calls → asks_at_use slot (asks_at_use slot asks) ≡ asks_at_use slot asks }
 {}

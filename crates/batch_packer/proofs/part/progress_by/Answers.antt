@@ -1,12 +1,12 @@
 use Rattle.std.proofs.Common.{◌≡◌, ◌-◌, not, ◌&&◌, ◌||◌, length, ap, ◌∙◌, ℕ, Bool}
 use Rattle.std.specs.Prelude.{nat_lt}
-use Rattle.dap_transfer.specs.State.{is_good}
 use Rattle.target_machine.specs.Counts.{one_if}
 use Rattle.dap_transfer.specs.Laws.{accesses_in}
 use Rattle.flight_forms.specs.Flights.{doubts, seen_values}
 use Rattle.batch_packer.specs.SlotList.{SlotList}
 use Rattle.flight_forms.proofs.SeenValues.{counted, kept}
 use Rattle.batch_packer.proofs.FewLemmas.{few_part}
+use Rattle.dap_messages.specs.Responses.{is_good}
 use Rattle.batch_packer.proofs.part.progress_by.Goals as goal
 
 pub returns-clause-performed : goal.returns-clause-performed

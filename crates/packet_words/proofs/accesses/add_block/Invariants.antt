@@ -1,6 +1,7 @@
 use Rattle.std.proofs.Common.{◌≡◌, ◌++◌, drop}
 use Rattle.packet_words.specs.Accesses.{requests_accesses}
-use Rattle.packet_words.specs.Requests.{block_requests, after_requests}
+use Rattle.packet_words.specs.Requests.{after_requests}
+use Rattle.dap_messages.specs.Requests.{block_requests}
 use Rattle.packet_words.proofs.accesses.add_block.Given as goal
 
 abbrev pub invariant-loop-index : goal.invariant-loop-index

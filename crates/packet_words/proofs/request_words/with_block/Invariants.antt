@@ -1,5 +1,6 @@
 use Rattle.std.proofs.Common.{◌≡◌, ◌++◌, drop}
-use Rattle.packet_words.specs.Requests.{block_requests, request_lines, after_requests}
+use Rattle.packet_words.specs.Requests.{request_lines, after_requests}
+use Rattle.dap_messages.specs.Requests.{block_requests}
 use Rattle.packet_words.proofs.request_words.with_block.Given as goal
 
 abbrev pub invariant-loop-index : goal.invariant-loop-index

@@ -1,6 +1,6 @@
 use Rattle.std.proofs.Common.{◌≡◌, take}
-use Rattle.run_coverage.specs.Reach.{names_with_more}
+use Rattle.expr_grammar.specs.Names.{with_names}
 use Rattle.run_coverage.proofs.reach.add_names.Given as goal
 
 abbrev pub invariant-loop-name : goal.invariant-loop-name
-invariant-loop-name l = l.names ≡ names_with_more l.fn.names (take l.name-index l.more)
+invariant-loop-name l = l.names ≡ with_names l.fn.names (take l.name-index l.more)

@@ -1,5 +1,5 @@
 use Rattle.std.proofs.lemmas.Result.{on_ok_weaker}
-use Rattle.code_check.specs.Names.{has_name}
+use Rattle.expr_grammar.specs.Names.{has_name}
 use Rattle.set_faults.proofs.AddLemmas.{adds_two, adds_if, adds_test}
 use Rattle.set_faults.proofs.blocks.add_statement.Goals as goal
 

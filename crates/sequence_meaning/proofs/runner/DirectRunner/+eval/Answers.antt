@@ -1,6 +1,6 @@
 use Rattle.std.proofs.Common.{◌≡◌, ℕ, List, false, Ok, subst, ◌<◌, ◌≤◌, ◌+◌, ◌*◌, ap, ◌∙◌, nat_eq, unwrap_or, rules, refl, arith}
 use Rattle.std.proofs.lemmas.Grind.{common_steps}
-use Rattle.expr_grammar.specs.Tree.{tree, arg_tree, arg_trees, stmt_tree, code_trees}
+use Rattle.expr_grammar.specs.Tree.{tree, arg_tree, arg_trees, stmt_tree, code_trees, one_number, two_numbers}
 use Rattle.seq_check.specs.Answers.{checked_trees}
 use Rattle.sequence_trees.specs.Trees.{NoSteps, step_tree, steps_tree, steps_named}
 use Rattle.sequence_rules.specs.Direct.{direct}
@@ -10,7 +10,6 @@ use Rattle.sequence_rules.specs.Steps.{statement}
 use Rattle.sequence_rules.specs.Values as v
 use Rattle.sequence_rules.specs.Variables.{set_visible}
 use Rattle.sequence_meaning.specs.Frame.{RunsDirect}
-use Rattle.sequence_meaning.specs.Few.{one_number, two_numbers}
 use Rattle.sequence_meaning.specs.Parts.{call_meaning, inside_meaning, value_meaning}
 use Rattle.sequence_meaning.proofs.Loops.{args_on, assigned_on, plain_on, turn_on, turn_over, declared_on, inside_on, entered_on, entered_fail, sequence_on, turns_on, turns_over, turns_fail}
 use Rattle.sequence_rules.proofs.Sizes.{arg_size, args_size, stmt_size, block_size, step_size, steps_size, all_size, arg_within, stmt_within, step_within, named_within, less_budget}
